@@ -1,0 +1,10 @@
+pub mod Tests
+pub mod Membership
+pub mod Order
+pub mod Counts
+pub mod Held
+pub mod FewDigits
+pub mod Sets
+mod Places
+mod Methods
+mod Lends

@@ -1,0 +1,111 @@
+-- Laws of the candidate set: equal sets have equal masks, and iteration gives the digits of the set, rising. Assumes nothing.
+use mathlib.Core.Path.{_≡_, refl, sym, ap, _∙_}
+use mathlib.Core.Bool.{Bool, true, false, cond}
+use mathlib.Core.List.{List, [], _∷_}
+use mathlib.Core.Option.{Option, none, some}
+use Prim.Native.Nat.{ℕ, zero, suc, _+_, _-_, _*_, _^_, _%_, _≤_, _<_, min}
+use native.Mathlib.Nat.{mod-lt}
+use native.Mathlib.Decide.{decLt}
+use native.Mathlib.Numerals.{add-one}
+use native.Mathlib.Omega.{arith}
+use borrow.Author.Tests.{lt-ltb, le-ltb, eqb-true, eqb-false, eq-eqb, ne-eqb}
+use lib.Dec.{eqb, ltb, lit<}
+use lib.IntN.{ℤ, pos}
+use Rattle.candidates.specs.Answer.{Answer, gives, stop}
+use Rattle.candidates.specs.Masks.{bit, has, nine, firstPlace}
+use Rattle.candidates.specs.Sets.{containsOf, nextAt, nextOf, after, digitsFrom, drained}
+use Rattle.candidates.proofs.Membership.{bit-high, ext}
+use Rattle.candidates.proofs.Counts.{first-hit, first-miss, first-end, first-ge}
+use Rattle.candidates.proofs.Tests.{cond-true, cond-false}
+
+-- ---- "Equal sets have equal masks"
+
+has-same : (x y d : ℕ) → has x d ≡ has y d → bit x d ≡ bit y d
+has-same x y d e = go (bit x d) refl
+  where
+    go : (b : ℕ) → bit x d ≡ b → bit x d ≡ bit y d
+    go zero h =
+        let n : bit y d ≡ 1 → ⊥ = eqb-false (bit y d) 1 (sym e ∙ ne-eqb (bit x d) 1 (omega arith)) in
+        omega arith
+    go (suc zero) h = h ∙ sym (eqb-true (bit y d) 1 (sym e ∙ eq-eqb (bit x d) 1 h))
+    go (suc (suc b)) h = absurd (omega (arith, h))
+
+gives-same : (a b : Bool) → _≡_ {A = Answer Bool} (gives a) (gives b) → a ≡ b
+gives-same a b e = cc
+
+contains-at : (x d : ℕ) → d < 9 → containsOf x (pos (suc d)) ≡ gives (has (nine x) d)
+contains-at x d k =
+    let e : min d 9 ≡ d = omega arith in
+    ap (λ (q : ℕ). cond (ltb q 9) (gives (has (nine x) q)) (stop 4 (pos (suc d)))) e
+    ∙ cond-true (ltb d 9) (gives (has (nine x) d)) (stop 4 (pos (suc d))) (lt-ltb d 9 k)
+
+pub equal-sets : (x y : ℕ) → ((z : ℤ) → containsOf x z ≡ containsOf y z) → nine x ≡ nine y
+equal-sets x y h = ext (nine x) (nine y) (λ d. go d (decLt d 9))
+  where
+    go : (d : ℕ) → Dec (d < 9) → bit (nine x) d ≡ bit (nine y) d
+    go d (yes k) =
+        has-same (nine x) (nine y) d
+        (gives-same (has (nine x) d) (has (nine y) d) (sym (contains-at x d k) ∙ h (pos (suc d)) ∙ contains-at y d k))
+    go d (no k) =
+        bit-high (nine x) 9 d (mod-lt x (lit< tt)) (omega arith) ∙ sym (bit-high (nine y) 9 d (mod-lt y (lit< tt)) (omega arith))
+
+-- ---- iteration
+
+-- the digits at place p and above
+abbrev left : ℕ → ℕ → List ℤ
+left m p = digitsFrom (9 - p) p m
+
+left-end : (m p : ℕ) → 9 ≤ p → left m p ≡ []
+unfolding digitsFrom
+left-end m p h =
+    let e : 9 - p ≡ 0 = omega arith in
+    ap (λ (n : ℕ). digitsFrom n p m) e
+
+left-on : (m p : ℕ) → p < 9 → left m p ≡ cond (has m p) (pos (p + 1) ∷ left m (p + 1)) (left m (p + 1))
+unfolding digitsFrom
+left-on m p h =
+    let e : 9 - p ≡ suc (9 - (p + 1)) = omega arith in
+    ap (λ (n : ℕ). digitsFrom n p m) e
+    ∙ ap (λ (q : ℕ). cond (has m p) (pos (p + 1) ∷ digitsFrom (9 - (p + 1)) q m) (digitsFrom (9 - (p + 1)) q m)) (sym (add-one p))
+
+next-end : (m q : ℕ) → 9 ≤ q → nextAt m q ≡ none
+next-end m q h = cond-false (ltb q 9) (some (pos (q + 1), m, q + 1)) none (le-ltb q 9 h)
+
+next-at : (m q : ℕ) → q < 9 → nextAt m q ≡ some (pos (q + 1), m, q + 1)
+next-at m q h = cond-true (ltb q 9) (some (pos (q + 1), m, q + 1)) none (lt-ltb q 9 h)
+
+-- one call of `next` takes the first of the digits that are left
+next-first : (k m p : ℕ) → 9 - p ≤ k → after left (nextOf m p) ≡ left m p
+next-first zero m p b =
+    let e : 9 ≤ p = omega arith in
+    ap (after left) (ap (nextAt m) (first-end m p e) ∙ next-end m p e) ∙ sym (left-end m p e)
+next-first (suc k) m p b = go (decLt p 9) (has m p) refl (λ h. next-first k m (p + 1) h)
+  where
+    go : Dec (p < 9) → (t : Bool) → has m p ≡ t → (9 - (p + 1) ≤ k → after left (nextOf m (p + 1)) ≡ left m (p + 1)) → after left (nextOf m p) ≡ left m p
+    go (yes h) true t ih =
+        ap (after left) (ap (nextAt m) (first-hit m p h t) ∙ next-at m p h)
+        ∙ sym (left-on m p h ∙ cond-true (has m p) (pos (p + 1) ∷ left m (p + 1)) (left m (p + 1)) t)
+    go (yes h) false t ih =
+        ap (after left) (ap (nextAt m) (first-miss m p h t)) ∙ ih (omega arith)
+        ∙ sym (left-on m p h ∙ cond-false (has m p) (pos (p + 1) ∷ left m (p + 1)) (left m (p + 1)) t)
+    go (no h) t e ih =
+        let k : 9 ≤ p = omega arith in
+        ap (after left) (ap (nextAt m) (first-end m p k) ∙ next-end m p k) ∙ sym (left-end m p k)
+
+drained-left : (n m p : ℕ) → 9 - p < n → drained n m p ≡ left m p
+unfolding drained
+drained-left zero m p h = absurd (omega arith)
+drained-left (suc n) m p h = go (decLt q 9) (λ k. drained-left n m (q + 1) k) ∙ next-first 9 m p (omega arith)
+  where
+    q : ℕ
+    q = firstPlace (9 - p) p m
+
+    go : Dec (q < 9) → (9 - (q + 1) < n → drained n m (q + 1) ≡ left m (q + 1)) → after (drained n) (nextAt m q) ≡ after left (nextAt m q)
+    go (yes k) ih =
+        ap (after (drained n)) (next-at m q k) ∙ ap (λ (l : List ℤ). pos (q + 1) ∷ l) (ih (omega (arith, first-ge (9 - p) p m)))
+        ∙ sym (ap (after left) (next-at m q k))
+    go (no k) ih = ap (after (drained n)) (next-end m q (omega arith)) ∙ sym (ap (after left) (next-end m q (omega arith)))
+
+-- calling `next` until it is done gives the digits of the set, rising
+pub iterated : (m : ℕ) → drained 10 m 0 ≡ digitsFrom 9 0 m
+iterated m = drained-left 10 m 0 (omega arith)

@@ -1,0 +1,49 @@
+-- The first place found is the next digit, unless it is past the ninth.
+use mathlib.Core.Path.{_≡_, sym, ap, _∙_}
+use mathlib.Core.Option.{Option, none, some}
+use Prim.Native.Nat.{ℕ, _+_, min}
+use native.Mathlib.Omega.{arith}
+use borrow.Author.Needs.{needs}
+use borrow.Author.Tests.{lt-ltb, le-ltb}
+use lib.Dec.{ltb}
+use lib.IntN.{ℤ, pos}
+use mir.Facts.{toZ-ofZ}
+use Rattle.candidates.specs.Sets.{nextAt}
+use Rattle.candidates.proofs.Tests.{cond-true, cond-false}
+use Rattle.candidates.proofs.SudokuCandidateIter.next.Statement.{statement}
+use Rattle.candidates.proofs.SudokuCandidateIter.next.Tie as tie
+
+cast-from : tie.Need-cast-from
+cast-from c = search needs
+
+first-digit-requires : tie.Need-first-digit-requires
+first-digit-requires c κs = search needs
+
+returns : tie.Need-returns
+returns c =
+    let p = c .before .first-digit .result in
+    let m = c .before .before .before .args .self .mask in
+    sym (cond-false (ltb p 9) (some (pos (p + 1), m, p + 1)) none (le-ltb p 9 (c .if1 .taken))) ∙ ap (nextAt m) (c .before .first-digit .ensures)
+
+digit-at-requires : tie.Need-digit-at-requires
+digit-at-requires c κs = search needs
+
+add-t6 : tie.Need-add-t6
+add-t6 c = search needs
+
+cast-t7 : tie.Need-cast-t7
+cast-t7 c = search needs
+
+returns-2 : tie.Need-returns-2
+returns-2 c =
+    let p = c .before .before .first-digit .result in
+    let m = c .before .before .before .before .args .self .mask in
+    let here : min p 16 + 1 ≡ p + 1 = omega arith in
+    ap (λ (z : ℤ). some (z, m, p + 1)) (toZ-ofZ (record { sfits = c .digit-at .ok }) ∙ c .digit-at .ensures ∙ ap pos here)
+    ∙ sym (cond-true (ltb p 9) (some (pos (p + 1), m, p + 1)) none (lt-ltb p 9 (c .before .if1 .left)))
+    ∙ ap (nextAt m) (c .before .before .first-digit .ensures)
+
+pub next-spec : {M : Type 1} → statement M
+next-spec =
+    tie.close
+    (tie.spec cast-from first-digit-requires returns digit-at-requires add-t6 cast-t7 returns-2)

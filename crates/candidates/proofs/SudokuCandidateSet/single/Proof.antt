@@ -1,0 +1,30 @@
+-- The place found says whether the digit is one; then its mask is the set.
+use mathlib.Core.Path.{_≡_, ap, _∙_}
+use borrow.Author.Needs.{needs}
+use Rattle.candidates.specs.Answer.{gives, stop}
+use Rattle.candidates.specs.Masks.{single}
+use Rattle.candidates.proofs.Places.{accepted, at-place, stops}
+use Rattle.candidates.proofs.SudokuCandidateSet.single.Statement.{statement}
+use Rattle.candidates.proofs.SudokuCandidateSet.single.Tie as tie
+
+place-of-requires : tie.Need-place-of-requires
+place-of-requires c κs = search needs
+
+returns : tie.Need-returns
+returns c =
+    let s = c .before .before in
+    stops (s .args .digit) (c .before .place-of .result) _ (s .fits .digit) (c .before .place-of .ensures) (c .if1 .taken)
+
+digit-mask-requires : tie.Need-digit-mask-requires
+digit-mask-requires c κs = search needs
+
+returns-2 : tie.Need-returns-2
+returns-2 c =
+    let s = c .before .before .before in
+    let a = c .before .before in
+    ap gives (c .digit-mask .ensures ∙ at-place single (s .args .digit) (a .place-of .result) (s .fits .digit) (a .place-of .ensures))
+    ∙ accepted (s .args .digit) (a .place-of .result) _ (stop 4 (s .args .digit)) (s .fits .digit) (a .place-of .ensures)
+    (c .before .if1 .left)
+
+pub single-spec : {M : Type 1} → statement M
+single-spec = tie.close (tie.spec place-of-requires returns digit-mask-requires returns-2)

@@ -1,0 +1,23 @@
+-- The place found says whether the digit is one.
+use borrow.Author.Needs.{needs}
+use Rattle.candidates.specs.Answer.{gives, stop}
+use Rattle.candidates.proofs.Places.{accepted, stops}
+use Rattle.candidates.proofs.digits.insertion.Statement.{statement}
+use Rattle.candidates.proofs.digits.insertion.Tie as tie
+
+place-of-requires : tie.Need-place-of-requires
+place-of-requires c κs = search needs
+
+returns : tie.Need-returns
+returns c =
+    let s = c .before .before in
+    stops (s .args .digit) (c .before .place-of .result) tt (s .fits .digit) (c .before .place-of .ensures) (c .if1 .taken)
+
+returns-2 : tie.Need-returns-2
+returns-2 c =
+    let s = c .before .before in
+    accepted (s .args .digit) (c .before .place-of .result) (gives tt) (stop 4 (s .args .digit)) (s .fits .digit)
+    (c .before .place-of .ensures) (c .if1 .left)
+
+pub insertion-spec : {M : Type 1} → statement M
+insertion-spec = tie.close (tie.spec place-of-requires returns returns-2)

@@ -1,0 +1,51 @@
+-- As many turns as masks. Assumes nothing.
+use Prim.Native.Nat.{_-_}
+use native.Mathlib.Omega.{arith}
+use borrow.Author.Needs.{needs}
+use Rattle.candidates_sweep.proofs.checksum.Statement.{statement}
+use Rattle.candidates_sweep.proofs.checksum.Tie as tie
+
+abbrev Inv-loop : tie.InvT-loop
+Inv-loop call sum₀ mask₀ sum mask = Unit {0}
+
+abbrev μ-loop : tie.MeasureT-loop
+μ-loop call sum₀ mask₀ sum mask = 65536 - mask
+
+loop-holds : tie.Need-loop-holds Inv-loop μ-loop
+loop-holds c = tt
+
+cast-answer : tie.Need-cast-answer Inv-loop μ-loop
+cast-answer c = omega arith
+
+answer-requires : tie.Need-answer-requires Inv-loop μ-loop
+answer-requires c κs = search needs
+
+fold-requires : tie.Need-fold-requires Inv-loop μ-loop
+fold-requires c κs = search needs
+
+add-mask : tie.Need-add-mask Inv-loop μ-loop
+add-mask c = omega arith
+
+loop-less : tie.Need-loop-less Inv-loop μ-loop
+loop-less c = omega arith
+
+loop-again : tie.Need-loop-again Inv-loop μ-loop
+loop-again c = tt
+
+returns : tie.Need-returns Inv-loop μ-loop
+returns c = tt
+
+pub checksum-spec : {M : Type 1} → statement M
+checksum-spec =
+    tie.close
+    (tie.spec
+    Inv-loop
+    μ-loop
+    loop-holds
+    cast-answer
+    answer-requires
+    fold-requires
+    add-mask
+    loop-less
+    loop-again
+    returns)

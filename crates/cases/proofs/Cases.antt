@@ -1,0 +1,22 @@
+-- The published cases hold of the definitions. Assumes nothing.
+use Rattle.cases.specs.Cases.{Cases}
+use Rattle.cases.proofs.P1.{p1-holds}
+use Rattle.cases.proofs.P4to6.{p4-holds, p5-holds, p6-holds}
+use Rattle.cases.proofs.P7.{p7-holds}
+use Rattle.cases.proofs.P8.{p8-holds, p9-holds}
+use Rattle.cases.proofs.P10.{p10-holds}
+use Rattle.cases.proofs.P11.{p11-holds}
+
+pub cases : Cases
+cases =
+    record {
+      one = p1-holds;
+      four = p4-holds;
+      five = p5-holds;
+      six = p6-holds;
+      seven = p7-holds;
+      eight = p8-holds;
+      nine = p9-holds;
+      ten = p10-holds;
+      eleven = p11-holds;
+    }

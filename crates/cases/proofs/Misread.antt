@@ -1,0 +1,173 @@
+-- Why two readings of the wide passes are wrong: Place over open cells alone costs a filling, and Pair from two open cells alone stops before the settled board. Assumes nothing.
+use mathlib.Core.Path.{_≡_, refl}
+use mathlib.Core.Logic.{_≢_}
+use mathlib.Core.Bool.{true, false, cond, not, false≢true}
+use mathlib.Core.List.{List, [], _∷_}
+use Prim.Native.Nat.{ℕ, zero, suc, _<_}
+use native.Mathlib.Omega.{arith}
+use borrow.Author.Tests.{not-true}
+use lib.Count.{onesIn, ones}
+use lib.Dec.{eqb, lit<}
+use lib.IntN.{ℤ, pos}
+use lib.ListN.{length, getD}
+use Rattle.candidates.specs.Masks.{gather}
+use Rattle.candidates.proofs.Tests.{below, T-true}
+use Rattle.candidates.proofs.Order.{sub-le}
+use Rattle.grid.specs.Cells.{cells, peers}
+use Rattle.grid.specs.Fillings.{numberAt, verified}
+use Rattle.grid.specs.Lists.{each, select}
+use Rattle.grid.specs.Units.{units, unit, unitCell}
+use Rattle.steps.specs.Boards.{at, givensOf, isOpen, fresh, taken, total}
+use Rattle.steps.specs.Calls.{wide, badClue, opened, run}
+use Rattle.steps.specs.Demand3.{Clues}
+use Rattle.steps.specs.Fillings.{KeepsClues, InMasks}
+use Rattle.steps.specs.Instances.{only, except, stepOf, lones, places, pointings}
+use Rattle.steps.specs.Loops.{for, upTo}
+use Rattle.steps.specs.Passes.{Lone, Place, Pointing, Cross, instances, instanceTaken, pass, settle}
+use Rattle.steps.specs.Ported.{spots, nakedPairAt, nakedPairs}
+use Rattle.steps.specs.Steps.{Step, take}
+use Rattle.steps.proofs.Lists.{demand3}
+use Rattle.cases.specs.Cases.{freshMasks}
+use Rattle.cases.specs.Grids.{gridOf, gridA, p5}
+use Rattle.cases.proofs.Conflict.{withFive, settled-below}
+use Rattle.cases.proofs.Idle.{cross-idle}
+use Rattle.cases.proofs.Laws.{Values}
+use Rattle.cases.proofs.P4to6.{p6-holds}
+
+-- ---- "Counting open cells alone in Place: a clue d leaves no open holder, and a cell loses its true digit."
+
+-- Place as it would read open cells alone
+abbrev pub openPlaceStep : List ℕ → ℕ → ℕ → ℕ → Step
+openPlaceStep g u d c =
+    record { reads = select (isOpen g) (unit u); bars = λ e. cond (eqb e c) 0 (only d); hits = c ∷ []; loses = λ _. except (only d) }
+
+unfoldable pub openPlaces : List ℕ → List ℕ → List ℕ
+openPlaces g m = each (λ u. each (λ d. each (λ i. take (isOpen g) (openPlaceStep g u d (unitCell u i))) (upTo 9)) (upTo 9)) (upTo 27) m
+
+-- a correct filling that keeps the clues: it is in the masks after Place, and not in those after the pass f
+pub record Costs (f : List ℕ → List ℕ → List ℕ) (clues filling : List ℤ) : Type 0 where
+  pub correct : verified filling ≡ true
+  pub keeps : KeepsClues clues filling
+  pub after : InMasks (run (wide Place ∷ []) (opened clues) .masks) filling
+  pub lost : InMasks (f (givensOf clues) (freshMasks clues)) filling → ⊥
+
+p5-clues : Clues p5
+unfolding p5 gridA gridOf for
+p5-clues = record { size = refl; good = good }
+  where
+    good : (c : ℕ) → c < 81 → badClue (getD p5 c (pos 0)) ≡ false
+    good c h = not-true (badClue (getD p5 c (pos 0))) (T-true _ (below 81 (λ c. not (badClue (getD p5 c (pos 0)))) tt c h))
+
+p5-kept : KeepsClues p5 gridA
+unfolding p5 gridA gridOf for
+p5-kept = record { kept = kept }
+  where
+    kept : (c : ℕ) → c < 81 → getD p5 c (pos 0) ≢ pos 0 → numberAt gridA c ≡ getD p5 c (pos 0)
+    kept zero h k = absurd (k refl)
+    kept (suc c) h k = refl
+
+size : length gridA ≡ 81
+unfolding gridA gridOf for
+size = refl
+
+p5-lost : InMasks (openPlaces (givensOf p5) (freshMasks p5)) gridA → ⊥
+unfolding openPlaces p5 gridA gridOf for givensOf fresh taken each take cells peers unit units
+p5-lost h = false≢true (h .held 0 (lit< tt))
+
+-- In P5 the misread pass empties cell 0: no other open cell of row 0 holds 2, the clue of cell 1.
+pub place-over-open-cells : Costs openPlaces p5 gridA
+place-over-open-cells =
+    record {
+      correct = p6-holds .right;
+      keeps = p5-kept;
+      after = demand3 .lists p5 p5-clues (wide Place ∷ []) [] refl refl .fillings gridA size (p6-holds .right) .1 p5-kept;
+      lost = p5-lost;
+    }
+
+-- ---- "Giving Pair only two open cells with equal masks": that is the ported naked pairs.
+
+unfoldable pub openSweep : List ℕ → List ℕ → List ℕ
+openSweep g m = pass g Cross (pass g Pointing (nakedPairs g (pass g Place (pass g Lone m))))
+
+-- P11 and one more clue 5 in each other row, so that every unit has its 5. (On P11 alone Pointing and Place empty row 0 too, one sweep later.)
+unfoldable pub fives : List ℤ
+fives =
+    gridOf
+    (550000000 ∷ 000500000 ∷ 000000500 ∷ 005000000 ∷ 000050000 ∷ 000000050 ∷ 500000000 ∷ 000005000 ∷ 000000005 ∷ [])
+
+-- the misread sweep would stop at once, with every candidate of cell 2 but 5; settling empties the cell
+pub record StopsShort : Type 0 where
+  pub still : openSweep (givensOf fives) (freshMasks fives) ≡ freshMasks fives
+  pub held : at (freshMasks fives) 2 ≡ 495
+  pub emptied : at (settle (givensOf fives) (freshMasks fives) .left) 2 ≡ 0
+
+g : List ℕ
+g =
+    5 ∷ 5 ∷ 0 ∷ 0 ∷ 0 ∷ 0 ∷ 0 ∷ 0 ∷ 0 ∷
+    0 ∷ 0 ∷ 0 ∷ 5 ∷ 0 ∷ 0 ∷ 0 ∷ 0 ∷ 0 ∷
+    0 ∷ 0 ∷ 0 ∷ 0 ∷ 0 ∷ 0 ∷ 5 ∷ 0 ∷ 0 ∷
+    0 ∷ 0 ∷ 5 ∷ 0 ∷ 0 ∷ 0 ∷ 0 ∷ 0 ∷ 0 ∷
+    0 ∷ 0 ∷ 0 ∷ 0 ∷ 5 ∷ 0 ∷ 0 ∷ 0 ∷ 0 ∷
+    0 ∷ 0 ∷ 0 ∷ 0 ∷ 0 ∷ 0 ∷ 0 ∷ 5 ∷ 0 ∷
+    5 ∷ 0 ∷ 0 ∷ 0 ∷ 0 ∷ 0 ∷ 0 ∷ 0 ∷ 0 ∷
+    0 ∷ 0 ∷ 0 ∷ 0 ∷ 0 ∷ 5 ∷ 0 ∷ 0 ∷ 0 ∷
+    0 ∷ 0 ∷ 0 ∷ 0 ∷ 0 ∷ 0 ∷ 0 ∷ 0 ∷ 5 ∷ []
+
+m : List ℕ
+m =
+    16 ∷ 16 ∷ 495 ∷ 495 ∷ 495 ∷ 495 ∷ 495 ∷ 495 ∷ 495 ∷
+    495 ∷ 495 ∷ 495 ∷ 16 ∷ 495 ∷ 495 ∷ 495 ∷ 495 ∷ 495 ∷
+    495 ∷ 495 ∷ 495 ∷ 495 ∷ 495 ∷ 495 ∷ 16 ∷ 495 ∷ 495 ∷
+    495 ∷ 495 ∷ 16 ∷ 495 ∷ 495 ∷ 495 ∷ 495 ∷ 495 ∷ 495 ∷
+    495 ∷ 495 ∷ 495 ∷ 495 ∷ 16 ∷ 495 ∷ 495 ∷ 495 ∷ 495 ∷
+    495 ∷ 495 ∷ 495 ∷ 495 ∷ 495 ∷ 495 ∷ 495 ∷ 16 ∷ 495 ∷
+    16 ∷ 495 ∷ 495 ∷ 495 ∷ 495 ∷ 495 ∷ 495 ∷ 495 ∷ 495 ∷
+    495 ∷ 495 ∷ 495 ∷ 495 ∷ 495 ∷ 16 ∷ 495 ∷ 495 ∷ 495 ∷
+    495 ∷ 495 ∷ 495 ∷ 495 ∷ 495 ∷ 495 ∷ 495 ∷ 495 ∷ 16 ∷ []
+
+values : Values fives g m
+unfolding fives gridOf for givensOf g m fresh taken each cells peers
+values = record { givens = refl; masks = refl }
+
+lone : pass g Lone m ≡ m
+unfolding g m pass instances lones each take stepOf for peers cells
+lone = refl
+
+place-pass : pass g Place m ≡ m
+unfolding g m pass instances places each take stepOf for unit units
+place-pass = refl
+
+naked-pairs : nakedPairs g m ≡ m
+unfolding g m nakedPairs nakedPairAt ones each unit units
+naked-pairs = refl
+
+pointing : pass g Pointing m ≡ m
+unfolding g m pass instances pointings each take stepOf for unit units
+pointing = refl
+
+cross : pass g Cross m ≡ m
+unfolding g m spots gather onesIn unit units
+cross = cross-idle g m tt
+
+sweep-still : openSweep g m ≡ m
+unfolding openSweep
+sweep-still = rw (lone, place-pass, naked-pairs, pointing, cross)
+
+few : total m < 730
+unfolding total ones m
+few = lit< tt
+
+pair-emptied : at (each (instanceTaken g) withFive m) 2 ≡ 0
+unfolding g m withFive each take stepOf unit units
+pair-emptied = refl
+
+settled-empty : at (settle g m .left) 2 ≡ 0
+settled-empty = omega (arith, sub-le (settled-below g m few .at 2), pair-emptied)
+
+held-still : at m 2 ≡ 495
+unfolding m
+held-still = refl
+
+pub pair-over-open-cells : StopsShort
+pair-over-open-cells =
+    record { still = rw (values .givens, values .masks) sweep-still; held = rw (values .givens, values .masks) held-still; emptied = rw (values .givens, values .masks) settled-empty }

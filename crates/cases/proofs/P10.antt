@@ -1,0 +1,155 @@
+-- P10, box-line and settling in two sweeps. Assumes nothing.
+use mathlib.Core.Path.{_≡_, refl, sym, ap, _∙_}
+use mathlib.Core.Bool.{false, not}
+use mathlib.Core.List.{List, [], _∷_}
+use Prim.Native.Nat.{ℕ}
+use lib.Count.{onesIn, ones}
+use Rattle.candidates.specs.Masks.{firstPlace, gather}
+use Rattle.grid.specs.Cells.{cells, peers}
+use Rattle.grid.specs.Lists.{each}
+use Rattle.grid.specs.Units.{units, unit}
+use Rattle.steps.specs.Boards.{givensOf, fresh, taken, total, sameMasks}
+use Rattle.steps.specs.Calls.{Outcome, boxLineCall, advancedCall, settling, outcome}
+use Rattle.steps.specs.Instances.{stepOf, lones, places, pointings}
+use Rattle.steps.specs.Loops.{for}
+use Rattle.steps.specs.Passes.{Lone, Place, Pair, Pointing, Cross, instances, pass, sweep, Sweeps, settle, removedBy}
+use Rattle.steps.specs.Ported.{spots, boxLineAt, boxLines}
+use Rattle.steps.specs.Singles.{nakedSingles, hiddenSingles}
+use Rattle.steps.specs.Steps.{take}
+use Rattle.steps.proofs.Masks.{same-refl}
+use Rattle.cases.specs.Cases.{Case10, freshMasks, onFresh}
+use Rattle.cases.specs.Grids.{gridOf, p10}
+use Rattle.cases.proofs.Idle.{pair-idle, cross-idle}
+use Rattle.cases.proofs.Laws.{Values, fresh-value, call-value, sweep-by, next-sweep, last-sweep}
+
+g : List ℕ
+g =
+    0 ∷ 0 ∷ 0 ∷ 0 ∷ 0 ∷ 0 ∷ 0 ∷ 0 ∷ 0 ∷
+    4 ∷ 5 ∷ 6 ∷ 0 ∷ 0 ∷ 0 ∷ 0 ∷ 0 ∷ 0 ∷
+    7 ∷ 8 ∷ 9 ∷ 0 ∷ 0 ∷ 0 ∷ 0 ∷ 0 ∷ 0 ∷
+    0 ∷ 0 ∷ 0 ∷ 0 ∷ 0 ∷ 0 ∷ 0 ∷ 0 ∷ 0 ∷
+    0 ∷ 0 ∷ 0 ∷ 0 ∷ 0 ∷ 0 ∷ 0 ∷ 0 ∷ 0 ∷
+    0 ∷ 0 ∷ 0 ∷ 0 ∷ 0 ∷ 0 ∷ 0 ∷ 0 ∷ 0 ∷
+    0 ∷ 0 ∷ 0 ∷ 0 ∷ 0 ∷ 0 ∷ 0 ∷ 0 ∷ 0 ∷
+    0 ∷ 0 ∷ 0 ∷ 0 ∷ 0 ∷ 0 ∷ 0 ∷ 0 ∷ 0 ∷
+    0 ∷ 0 ∷ 0 ∷ 0 ∷ 0 ∷ 0 ∷ 0 ∷ 0 ∷ 0 ∷ []
+
+m : List ℕ
+m =
+    7 ∷ 7 ∷ 7 ∷ 511 ∷ 511 ∷ 511 ∷ 511 ∷ 511 ∷ 511 ∷
+    8 ∷ 16 ∷ 32 ∷ 455 ∷ 455 ∷ 455 ∷ 455 ∷ 455 ∷ 455 ∷
+    64 ∷ 128 ∷ 256 ∷ 63 ∷ 63 ∷ 63 ∷ 63 ∷ 63 ∷ 63 ∷
+    439 ∷ 367 ∷ 223 ∷ 511 ∷ 511 ∷ 511 ∷ 511 ∷ 511 ∷ 511 ∷
+    439 ∷ 367 ∷ 223 ∷ 511 ∷ 511 ∷ 511 ∷ 511 ∷ 511 ∷ 511 ∷
+    439 ∷ 367 ∷ 223 ∷ 511 ∷ 511 ∷ 511 ∷ 511 ∷ 511 ∷ 511 ∷
+    439 ∷ 367 ∷ 223 ∷ 511 ∷ 511 ∷ 511 ∷ 511 ∷ 511 ∷ 511 ∷
+    439 ∷ 367 ∷ 223 ∷ 511 ∷ 511 ∷ 511 ∷ 511 ∷ 511 ∷ 511 ∷
+    439 ∷ 367 ∷ 223 ∷ 511 ∷ 511 ∷ 511 ∷ 511 ∷ 511 ∷ 511 ∷ []
+
+-- row 0 outside the first box has lost 1, 2 and 3
+n : List ℕ
+n =
+    7 ∷ 7 ∷ 7 ∷ 504 ∷ 504 ∷ 504 ∷ 504 ∷ 504 ∷ 504 ∷
+    8 ∷ 16 ∷ 32 ∷ 455 ∷ 455 ∷ 455 ∷ 455 ∷ 455 ∷ 455 ∷
+    64 ∷ 128 ∷ 256 ∷ 63 ∷ 63 ∷ 63 ∷ 63 ∷ 63 ∷ 63 ∷
+    439 ∷ 367 ∷ 223 ∷ 511 ∷ 511 ∷ 511 ∷ 511 ∷ 511 ∷ 511 ∷
+    439 ∷ 367 ∷ 223 ∷ 511 ∷ 511 ∷ 511 ∷ 511 ∷ 511 ∷ 511 ∷
+    439 ∷ 367 ∷ 223 ∷ 511 ∷ 511 ∷ 511 ∷ 511 ∷ 511 ∷ 511 ∷
+    439 ∷ 367 ∷ 223 ∷ 511 ∷ 511 ∷ 511 ∷ 511 ∷ 511 ∷ 511 ∷
+    439 ∷ 367 ∷ 223 ∷ 511 ∷ 511 ∷ 511 ∷ 511 ∷ 511 ∷ 511 ∷
+    439 ∷ 367 ∷ 223 ∷ 511 ∷ 511 ∷ 511 ∷ 511 ∷ 511 ∷ 511 ∷ []
+
+values : Values p10 g m
+unfolding p10 gridOf for givensOf g m fresh taken each cells peers
+values = record { givens = refl; masks = refl }
+
+eighteen : removedBy m n ≡ 18
+unfolding total ones m n
+eighteen = refl
+
+differ : sameMasks m n ≡ false
+unfolding m n
+differ = refl
+
+-- ---- box-line
+
+box-lines : boxLines g m ≡ n
+unfolding g m n boxLines boxLineAt spots gather ones each unit units
+box-lines = refl
+
+box-lines-again : boxLines g n ≡ n
+unfolding g n boxLines boxLineAt spots gather ones each unit units
+box-lines-again = refl
+
+first-run : onFresh boxLineCall p10 .masks ≡ n
+unfolding outcome
+first-run = ap (λ (o : Outcome). o .masks) (call-value values boxLineCall) ∙ box-lines
+
+second-run : outcome boxLineCall (givensOf p10) (onFresh boxLineCall p10 .masks) ≡ outcome boxLineCall g n
+second-run =
+    ap (λ (l : List ℕ). outcome boxLineCall l (onFresh boxLineCall p10 .masks)) (values .givens)
+    ∙ ap (outcome boxLineCall g) first-run
+
+none-reported : outcome advancedCall g m .reports ≡ []
+unfolding g m outcome nakedSingles hiddenSingles spots gather firstPlace ones each for cells unit units
+none-reported = refl
+
+-- ---- the two sweeps
+
+lone₁ : pass g Lone m ≡ m
+unfolding g m pass instances lones each take stepOf for peers cells
+lone₁ = refl
+
+place₁ : pass g Place m ≡ m
+unfolding g m pass instances places each take stepOf for unit units
+place₁ = refl
+
+pair₁ : pass g Pair m ≡ m
+unfolding g m onesIn unit units
+pair₁ = pair-idle g m tt
+
+pointing₁ : pass g Pointing m ≡ n
+unfolding g m n pass instances pointings each take stepOf for unit units
+pointing₁ = refl
+
+lone₂ : pass g Lone n ≡ n
+unfolding g n pass instances lones each take stepOf for peers cells
+lone₂ = refl
+
+place₂ : pass g Place n ≡ n
+unfolding g n pass instances places each take stepOf for unit units
+place₂ = refl
+
+pair₂ : pass g Pair n ≡ n
+unfolding g n onesIn unit units
+pair₂ = pair-idle g n tt
+
+pointing₂ : pass g Pointing n ≡ n
+unfolding g n pass instances pointings each take stepOf for unit units
+pointing₂ = refl
+
+cross : pass g Cross n ≡ n
+unfolding g n spots gather onesIn unit units
+cross = cross-idle g n tt
+
+sweep₁ : sweep g m ≡ n
+sweep₁ = sweep-by g m lone₁ place₁ pair₁ pointing₁ cross
+
+sweep₂ : sweep g n ≡ n
+sweep₂ = sweep-by g n lone₂ place₂ pair₂ pointing₂ cross
+
+settles : settle g m ≡ record { sweeps = 2; left = n }
+settles = next-sweep g 729 m sweep₁ differ ∙ rw (last-sweep g 728 n sweep₂)
+
+pub p10-holds : Case10
+unfolding outcome
+p10-holds =
+    record {
+      flag = ap (λ (o : Outcome). o .flag) (call-value values boxLineCall) ∙ ap (λ (l : List ℕ). not (sameMasks m l)) box-lines ∙ ap not differ;
+      removed = ap (removedBy (freshMasks p10)) first-run ∙ ap (λ (l : List ℕ). removedBy l n) (fresh-value values) ∙ eighteen;
+      again = ap (λ (o : Outcome). o .flag) second-run ∙ ap (λ (l : List ℕ). not (sameMasks n l)) box-lines-again ∙ ap not (same-refl n);
+      same = ap (λ (o : Outcome). o .masks) second-run ∙ box-lines-again ∙ sym first-run;
+      reported = ap (λ (o : Outcome). o .reports) (call-value values advancedCall) ∙ none-reported;
+      sweeps = ap (λ (o : Outcome). o .sweeps) (call-value values settling) ∙ ap (λ (s : Sweeps). s .sweeps) settles;
+      settled = ap (λ (o : Outcome). o .removed) (call-value values settling) ∙ ap (λ (s : Sweeps). removedBy m (s .left)) settles ∙ eighteen;
+    }

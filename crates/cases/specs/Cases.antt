@@ -1,0 +1,112 @@
+-- The published cases P1 to P11, each of document 01's sentences as an equation about the definitions; proofs/Cases.antt shows them all.
+-- P2 and P3 are the text reader's and P1's record the record writer's: their cases come with the text and the record.
+use mathlib.Core.Path.{_≡_}
+use mathlib.Core.Bool.{true, false}
+use mathlib.Core.List.{List, [], _∷_, map}
+use mathlib.Core.Option.{none, some}
+use Prim.Native.Nat.{ℕ, _≤_, _<_}
+use lib.IntN.{ℤ, pos, negsuc}
+use lib.ListN.{replicate, set}
+use Rattle.candidates.specs.Masks.{has}
+use Rattle.grid.specs.Fillings.{verified}
+use Rattle.steps.specs.Boards.{at, givensOf, fresh}
+use Rattle.steps.specs.Calls.{Call, Outcome, nakedPairsCall, boxLineCall, xWingCall, nakedSinglesCall, hiddenSinglesCall, advancedCall, wide, settling, chainCall, outcome, refusal, opened}
+use Rattle.steps.specs.Passes.{Kind, removedBy}
+use Rattle.steps.specs.Singles.{Report}
+use Rattle.cases.specs.Grids.{gridA, p1, p4Low, p4High, p5, exchanged, p7, p8, p10, p11}
+
+-- the fresh masks of a grid
+abbrev pub freshMasks : List ℤ → List ℕ
+freshMasks clues = fresh (givensOf clues)
+
+-- what a call answers on the fresh board of a grid
+abbrev pub onFresh : Call → List ℤ → Outcome
+onFresh k clues = outcome k (givensOf clues) (freshMasks clues)
+
+-- the pass says that it removed nothing, and leaves the masks of the fresh board
+pub record Idle (k : Call) (clues : List ℤ) : Type 0 where
+  pub flag : onFresh k clues .flag ≡ false
+  pub masks : onFresh k clues .masks ≡ freshMasks clues
+
+-- so do all passes, the ported ones and the wide ones
+pub record AllIdle (clues : List ℤ) : Type 0 where
+  pub nakedPairs : Idle nakedPairsCall clues
+  pub boxLine : Idle boxLineCall clues
+  pub xWing : Idle xWingCall clues
+  pub chain : Idle chainCall clues
+  pub wides : (k : Kind) → Idle (wide k) clues
+
+-- "P1 81 dots: masks 511; all ported and wide passes false; settling 1 sweep, 0 removed"
+pub record Case1 : Type 0 where
+  pub masks : freshMasks p1 ≡ replicate 81 511
+  pub passes : AllIdle p1
+  pub sweeps : onFresh settling p1 .sweeps ≡ 1
+  pub removed : onFresh settling p1 .removed ≡ 0
+
+-- "P4 clue -1 at cell 0: 3, 0. Clue 10 at cell 80: 3, 80." Whatever the masks: the clues are checked first.
+pub record Case4 : Type 0 where
+  pub low : (m : List ℕ) → refusal (record { clues = p4Low; masks = m }) ≡ some (3, 0)
+  pub high : (m : List ℕ) → refusal (record { clues = p4High; masks = m }) ≡ some (3, 80)
+
+-- the report of digit 1 in cell 0
+abbrev pub one : Report
+one = record { cell = 0; digit = 1 }
+
+-- "P5 A with cell 0 open: mask 1; (0, 1) reported once naked, three times hidden."
+pub record Case5 : Type 0 where
+  pub mask : at (freshMasks p5) 0 ≡ 1
+  pub naked : onFresh nakedSinglesCall p5 .reports ≡ one ∷ []
+  pub hidden : onFresh hiddenSinglesCall p5 .reports ≡ one ∷ one ∷ one ∷ []
+
+-- "P6 verifier: A yes; cell 80 set to 0, to 10 or to -2147483648 no; cells 0 and 1 exchanged no."
+pub record Case6 : Type 0 where
+  pub right : verified gridA ≡ true
+  pub nothing : verified (set gridA 80 (pos 0)) ≡ false
+  pub ten : verified (set gridA 80 (pos 10)) ≡ false
+  pub lowest : verified (set gridA 80 (negsuc 2147483647)) ≡ false
+  pub swapped : verified exchanged ≡ false
+
+-- "P7 A with cells 0, 1, 27, 28, 54, 55 open: masks 3, 3, 6, 6, 5, 5; no pass removes."
+pub record Case7 : Type 0 where
+  pub masks : map (at (freshMasks p7)) (0 ∷ 1 ∷ 27 ∷ 28 ∷ 54 ∷ 55 ∷ []) ≡ 3 ∷ 3 ∷ 6 ∷ 6 ∷ 5 ∷ 5 ∷ []
+  pub passes : AllIdle p7
+
+-- "P8 row 0 `...456789`, row 1 `3........`, rest open: cells 0, 1, 2 have mask 3; naked pairs removes 12, cell 2 becomes 0."
+pub record Case8 : Type 0 where
+  pub masks : map (at (freshMasks p8)) (0 ∷ 1 ∷ 2 ∷ []) ≡ 3 ∷ 3 ∷ 3 ∷ []
+  pub removed : removedBy (freshMasks p8) (onFresh nakedPairsCall p8 .masks) ≡ 12
+  pub emptied : at (onFresh nakedPairsCall p8 .masks) 2 ≡ 0
+
+-- "P9 `apply_advanced_techniques` on the fresh board of P8: true, masks fresh."
+pub record Case9 : Type 0 where
+  pub flag : onFresh advancedCall p8 .flag ≡ true
+  pub masks : onFresh advancedCall p8 .masks ≡ freshMasks p8
+
+-- "P10 row 1 `456......`, row 2 `789......`, rest open: box-line removes 18; a second run false."
+-- From the card of P10: "reported 0", "sweeps 2", "removed 18".
+pub record Case10 : Type 0 where
+  pub flag : onFresh boxLineCall p10 .flag ≡ true
+  pub removed : removedBy (freshMasks p10) (onFresh boxLineCall p10 .masks) ≡ 18
+  pub again : outcome boxLineCall (givensOf p10) (onFresh boxLineCall p10 .masks) .flag ≡ false
+  pub same : outcome boxLineCall (givensOf p10) (onFresh boxLineCall p10 .masks) .masks ≡ onFresh boxLineCall p10 .masks
+  pub reported : onFresh advancedCall p10 .reports ≡ []
+  pub sweeps : onFresh settling p10 .sweeps ≡ 2
+  pub settled : onFresh settling p10 .removed ≡ 18
+
+-- "P11 clue 5 at cells 0 and 1: opened; no other cell of row 0 holds 5." And of Pair: "in P11 the two clues 5 are a Pair with every other digit, so settling empties the open cells of row 0." Digit 5 is place 4.
+pub record Case11 : Type 0 where
+  pub taken : refusal (opened p11) ≡ none
+  pub others : (c : ℕ) → 2 ≤ c → c < 9 → has (at (opened p11 .masks) c) 4 ≡ false
+  pub emptied : (c : ℕ) → 2 ≤ c → c < 9 → at (onFresh settling p11 .masks) c ≡ 0
+
+-- The cases as a group.
+pub record Cases : Type 0 where
+  pub one : Case1
+  pub four : Case4
+  pub five : Case5
+  pub six : Case6
+  pub seven : Case7
+  pub eight : Case8
+  pub nine : Case9
+  pub ten : Case10
+  pub eleven : Case11

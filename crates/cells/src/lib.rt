@@ -1,0 +1,88 @@
+// The givens and masks of a board as lent arrays: reading cells, and losing digits in place. The passes are loops over these.
+// Every function is total: a number above 80 is no cell, has no candidate and is not open.
+ghost use mathlib.Core.Path.{_≡_};
+ghost use Rattle.steps.specs.Boards.{isOpen};
+ghost use Rattle.cells.specs.Places.{maskAt, openAt, loseIn, losePlaces, openMask, unitMasks, placesOf};
+use candidates::masks;
+use grid::unit_cells;
+
+pub fn is_open(givens: &[u8; 81], cell: usize) -> bool
+    ensures { λ r. ⌜ r ≡ openAt (now (givens .entry)) cell ⌝ }
+{
+    if cell < 81 {
+        return givens[cell] == 0;
+    }
+    false
+}
+
+pub fn mask_at(masks: &[u16; 81], cell: usize) -> u16
+    ensures { λ r. ⌜ r ≡ maskAt (now (masks .entry)) cell ⌝ }
+{
+    if cell < 81 {
+        return masks[cell];
+    }
+    0
+}
+
+// The cell loses the digits of `lost`, if it is open.
+pub fn lose_at(givens: &[u8; 81], masks: &mut [u16; 81], cell: usize, lost: u16)
+    ensures { λ _. ⌜ now (masks .exit) ≡ loseIn (isOpen (now (givens .entry))) cell lost (now (masks .entry)) ⌝ }
+{
+    if cell < 81 {
+        if givens[cell] == 0 {
+            masks[cell] = masks::lose(masks[cell], lost);
+        }
+    }
+}
+
+// The open cells at these places of the unit lose the digits of `lost`.
+pub fn lose_places(givens: &[u8; 81], masks: &mut [u16; 81], unit: usize, places: u16, lost: u16)
+    ensures { λ _. ⌜ now (masks .exit) ≡ losePlaces (isOpen (now (givens .entry))) unit places lost (now (masks .entry)) ⌝ }
+{
+    let cells = unit_cells(unit);
+    let mut place: usize = 0;
+    while place < 9 {
+        if masks::has_digit(places, place) {
+            lose_at(givens, masks, cells[place] as usize, lost);
+        }
+        place += 1;
+    }
+}
+
+fn open_mask(givens: &[u8; 81], masks: &[u16; 81], cell: usize) -> u16
+    ensures { λ r. ⌜ r ≡ openMask (now (givens .entry)) (now (masks .entry)) cell ⌝ }
+{
+    if is_open(givens, cell) {
+        return mask_at(masks, cell);
+    }
+    0
+}
+
+// The masks of the unit's open cells, by place; 0 for the others. A pass that reads clue cells too lends givens that are all 0.
+pub fn unit_masks(givens: &[u8; 81], masks: &[u16; 81], unit: usize) -> [u16; 9]
+    ensures { λ r. ⌜ r ≡ unitMasks (now (givens .entry)) (now (masks .entry)) unit ⌝ }
+{
+    let cells = unit_cells(unit);
+    let mut nine = [0u16; 9];
+    let mut place: usize = 0;
+    while place < 9 {
+        nine[place] = open_mask(givens, masks, cells[place] as usize);
+        place += 1;
+    }
+    nine
+}
+
+// The places that hold the digit.
+pub fn places_of(nine: &[u16; 9], digit: usize) -> u16
+    ensures { λ r. ⌜ r ≡ placesOf (now (nine .entry)) digit ⌝ }
+{
+    let mut found: u16 = 0;
+    let mut place: usize = 0;
+    while place < 9 {
+        if masks::has_digit(nine[place], digit) {
+            found = masks::join(found, masks::digit_mask(place));
+        }
+        place += 1;
+    }
+    found
+}

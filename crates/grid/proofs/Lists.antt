@@ -1,0 +1,197 @@
+-- Lists: what stands in a range and in a selection, tests of every element, and elements by their places. Assumes nothing.
+use mathlib.Core.Path.{_≡_, refl, sym, ap, _∙_}
+use mathlib.Core.Logic.{_≢_, ⊎-elim}
+use mathlib.Core.Bool.{Bool, true, false, cond, not, _&&_, _||_, false≢true}
+use mathlib.Core.List.{List, [], _∷_, _++_, map, List·Memᴰ, List·Memᴰ·head, List·Memᴰ·tail, List·Memᴰ·cases-cons, List·Memᴰ·not-nil}
+use Prim.Native.Nat.{ℕ, zero, suc, _+_, _-_, _≤_, _<_}
+use native.Mathlib.Nat.{not-suc-le-zero, le-of-suc-le-suc, add-zero, add-suc, suc-add}
+use native.Mathlib.Numerals.{add-one}
+use native.Mathlib.Decide.{ℕ-discrete}
+use native.Mathlib.Omega.{arith}
+use borrow.Author.Tests.{eqb-true, eq-eqb}
+use lib.IntN.{ℤ, pos, negsuc}
+use lib.ListN.{length, getD, set, length-append}
+use lib.Seq.{set-at, append-snoc}
+use Rattle.grid.specs.Lists.{range, select, all, each}
+use Rattle.grid.specs.Fillings.{sameNumber, holds, distinct}
+use Rattle.candidates.proofs.Tests.{both, both-left, both-right}
+
+-- ---- a membership and a place
+
+pub mem-place {ℓ} : {A : Type ℓ} {a : A} {l : List A} (d : A) → List·Memᴰ a l → (i : ℕ) × (i < length l) × (getD l i d ≡ a)
+mem-place d (List·Memᴰ·head e) = (0, omega arith, sym e)
+mem-place d (List·Memᴰ·tail m) =
+    let p = mem-place d m in
+    let h = p .1 in
+    (suc (p .0), omega arith, p .2)
+
+pub place-mem {ℓ} : {A : Type ℓ} (l : List A) (d : A) (i : ℕ) → i < length l → List·Memᴰ (getD l i d) l
+place-mem [] d i h = absurd (not-suc-le-zero h)
+place-mem (x ∷ xs) d zero h = List·Memᴰ·head refl
+place-mem (x ∷ xs) d (suc i) h = List·Memᴰ·tail (place-mem xs d i (le-of-suc-le-suc h))
+
+-- past which number a list is read does not matter inside it
+pub getD-any {ℓ} : {A : Type ℓ} (l : List A) (i : ℕ) (d e : A) → i < length l → getD l i d ≡ getD l i e
+getD-any [] i d e h = absurd (not-suc-le-zero h)
+getD-any (x ∷ xs) zero d e h = refl
+getD-any (x ∷ xs) (suc i) d e h = getD-any xs i d e (le-of-suc-le-suc h)
+
+-- ---- ranges and selections
+
+pub at-range {ℓ} : {A : Type ℓ} (f : ℕ → A) (z : A) (n k i : ℕ) → i < n → getD (map f (range n k)) i z ≡ f (k + i)
+at-range f z zero k i h = absurd (not-suc-le-zero h)
+at-range f z (suc n) k zero h = ap f (sym (add-zero k))
+at-range f z (suc n) k (suc i) h =
+    at-range f z n (suc k) i (le-of-suc-le-suc h) ∙ ap f (suc-add k i ∙ sym (add-suc k i))
+
+pub range-mem : (n k c : ℕ) → k ≤ c → c < k + n → List·Memᴰ c (range n k)
+range-mem zero k c h l = absurd (omega arith)
+range-mem (suc n) k c h l = go (ℕ-discrete c k) (λ g. range-mem n (suc k) c g (omega arith))
+  where
+    go : Dec (c ≡ k) → (suc k ≤ c → List·Memᴰ c (range n (suc k))) → List·Memᴰ c (k ∷ range n (suc k))
+    go (yes e) more = List·Memᴰ·head e
+    go (no e) more = List·Memᴰ·tail (more (omega arith))
+
+pub mem-range : (n k c : ℕ) → List·Memᴰ c (range n k) → (k ≤ c) × (c < k + n)
+mem-range zero k c m = absurd (List·Memᴰ·not-nil m)
+mem-range (suc n) k c m =
+    ⊎-elim (λ e. (omega arith, omega arith))
+    (λ r. let p = mem-range n (suc k) c r in let a = p .0 in let b = p .1 in (omega arith, omega arith))
+    (List·Memᴰ·cases-cons m)
+
+pub select-mem : (f : ℕ → Bool) (l : List ℕ) (c : ℕ) → List·Memᴰ c l → f c ≡ true → List·Memᴰ c (select f l)
+select-mem f [] c m e = m
+select-mem f (x ∷ xs) c m e = ⊎-elim here (λ r. there (f x) (select-mem f xs c r e)) (List·Memᴰ·cases-cons m)
+  where
+    here : c ≡ x → List·Memᴰ c (cond (f x) (x ∷ select f xs) (select f xs))
+    here p =
+        let e′ : f x ≡ true = ap f (sym p) ∙ e in
+        rw e′ (List·Memᴰ·head p)
+
+    there : (t : Bool) → List·Memᴰ c (select f xs) → List·Memᴰ c (cond t (x ∷ select f xs) (select f xs))
+    there true r = List·Memᴰ·tail r
+    there false r = r
+
+pub mem-select : (f : ℕ → Bool) (l : List ℕ) (c : ℕ) → List·Memᴰ c (select f l) → List·Memᴰ c l × (f c ≡ true)
+mem-select f [] c m = absurd (List·Memᴰ·not-nil m)
+mem-select f (x ∷ xs) c m = go (f x) refl m (λ r. mem-select f xs c r)
+  where
+    go : (t : Bool) → f x ≡ t → List·Memᴰ c (cond t (x ∷ select f xs) (select f xs)) → (List·Memᴰ c (select f xs) → List·Memᴰ c xs × (f c ≡ true)) → List·Memᴰ c (x ∷ xs) × (f c ≡ true)
+    go true e r more =
+        ⊎-elim (λ p. (List·Memᴰ·head p, ap f p ∙ e)) (λ s. (List·Memᴰ·tail (more s .0), more s .1)) (List·Memᴰ·cases-cons r)
+    go false e r more = (List·Memᴰ·tail (more r .0), more r .1)
+
+-- ---- a loop over i from 0 up to n: what is left of it at i
+
+pub range-on : (n i : ℕ) → i < n → range (n - i) i ≡ i ∷ range (n - (i + 1)) (i + 1)
+range-on n i h =
+    let e : n - i ≡ suc (n - (i + 1)) = omega arith in
+    ap (λ (m : ℕ). range m i) e ∙ ap (λ (k : ℕ). i ∷ range (n - (i + 1)) k) (sym (add-one i))
+
+pub range-end : (n i : ℕ) → n ≤ i → range (n - i) i ≡ []
+range-end n i h =
+    let e : n - i ≡ 0 = omega arith in
+    ap (λ (m : ℕ). range m i) e
+
+pub each-on {ℓ} : {S : Type ℓ} (f : ℕ → S → S) (n i : ℕ) (s : S) → i < n → each f (range (n - i) i) s ≡ each f (range (n - (i + 1)) (i + 1)) (f i s)
+unfolding each
+each-on f n i s h = ap (λ (is : List ℕ). each f is s) (range-on n i h)
+
+pub each-end {ℓ} : {S : Type ℓ} (f : ℕ → S → S) (n i : ℕ) (s : S) → n ≤ i → each f (range (n - i) i) s ≡ s
+unfolding each
+each-end f n i s h = ap (λ (is : List ℕ). each f is s) (range-end n i h)
+
+pub all-on : (f : ℕ → Bool) (n i : ℕ) → i < n → f i ≡ true → all f (range (n - i) i) ≡ all f (range (n - (i + 1)) (i + 1))
+all-on f n i h e = ap (all f) (range-on n i h) ∙ ap (λ (t : Bool). t && all f (range (n - (i + 1)) (i + 1))) e
+
+pub all-stop : (f : ℕ → Bool) (n i : ℕ) → i < n → f i ≡ false → all f (range (n - i) i) ≡ false
+all-stop f n i h e = ap (all f) (range-on n i h) ∙ ap (λ (t : Bool). t && all f (range (n - (i + 1)) (i + 1))) e
+
+pub all-end : (f : ℕ → Bool) (n i : ℕ) → n ≤ i → all f (range (n - i) i) ≡ true
+all-end f n i h = ap (all f) (range-end n i h)
+
+-- an array whose elements are set one after the other
+pub each-set : (f : ℕ → ℕ) (n k : ℕ) (xs ys : List ℕ) → length xs ≡ k → length ys ≡ n → each (λ c m. set m c (f c)) (range n k) (xs ++ ys) ≡ xs ++ map f (range n k)
+unfolding each
+each-set f zero k xs [] h l = refl
+each-set f zero k xs (y ∷ ys) h l = absurd (omega arith)
+each-set f (suc n) k xs [] h l = absurd (omega arith)
+each-set f (suc n) k xs (y ∷ ys) h l =
+    ap (each (λ c m. set m c (f c)) (range n (suc k))) (set-at xs y ys (f k) k h ∙ sym (append-snoc xs (f k) ys))
+    ∙ each-set f n (suc k) (xs ++ (f k ∷ [])) ys (length-append xs (f k ∷ []) ∙ omega arith) (omega arith)
+    ∙ append-snoc xs (f k) (map f (range n (suc k)))
+
+-- ---- a test of every element
+
+pub all-at {ℓ} : {A : Type ℓ} (f : A → Bool) (l : List A) (d : A) → all f l ≡ true → (i : ℕ) → i < length l → f (getD l i d) ≡ true
+all-at f [] d e i h = absurd (not-suc-le-zero h)
+all-at f (x ∷ xs) d e zero h = both-left (f x) (all f xs) e
+all-at f (x ∷ xs) d e (suc i) h = all-at f xs d (both-right (f x) (all f xs) e) i (le-of-suc-le-suc h)
+
+pub at-all {ℓ} : {A : Type ℓ} (f : A → Bool) (l : List A) (d : A) → ((i : ℕ) → i < length l → f (getD l i d) ≡ true) → all f l ≡ true
+at-all f [] d h = refl
+at-all f (x ∷ xs) d h = both (h 0 (omega arith)) (at-all f xs d (λ i k. h (suc i) (omega arith)))
+
+all-from : (f : ℕ → Bool) (n k : ℕ) → all f (range n k) ≡ true → (i : ℕ) → k ≤ i → i < k + n → f i ≡ true
+all-from f zero k e i h l = absurd (omega arith)
+all-from f (suc n) k e i h l =
+    go (ℕ-discrete k i) (λ m. all-from f n (suc k) (both-right (f k) (all f (range n (suc k))) e) i m (omega arith))
+  where
+    go : Dec (k ≡ i) → (suc k ≤ i → f i ≡ true) → f i ≡ true
+    go (yes p) more = ap f (sym p) ∙ both-left (f k) (all f (range n (suc k))) e
+    go (no p) more = more (omega arith)
+
+from-all : (f : ℕ → Bool) (n k : ℕ) → ((i : ℕ) → i < k + n → f i ≡ true) → all f (range n k) ≡ true
+from-all f zero k h = refl
+from-all f (suc n) k h = both (h k (omega arith)) (from-all f n (suc k) (λ i l. h i (omega arith)))
+
+pub all-range : (f : ℕ → Bool) (n : ℕ) → all f (range n 0) ≡ true → (i : ℕ) → i < n → f i ≡ true
+all-range f n e i h = all-from f n 0 e i (omega arith) (omega arith)
+
+pub range-all : (f : ℕ → Bool) (n : ℕ) → ((i : ℕ) → i < n → f i ≡ true) → all f (range n 0) ≡ true
+range-all f n h = from-all f n 0 (λ i l. h i (omega arith))
+
+-- ---- numbers that differ
+
+pub same-refl : (z : ℤ) → sameNumber z z ≡ true
+same-refl (pos n) = eq-eqb n n refl
+same-refl (negsuc n) = eq-eqb n n refl
+
+pub same-eq : (a b : ℤ) → sameNumber a b ≡ true → a ≡ b
+same-eq (pos a) (pos b) e = ap pos (eqb-true a b e)
+same-eq (pos a) (negsuc b) e = absurd (false≢true e)
+same-eq (negsuc a) (pos b) e = absurd (false≢true e)
+same-eq (negsuc a) (negsuc b) e = ap negsuc (eqb-true a b e)
+
+-- a number that the list does not hold stands at no place of it
+not-held : (z : ℤ) (l : List ℤ) (d : ℤ) → not (holds z l) ≡ true → (i : ℕ) → i < length l → z ≢ getD l i d
+not-held z [] d e i h p = absurd (not-suc-le-zero h)
+not-held z (x ∷ xs) d e i h p = go (sameNumber z x) refl i h p e (λ f k l. not-held z xs d f k l)
+  where
+    go : (t : Bool) → sameNumber z x ≡ t → (i : ℕ) → i < suc (length xs) → z ≡ getD (x ∷ xs) i d → not (t || holds z xs) ≡ true → (not (holds z xs) ≡ true → (k : ℕ) → k < length xs → z ≢ getD xs k d) → ⊥
+    go true s i h p e more = false≢true e
+    go false s zero h p e more = false≢true (sym s ∙ ap (sameNumber z) (sym p) ∙ same-refl z)
+    go false s (suc i) h p e more = more e i (le-of-suc-le-suc h) p
+
+held-not : (z : ℤ) (l : List ℤ) (d : ℤ) → ((i : ℕ) → i < length l → z ≢ getD l i d) → not (holds z l) ≡ true
+held-not z [] d h = refl
+held-not z (x ∷ xs) d h = go (sameNumber z x) refl (held-not z xs d (λ i k. h (suc i) (omega arith)))
+  where
+    go : (t : Bool) → sameNumber z x ≡ t → not (holds z xs) ≡ true → not (t || holds z xs) ≡ true
+    go true s more = absurd (h 0 (omega arith) (same-eq z x s))
+    go false s more = more
+
+pub distinct-at : (l : List ℤ) (d : ℤ) → distinct l ≡ true → (i j : ℕ) → i < length l → j < length l → i ≢ j → getD l i d ≢ getD l j d
+distinct-at [] d e i j h k n = absurd (not-suc-le-zero h)
+distinct-at (x ∷ xs) d e zero zero h k n = absurd (n refl)
+distinct-at (x ∷ xs) d e zero (suc j) h k n = not-held x xs d (both-left (not (holds x xs)) (distinct xs) e) j (le-of-suc-le-suc k)
+distinct-at (x ∷ xs) d e (suc i) zero h k n =
+    λ p. not-held x xs d (both-left (not (holds x xs)) (distinct xs) e) i (le-of-suc-le-suc h) (sym p)
+distinct-at (x ∷ xs) d e (suc i) (suc j) h k n =
+    distinct-at xs d (both-right (not (holds x xs)) (distinct xs) e) i j (le-of-suc-le-suc h) (le-of-suc-le-suc k) (λ p. n (ap suc p))
+
+pub at-distinct : (l : List ℤ) (d : ℤ) → ((i j : ℕ) → i < length l → j < length l → i ≢ j → getD l i d ≢ getD l j d) → distinct l ≡ true
+at-distinct [] d h = refl
+at-distinct (x ∷ xs) d h =
+    both (held-not x xs d (λ i k. h 0 (suc i) (omega arith) (omega arith) (λ e. absurd (omega arith))))
+    (at-distinct xs d (λ i j k l n. h (suc i) (suc j) (omega arith) (omega arith) (λ e. n (omega arith))))

@@ -1,0 +1,5 @@
+pub mod Lists
+pub mod Cells
+pub mod Units
+pub mod Fillings
+pub mod Seen

@@ -1,0 +1,115 @@
+-- The check of a handed board: it admits just the boards whose clues are 0 to 9 and whose masks are admissible. Assumes nothing.
+use mathlib.Core.Path.{_≡_, refl, sym, ap, _∙_, subst}
+use mathlib.Core.Bool.{Bool, true, false, not, _&&_, _||_, true≢false}
+use mathlib.Core.List.{List, [], _∷_, map, List·Memᴰ}
+use mathlib.Core.Option.{Option, none, some}
+use Prim.Native.Nat.{ℕ, zero, suc, _+_, _≤_, _<_, zero-le}
+use native.Mathlib.Nat.{not-suc-le-zero}
+use native.Mathlib.Decide.{decLt}
+use native.Mathlib.Omega.{arith}
+use borrow.Author.Tests.{eqb-true, eq-eqb, leb-true, le-leb}
+use lib.Dec.{eqb, leb}
+use lib.IntN.{ℤ, pos, negsuc}
+use lib.ListN.{length, getD, length-map, List·getD-eq-default}
+use Rattle.candidates.specs.Masks.{Sub, minus}
+use Rattle.candidates.proofs.Tests.{by-test}
+use Rattle.candidates.proofs.Order.{sub-none, sub-of-minus, minus-of-sub}
+use Rattle.grid.specs.Cells.{cells}
+use Rattle.steps.specs.Boards.{Board, at, digitOf, givensOf, given, isOpen, freshAt, fresh, Givens, Under, Admissible}
+use Rattle.steps.specs.Calls.{badClue, misfit, badMask, firstStop, refusal}
+use Rattle.steps.specs.Demand3.{Clues}
+use Rattle.steps.specs.Loops.{first}
+use Rattle.steps.proofs.Fresh.{at-cells, fresh-at, fresh-out}
+use Rattle.steps.proofs.Loops.{first-none, none-first, in-upTo, upTo-in}
+
+in-cells : (c : ℕ) → c < 81 → List·Memᴰ c cells
+unfolding cells
+in-cells c h = upTo-in 81 c h
+
+cells-in : (c : ℕ) → List·Memᴰ c cells → c < 81
+unfolding cells
+cells-in c k = in-upTo 81 c k
+
+-- ---- clues and givens
+
+digit-small : (z : ℤ) → digitOf z ≤ 9
+digit-small (pos n) = by-test (λ (k : ℕ). k ≤ 9) (leb n 9) n 0 (λ t. leb-true n 9 t) (λ t. zero-le)
+digit-small (negsuc n) = zero-le
+
+pub givens-length : (clues : List ℤ) → length (givensOf clues) ≡ 81
+unfolding givensOf cells
+givens-length clues = refl
+
+pub given-clue : (clues : List ℤ) (c : ℕ) → c < 81 → given (givensOf clues) c ≡ digitOf (getD clues c (pos 0))
+unfolding givensOf
+given-clue clues c h = at-cells (λ c. digitOf (getD clues c (pos 0))) c h
+
+pub clues-givens : (clues : List ℤ) → Givens (givensOf clues)
+clues-givens clues = record { size = givens-length clues; small = λ c. go c (decLt c 81) }
+  where
+    go : (c : ℕ) → Dec (c < 81) → given (givensOf clues) c ≤ 9
+    go c (yes h) = rw (given-clue clues c h) (digit-small (getD clues c (pos 0)))
+    go c (no h) = rw (List·getD-eq-default (givensOf clues) 0 {n = c} (omega (arith, givens-length clues))) zero-le
+
+-- ---- masks
+
+fitting : (x f : ℕ) (o : Bool) → misfit x f o ≡ false → Sub x f × (o ≡ false → x ≡ f)
+fitting x f o t = go (eqb (minus x f) 0) refl o refl (eqb x f) refl t
+  where
+    go : (a : Bool) → eqb (minus x f) 0 ≡ a → (b : Bool) → o ≡ b → (e : Bool) → eqb x f ≡ e → not (a && (b || e)) ≡ false → Sub x f × (o ≡ false → x ≡ f)
+    go true a true b e e′ t = (sub-of-minus x f (eqb-true (minus x f) 0 a), λ h. absurd (true≢false (sym b ∙ h)))
+    go true a false b true e t = (sub-of-minus x f (eqb-true (minus x f) 0 a), λ h. eqb-true x f e)
+    go true a false b false e t = absurd (true≢false t)
+    go false a b b′ e e′ t = absurd (true≢false t)
+
+fits : (x f : ℕ) (o : Bool) → Sub x f → (o ≡ false → x ≡ f) → misfit x f o ≡ false
+fits x f true p q = rw (eq-eqb (minus x f) 0 (minus-of-sub p))
+fits x f false p q = rw (eq-eqb (minus x f) 0 (minus-of-sub p), eq-eqb x f (q refl))
+
+module _ (g m : List ℕ) where
+  pub admissible-good : Admissible g m → (c : ℕ) → c < 81 → badMask g m c ≡ false
+  admissible-good a c h =
+      fits (at m c) (freshAt g c) (isOpen g c) (subst (λ (x : ℕ). Sub (at m c) x) (fresh-at g c h) (a .under .at c))
+      (λ f. a .clues c f ∙ fresh-at g c h)
+
+  pub good-admissible : length m ≡ 81 → ((c : ℕ) → c < 81 → badMask g m c ≡ false) → Admissible g m
+  good-admissible l h = record { size = l; under = record { at = λ c. below c (decLt c 81) }; clues = λ c f. same c f (decLt c 81) }
+    where
+      out : (c : ℕ) → 81 ≤ c → at m c ≡ 0
+      out c k = List·getD-eq-default m 0 {n = c} (omega arith)
+
+      below : (c : ℕ) → Dec (c < 81) → Sub (at m c) (at (fresh g) c)
+      below c (yes k) = rw (fresh-at g c k) (fitting (at m c) (freshAt g c) (isOpen g c) (h c k) .0)
+      below c (no k) = rw (out c (omega arith)) (sub-none (at (fresh g) c))
+
+      same : (c : ℕ) → isOpen g c ≡ false → Dec (c < 81) → at m c ≡ at (fresh g) c
+      same c f (yes k) = fitting (at m c) (freshAt g c) (isOpen g c) (h c k) .1 f ∙ sym (fresh-at g c k)
+      same c f (no k) = out c (omega arith) ∙ sym (fresh-out g c (omega arith))
+
+-- ---- the check
+
+some-none : {A : Type 0} (a : A) → _≡_ {A = Option A} (some a) none → ⊥
+some-none a q = let w : _≡_ {A = ℕ} 0 1 = cc in omega arith
+
+-- neither stop
+stops-none : (n k : ℕ) (x y : Option ℕ) → firstStop n x (firstStop k y none) ≡ none → (x ≡ none) × (y ≡ none)
+stops-none n k none none t = (refl, refl)
+stops-none n k none (some c) t = absurd (some-none (k, c) t)
+stops-none n k (some c) y t = absurd (some-none (n, c) t)
+
+module _ (b : Board) where
+  pub admitted : Clues (b .clues) → Admissible (givensOf (b .clues)) (b .masks) → refusal b ≡ none
+  unfolding refusal
+  admitted ok a =
+      ap (λ (x : Option ℕ). firstStop 3 x (firstStop 9 (first (badMask (givensOf (b .clues)) (b .masks)) cells) none))
+      (none-first (λ c. badClue (getD (b .clues) c (pos 0))) cells (λ c k. ok .good c (cells-in c k)))
+      ∙ ap (λ (x : Option ℕ). firstStop 9 x none)
+      (none-first (badMask (givensOf (b .clues)) (b .masks)) cells (λ c k. admissible-good (givensOf (b .clues)) (b .masks) a c (cells-in c k)))
+
+  pub admits : length (b .clues) ≡ 81 → length (b .masks) ≡ 81 → refusal b ≡ none → Clues (b .clues) × Admissible (givensOf (b .clues)) (b .masks)
+  unfolding refusal
+  admits lc lm t =
+      let w = stops-none 3 9 (first (λ c. badClue (getD (b .clues) c (pos 0))) cells) (first (badMask (givensOf (b .clues)) (b .masks)) cells) t in (
+        record { size = lc; good = λ c h. first-none (λ c. badClue (getD (b .clues) c (pos 0))) cells (w .0) c (in-cells c h) },
+        good-admissible (givensOf (b .clues)) (b .masks) lm (λ c h. first-none (badMask (givensOf (b .clues)) (b .masks)) cells (w .1) c (in-cells c h)),
+      )

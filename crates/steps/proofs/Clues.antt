@@ -1,0 +1,145 @@
+-- A correct filling lies in reached masks exactly if it keeps the clues. Assumes nothing.
+use mathlib.Core.Path.{_≡_, refl, sym, ap, _∙_, subst}
+use mathlib.Core.Logic.{_≢_}
+use mathlib.Core.Bool.{Bool, true, false, cond, not, true≢false}
+use mathlib.Core.List.{List, map}
+use Prim.Native.Nat.{ℕ, zero, suc, _+_, _-_, _^_, _≤_, _<_}
+use native.Mathlib.Decide.{decLt}
+use native.Mathlib.Omega.{arith}
+use borrow.Author.Tests.{eqb-true, eqb-false}
+use lib.Dec.{leb}
+use lib.IntN.{ℤ, pos, negsuc}
+use lib.ListN.{length, getD, List·getD-eq-default}
+use Rattle.candidates.specs.Masks.{Sub}
+use Rattle.candidates.proofs.Held.{Held, power-sub, sub-power}
+use Rattle.candidates.proofs.Order.{sub-none}
+use Rattle.grid.specs.Cells.{cells, sees}
+use Rattle.grid.specs.Fillings.{numberAt, Correct}
+use Rattle.candidates.specs.Sets.{place}
+use Rattle.grid.specs.Units.{unitCell, Member}
+use Rattle.grid.proofs.Cells.{sees-shared}
+use Rattle.grid.proofs.Fillings.{number-of, place-lt, correct-complete}
+use Rattle.grid.proofs.Pigeonhole.{onto}
+use Rattle.grid.proofs.Units.{at-place}
+use Rattle.steps.specs.Boards.{at, digitOf, givensOf, given, isOpen, fresh, Givens, Under, Admissible}
+use Rattle.steps.specs.Calls.{badClue}
+use Rattle.steps.specs.Demand3.{Clues}
+use Rattle.steps.specs.Fillings.{KeepsClues, InMasks}
+use Rattle.steps.proofs.Check.{clues-givens, given-clue}
+use Rattle.steps.proofs.Fillings.{Filling, filling-still}
+use Rattle.steps.proofs.Fresh.{at-cells}
+use Rattle.steps.proofs.FreshDigits.{fresh-open, fresh-clue}
+use Rattle.steps.proofs.Reach.{Reach, reach-keeps}
+
+-- ---- a correct filling, by places
+
+-- the place of the digit in each cell
+abbrev pub placed : List ℤ → ℕ → ℕ
+placed f c = place (numberAt f c)
+
+pub correct-filling : (f : List ℤ) → Correct f → Filling (placed f)
+correct-filling f ok = record { small = λ c h. place-lt (ok .digits c h); once = once; every = every }
+  where
+    once : (u c e : ℕ) → u < 27 → Member u c → Member u e → c ≢ e → placed f c ≢ placed f e
+    once u c e h m n d q =
+        d (sym (m .is) ∙ ap (unitCell u) (correct-complete ok .at u h .apart (m .place) (n .place) (m .within) (n .within) (ap (placed f) (m .is) ∙ q ∙ sym (ap (placed f) (n .is)))) ∙ n .is)
+
+    every : (u d : ℕ) → u < 27 → d < 9 → (c : ℕ) × Member u c × (placed f c ≡ d)
+    every u d h k =
+        let w = onto 9 (λ i. placed f (unitCell u i)) (correct-complete ok .at u h) d k in
+        (unitCell u (w .0), at-place u (w .0) (w .1), w .2)
+
+-- its masks, one digit each
+filled : (ℕ → ℕ) → List ℕ
+filled p = map (λ c. 2 ^ p c) cells
+
+filled-length : (p : ℕ → ℕ) → length (filled p) ≡ 81
+unfolding filled cells
+filled-length p = refl
+
+filled-at : (p : ℕ → ℕ) (c : ℕ) → c < 81 → at (filled p) c ≡ 2 ^ p c
+unfolding filled
+filled-at p c h = at-cells (λ c. 2 ^ p c) c h
+
+filled-out : (p : ℕ → ℕ) (c : ℕ) → 81 ≤ c → at (filled p) c ≡ 0
+filled-out p c h = List·getD-eq-default (filled p) 0 {n = c} (omega (arith, filled-length p))
+
+-- ---- keeping the clues, by places
+
+pos-same : (a b : ℕ) → pos a ≡ pos b → a ≡ b
+pos-same a b e = cc
+
+place-pos : (n : ℕ) → 1 ≤ n → n ≤ 9 → place (pos n) ≡ n - 1
+place-pos zero h k = absurd (omega arith)
+place-pos (suc n) h k = omega arith
+
+-- a good clue is its digit
+clue-digit : (z : ℤ) → badClue z ≡ false → z ≡ pos (digitOf z)
+clue-digit (pos n) b = go (leb n 9) refl b
+  where
+    go : (t : Bool) → leb n 9 ≡ t → not (leb n 9) ≡ false → pos n ≡ pos (cond (leb n 9) n 0)
+    go true t b = rw t
+    go false t b = absurd (true≢false (rw t at b))
+clue-digit (negsuc n) b = absurd (true≢false b)
+
+module _ (clues : List ℤ) (ok : Clues clues) where
+  abbrev g : List ℕ
+  g = givensOf clues
+
+  clue-given : (c : ℕ) → c < 81 → getD clues c (pos 0) ≡ pos (given g c)
+  clue-given c h = clue-digit (getD clues c (pos 0)) (ok .good c h) ∙ ap pos (sym (given-clue clues c h))
+
+  module _ (f : List ℤ) (right : Correct f) where
+    -- the filling's places at clue cells are the clues'
+    keeps-place : KeepsClues clues f → (c : ℕ) → c < 81 → isOpen g c ≡ false → placed f c ≡ given g c - 1
+    keeps-place k c h o =
+        let some : given g c ≢ 0 = eqb-false (given g c) 0 o in
+        ap place (k .kept c h (λ e. some (pos-same (given g c) 0 (sym (clue-given c h) ∙ e))) ∙ clue-given c h)
+        ∙ place-pos (given g c) (omega arith) (clues-givens clues .small c)
+
+    place-keeps : ((c : ℕ) → c < 81 → isOpen g c ≡ false → placed f c ≡ given g c - 1) → KeepsClues clues f
+    place-keeps k = record { kept = λ c h n. go c h n (isOpen g c) refl }
+      where
+        go : (c : ℕ) → c < 81 → getD clues c (pos 0) ≢ pos 0 → (o : Bool) → isOpen g c ≡ o → numberAt f c ≡ getD clues c (pos 0)
+        go c h n true o = absurd (n (clue-given c h ∙ ap pos (eqb-true (given g c) 0 o)))
+        go c h n false o =
+            let some : given g c ≢ 0 = eqb-false (given g c) 0 o in
+            number-of (numberAt f c) (given g c - 1) (k c h o) (omega (arith, clues-givens clues .small c)) ∙ ap pos (omega arith) ∙ sym (clue-given c h)
+
+    -- a filling that keeps the clues takes each digit from the fresh masks
+    filled-fresh : KeepsClues clues f → Under (filled (placed f)) (fresh g)
+    filled-fresh k = record { at = λ c. go c (decLt c 81) }
+      where
+        ok′ : Givens g
+        ok′ = clues-givens clues
+
+        -- a cell with a clue that c sees has another digit
+        unseen : (c e : ℕ) → c < 81 → e < 81 → sees c e ≡ true → (o : Bool) → isOpen g e ≡ o → given g e ≡ suc (placed f c) → ⊥
+        unseen c e h l t true o q = omega (arith, eqb-true (given g e) 0 o)
+        unseen c e h l t false o q =
+            let s = sees-shared c e h l t in
+            correct-filling f right .once (s .shared) c e (s .within) (s .first) (s .second) (s .different) (omega (arith, keeps-place k e l o))
+
+        held : (c : ℕ) → c < 81 → (o : Bool) → isOpen g c ≡ o → Held (at (fresh g) c) (placed f c)
+        held c h true o =
+            fresh-open g ok′ c (placed f c) h o .1
+            (record { digit = correct-filling f right .small c h; unseen = λ e l t q. unseen c e h l t (isOpen g e) refl q })
+        held c h false o = fresh-clue g ok′ c (placed f c) h o .1 (omega (arith, keeps-place k c h o, eqb-false (given g c) 0 o))
+
+        go : (c : ℕ) → Dec (c < 81) → Sub (at (filled (placed f)) c) (at (fresh g) c)
+        go c (yes h) = rw (filled-at (placed f) c h) (power-sub (at (fresh g) c) (placed f c) (held c h (isOpen g c) refl))
+        go c (no h) = rw (filled-out (placed f) c (omega arith)) (sub-none (at (fresh g) c))
+
+    -- In masks reached from the fresh ones: a correct filling that keeps the clues stays, and no other is there.
+    pub keeps-in : KeepsClues clues f → (m : List ℕ) → Reach g (fresh g) m → InMasks m f
+    keeps-in k m r =
+        record {
+          held = λ c h.
+              sub-power (at m c) (placed f c)
+              (subst (λ (x : ℕ). Sub x (at m c)) (filled-at (placed f) c h)
+              (reach-keeps g (filling-still g (placed f) (correct-filling f right) (filled (placed f)) (filled-at (placed f))) (filled-fresh k) r .at c));
+        }
+
+    pub in-keeps : (m : List ℕ) → Admissible g m → InMasks m f → KeepsClues clues f
+    in-keeps m a i =
+        place-keeps (λ c h o. omega (arith, fresh-clue g (clues-givens clues) c (placed f c) h o .0 (subst (λ (x : ℕ). Held x (placed f c)) (a .clues c o) (i .held c h))))

@@ -1,0 +1,72 @@
+-- Fresh masks: one for each cell, of the nine digits, and what an admissible board's masks can hold. Assumes nothing.
+use mathlib.Core.Path.{_≡_, refl, sym, ap, _∙_, subst}
+use mathlib.Core.Bool.{Bool, true, false, cond}
+use mathlib.Core.List.{List, [], _∷_, map}
+use Prim.Native.Nat.{ℕ, zero, suc, _+_, _-_, _*_, _^_, _≤_, _<_, zero-le}
+use native.Mathlib.Nat.{le-refl, not-suc-le-zero, zero-add}
+use native.Mathlib.Decide.{decLt}
+use native.Mathlib.Omega.{arith}
+use borrow.Author.Tests.{lt-ltb, le-ltb, eqb-false}
+use lib.Count.{ones, ones-le}
+use lib.Dec.{eqb, ltb, lit<, lit≤}
+use lib.ListN.{length, getD, length-map, List·getD-eq-default}
+use lib.Pow.{pow-mono}
+use Rattle.candidates.specs.Masks.{count, single}
+use Rattle.candidates.proofs.Order.{sub-le}
+use Rattle.candidates.proofs.Tests.{by-test, cond-true, cond-false}
+use Rattle.grid.specs.Cells.{cells}
+use Rattle.grid.proofs.Lists.{at-range}
+use Rattle.steps.specs.Boards.{at, given, isOpen, givenMask, taken, freshAt, fresh, Givens, Under, Admissible, total}
+use Rattle.steps.proofs.Masks.{under-refl}
+
+-- the value that a map over the cells has at a cell
+pub at-cells : (f : ℕ → ℕ) (c : ℕ) → c < 81 → getD (map f cells) c 0 ≡ f c
+unfolding cells
+at-cells f c h = at-range f 0 81 0 c h ∙ ap f (zero-add c)
+
+module _ (g : List ℕ) where
+  pub fresh-length : length (fresh g) ≡ 81
+  unfolding fresh cells
+  fresh-length = refl
+
+  pub fresh-at : (c : ℕ) → c < 81 → at (fresh g) c ≡ freshAt g c
+  unfolding fresh
+  fresh-at c h = at-cells (freshAt g) c h
+
+  pub fresh-out : (c : ℕ) → 81 ≤ c → at (fresh g) c ≡ 0
+  fresh-out c h = List·getD-eq-default (fresh g) 0 (subst (λ (n : ℕ). n ≤ c) (sym fresh-length) h)
+
+  pub fresh-admissible : Admissible g (fresh g)
+  fresh-admissible = record { size = fresh-length; under = under-refl (fresh g); clues = λ c f. refl }
+
+  module _ (ok : Givens g) where
+    single-small : (c : ℕ) → single (given g c - 1) < 512
+    single-small c =
+        by-test (λ (x : ℕ). x < 512) (ltb (given g c - 1) 16) (2 ^ (given g c - 1)) 0
+        (λ t. omega (arith, pow-mono {i = given g c - 1} {j = 8} (omega (arith, ok .small c)))) (λ t. lit< tt)
+
+    pub givenMask-small : (c : ℕ) → givenMask g c < 512
+    givenMask-small c = by-test (λ (x : ℕ). x < 512) (isOpen g c) 0 (single (given g c - 1)) (λ t. lit< tt) (λ t. single-small c)
+
+    pub freshAt-small : (c : ℕ) → freshAt g c < 512
+    freshAt-small c =
+        by-test (λ (x : ℕ). x < 512) (isOpen g c) (511 - taken g c) (givenMask g c) (λ t. omega arith) (λ t. givenMask-small c)
+
+    pub fresh-small : (c : ℕ) → at (fresh g) c < 512
+    fresh-small c = go (decLt c 81)
+      where
+        go : Dec (c < 81) → at (fresh g) c < 512
+        go (yes h) = rw (fresh-at c h) (freshAt-small c)
+        go (no h) = rw (fresh-out c (omega arith)) (lit< tt)
+
+    pub mask-small : {m : List ℕ} → Under m (fresh g) → (c : ℕ) → at m c < 512
+    mask-small p c = omega (arith, sub-le (p .at c), fresh-small c)
+
+total-bound : (m : List ℕ) → ((c : ℕ) → at m c < 512) → total m ≤ 9 * length m
+unfolding total
+total-bound [] h = zero-le
+total-bound (x ∷ xs) h = omega (arith, ones-le 9 x (h 0), total-bound xs (λ c. h (suc c)))
+
+-- at most 729 candidates
+pub total-most : (g m : List ℕ) → Givens g → Admissible g m → total m ≤ 729
+total-most g m ok a = omega (arith, total-bound m (mask-small g ok (a .under)), a .size)

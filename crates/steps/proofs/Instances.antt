@@ -1,0 +1,48 @@
+-- The numbers of a listed instance are within their bounds: what holds of every instance within them holds of every listed one. Assumes nothing.
+use mathlib.Core.Path.{_≡_, sym, subst}
+use mathlib.Core.List.{List, [], _∷_, List·Memᴰ, List·Memᴰ·append-cases, List·Memᴰ·eq-of-singleton}
+use mathlib.Core.Logic.{⊎-elim}
+use Prim.Native.Nat.{ℕ, _<_}
+use Rattle.steps.specs.Instances.{Instance, lone, place, pair, pointing, cross, exchanged, lones, places, pairs, pointings, crosses}
+use Rattle.steps.specs.Loops.{for, upTo, above}
+use Rattle.steps.specs.Passes.{Kind, Lone, Place, Pair, Pointing, Cross, instances}
+use Rattle.steps.proofs.Loops.{for-all, in-upTo, in-above}
+
+module _ (P : Instance → Type 0) where
+  one : (x y : Instance) → P y → List·Memᴰ x (y ∷ []) → P x
+  one x y p k = subst P (sym (List·Memᴰ·eq-of-singleton k)) p
+
+  -- a loop over the numbers below n, and one over those above i and below n
+  below : (n : ℕ) (h : ℕ → List Instance) → ((i : ℕ) → i < n → (x : Instance) → List·Memᴰ x (h i) → P x) → (x : Instance) → List·Memᴰ x (for (upTo n) h) → P x
+  below n h f = for-all P (upTo n) h (λ i k. f i (in-upTo n i k))
+
+  later : (i n : ℕ) (h : ℕ → List Instance) → ((j : ℕ) → i < j → j < n → (x : Instance) → List·Memᴰ x (h j) → P x) → (x : Instance) → List·Memᴰ x (for (above i n) h) → P x
+  later i n h f = for-all P (above i n) h (λ j k. f j (in-above i n j k .0) (in-above i n j k .1))
+
+  pub record Within : Type 0 where
+    pub onLone : (c d : ℕ) → c < 81 → d < 9 → P (lone c d)
+    pub onPlace : (u d i : ℕ) → u < 27 → d < 9 → i < 9 → P (place u d i)
+    pub onPair : (u i j a b : ℕ) → u < 27 → i < j → j < 9 → a < b → b < 9 → P (pair u i j a b)
+    pub onPointing : (b d k : ℕ) → b < 9 → d < 9 → k < 6 → P (pointing b d k)
+    pub onCross : (d r₁ r₂ c₁ c₂ : ℕ) → d < 9 → r₁ < r₂ → r₂ < 9 → c₁ < c₂ → c₂ < 9 → P (cross d r₁ r₂ c₁ c₂)
+    pub onExchanged : (d c₁ c₂ r₁ r₂ : ℕ) → d < 9 → c₁ < c₂ → c₂ < 9 → r₁ < r₂ → r₂ < 9 → P (exchanged d c₁ c₂ r₁ r₂)
+
+  pub listed : Within → (k : Kind) (x : Instance) → List·Memᴰ x (instances k) → P x
+  unfolding instances lones places pairs pointings crosses
+  listed w Lone = below 81 _ λ c hc. below 9 _ λ d hd. λ x. one x (lone c d) (w .onLone c d hc hd)
+  listed w Place = below 27 _ λ u hu. below 9 _ λ d hd. below 9 _ λ i hi. λ x. one x (place u d i) (w .onPlace u d i hu hd hi)
+  listed w Pair =
+      below 27 _ λ u hu. below 9 _ λ i hi. later i 9 _ λ j ij hj. below 9 _ λ a ha. later a 9 _ λ b ab hb. λ x.
+      one x (pair u i j a b) (w .onPair u i j a b hu ij hj ab hb)
+  listed w Pointing = below 9 _ λ b hb. below 9 _ λ d hd. below 6 _ λ k hk. λ x. one x (pointing b d k) (w .onPointing b d k hb hd hk)
+  listed w Cross = λ x k. ⊎-elim (straight x) (turned x) (List·Memᴰ·append-cases _ k)
+    where
+      straight : (x : Instance) → List·Memᴰ x (for (upTo 9) λ d. for (upTo 9) λ r₁. for (above r₁ 9) λ r₂. for (upTo 9) λ c₁. for (above c₁ 9) λ c₂. cross d r₁ r₂ c₁ c₂ ∷ []) → P x
+      straight =
+          below 9 _ λ d hd. below 9 _ λ r hr. later r 9 _ λ s rs hs. below 9 _ λ a ha. later a 9 _ λ b ab hb. λ x.
+          one x (cross d r s a b) (w .onCross d r s a b hd rs hs ab hb)
+
+      turned : (x : Instance) → List·Memᴰ x (for (upTo 9) λ d. for (upTo 9) λ c₁. for (above c₁ 9) λ c₂. for (upTo 9) λ r₁. for (above r₁ 9) λ r₂. exchanged d c₁ c₂ r₁ r₂ ∷ []) → P x
+      turned =
+          below 9 _ λ d hd. below 9 _ λ r hr. later r 9 _ λ s rs hs. below 9 _ λ a ha. later a 9 _ λ b ab hb. λ x.
+          one x (exchanged d r s a b) (w .onExchanged d r s a b hd rs hs ab hb)

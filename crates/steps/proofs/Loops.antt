@@ -1,0 +1,100 @@
+-- Laws of the loops: what each member of a list does, and what a list made by loops holds. Assumes nothing.
+use mathlib.Core.Path.{_≡_, refl, sym, ap, _∙_, subst}
+use mathlib.Core.Bool.{Bool, true, false, cond, true≢false}
+use mathlib.Core.Logic.{_⊎_, inl, inr, ⊎-elim}
+use mathlib.Core.List.{List, [], _∷_, _++_, List·Memᴰ, List·Memᴰ·head, List·Memᴰ·tail, List·Memᴰ·not-nil, List·Memᴰ·cases-cons, List·Memᴰ·append-cases, Memᴰ·append-left, Memᴰ·append-right}
+use mathlib.Core.Option.{Option, none, some}
+use Prim.Native.Nat.{ℕ, _+_, _-_, _≤_, _<_, zero-le}
+use native.Mathlib.Omega.{arith}
+use Rattle.candidates.proofs.Tests.{both, both-left, both-right}
+use Rattle.grid.proofs.Lists.{range-mem, mem-range}
+use Rattle.steps.specs.Loops.{each, for, all, first, upTo, above}
+
+module _ {A S : Type 0} (f : A → S → S) where
+  pub each-append : (xs ys : List A) (s : S) → each f (xs ++ ys) s ≡ each f ys (each f xs s)
+  unfolding each
+  each-append [] ys s = refl
+  each-append (x ∷ xs) ys s = each-append xs ys (f x s)
+
+  -- what each member keeps, the whole loop keeps
+  pub each-keeps : (P : S → Type 0) (xs : List A) → ((x : A) → List·Memᴰ x xs → (s : S) → P s → P (f x s)) → (s : S) → P s → P (each f xs s)
+  unfolding each
+  each-keeps P [] h s p = p
+  each-keeps P (x ∷ xs) h s p = each-keeps P xs (λ y k. h y (List·Memᴰ·tail k)) (f x s) (h x (List·Memᴰ·head refl) s p)
+
+module _ {A B : Type 0} where
+  pub each-for : {S : Type 0} (f : B → S → S) (xs : List A) (h : A → List B) (s : S) → each f (for xs h) s ≡ each (λ x. each f (h x)) xs s
+  unfolding each for
+  each-for f [] h s = refl
+  each-for f (x ∷ xs) h s = each-append f (h x) (for xs h) s ∙ each-for f xs h (each f (h x) s)
+
+  -- a member of a list made by a loop comes from one of the loop's members
+  pub in-for : (xs : List A) (h : A → List B) (y : B) → List·Memᴰ y (for xs h) → (x : A) × List·Memᴰ x xs × List·Memᴰ y (h x)
+  unfolding for
+  in-for [] h y k = absurd (List·Memᴰ·not-nil k)
+  in-for (x ∷ xs) h y k = ⊎-elim (λ l. (x, (List·Memᴰ·head refl), l)) (λ r. more (in-for xs h y r)) (List·Memᴰ·append-cases (h x) k)
+    where
+      more : (z : A) × List·Memᴰ z xs × List·Memᴰ y (h z) → (z : A) × List·Memᴰ z (x ∷ xs) × List·Memᴰ y (h z)
+      more w = (w .0, List·Memᴰ·tail (w .1), w .2)
+
+  -- what holds of all that the loop's members give holds of all members
+  pub for-all : (P : B → Type 0) (xs : List A) (h : A → List B) → ((x : A) → List·Memᴰ x xs → (y : B) → List·Memᴰ y (h x) → P y) → (y : B) → List·Memᴰ y (for xs h) → P y
+  for-all P xs h f y k = let w = in-for xs h y k in f (w .0) (w .1) y (w .2)
+
+  pub for-in : (xs : List A) (h : A → List B) (x : A) (y : B) → List·Memᴰ x xs → List·Memᴰ y (h x) → List·Memᴰ y (for xs h)
+  unfolding for
+  for-in [] h x y k l = absurd (List·Memᴰ·not-nil k)
+  for-in (z ∷ zs) h x y k l =
+      ⊎-elim (λ e. Memᴰ·append-left (for zs h) (subst (λ (w : A). List·Memᴰ y (h w)) e l)) (λ r. Memᴰ·append-right (h z) (for-in zs h x y r l))
+      (List·Memᴰ·cases-cons k)
+
+-- members of the two loops over numbers
+pub in-upTo : (n i : ℕ) → List·Memᴰ i (upTo n) → i < n
+in-upTo n i k = omega (arith, mem-range n 0 i k)
+
+pub in-above : (j n i : ℕ) → List·Memᴰ i (above j n) → (j < i) × (i < n)
+in-above j n i k = omega (arith, mem-range (n - (j + 1)) (j + 1) i k)
+
+pub upTo-in : (n i : ℕ) → i < n → List·Memᴰ i (upTo n)
+upTo-in n i h = range-mem n 0 i zero-le (omega arith)
+
+pub above-in : (j n i : ℕ) → j < i → i < n → List·Memᴰ i (above j n)
+above-in j n i h k = range-mem (n - (j + 1)) (j + 1) i (omega arith) (omega arith)
+
+module _ {B : Type 0} (n : ℕ) where
+  pub for-upTo : (f : ℕ → List B) (i : ℕ) (y : B) → i < n → List·Memᴰ y (f i) → List·Memᴰ y (for (upTo n) f)
+  for-upTo f i y h k = for-in (upTo n) f i y (upTo-in n i h) k
+
+  -- two numbers, the first below the second
+  pub for-two : (f : ℕ → ℕ → List B) (i j : ℕ) (y : B) → i < j → j < n → List·Memᴰ y (f i j) → List·Memᴰ y (for (upTo n) (λ i. for (above i n) (f i)))
+  for-two f i j y h l k = for-upTo (λ i. for (above i n) (f i)) i y (omega arith) (for-in (above i n) (f i) j y (above-in i n j h l) k)
+
+module _ (f : ℕ → Bool) where
+  pub first-none : (xs : List ℕ) → first f xs ≡ none → (x : ℕ) → List·Memᴰ x xs → f x ≡ false
+  unfolding first
+  first-none [] t x k = absurd (List·Memᴰ·not-nil k)
+  first-none (y ∷ ys) t x k = go (f y) refl t (λ r. first-none ys r x)
+    where
+      go : (b : Bool) → f y ≡ b → cond (f y) (some y) (first f ys) ≡ none → (first f ys ≡ none → List·Memᴰ x ys → f x ≡ false) → f x ≡ false
+      go true e t ih = absurd (none-some y (rw e at t))
+        where
+          none-some : (z : ℕ) → _≡_ {A = Option ℕ} (some z) none → ⊥
+          none-some z q = let w : _≡_ {A = ℕ} 0 1 = cc in omega arith
+      go false e t ih = ⊎-elim (λ (q : x ≡ y). rw q e) (λ r. ih (rw e at t) r) (List·Memᴰ·cases-cons k)
+
+  pub none-first : (xs : List ℕ) → ((x : ℕ) → List·Memᴰ x xs → f x ≡ false) → first f xs ≡ none
+  unfolding first
+  none-first [] h = refl
+  none-first (x ∷ xs) h = rw (h x (List·Memᴰ·head refl)) (none-first xs (λ y k. h y (List·Memᴰ·tail k)))
+
+  pub all-member : (xs : List ℕ) → all f xs ≡ true → (x : ℕ) → List·Memᴰ x xs → f x ≡ true
+  all-member [] t x k = absurd (List·Memᴰ·not-nil k)
+  all-member (y ∷ ys) t x k =
+      ⊎-elim (λ (q : x ≡ y). rw q (both-left (f y) (all f ys) t)) (λ r. all-member ys (both-right (f y) (all f ys) t) x r) (List·Memᴰ·cases-cons k)
+
+  pub member-all : (xs : List ℕ) → ((x : ℕ) → List·Memᴰ x xs → f x ≡ true) → all f xs ≡ true
+  member-all [] h = refl
+  member-all (x ∷ xs) h = both (h x (List·Memᴰ·head refl)) (member-all xs (λ y k. h y (List·Memᴰ·tail k)))
+
+  pub all-append : (xs ys : List ℕ) → all f xs ≡ true → all f ys ≡ true → all f (xs ++ ys) ≡ true
+  all-append xs ys p q = member-all (xs ++ ys) (λ x k. ⊎-elim (all-member xs p x) (all-member ys q x) (List·Memᴰ·append-cases xs k))

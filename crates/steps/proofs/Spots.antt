@@ -1,0 +1,95 @@
+-- The open cells of a unit that hold a digit, and the mask of their places. Assumes nothing.
+use mathlib.Core.Path.{_≡_, refl, sym, ap, _∙_, subst}
+use mathlib.Core.Logic.{_⊎_, _↔_, inl, inr, ⊎-elim}
+use mathlib.Core.Bool.{Bool, true, false, cond, true≢false}
+use mathlib.Core.List.{List, _++_, List·Memᴰ, List·Memᴰ·append-cases, Memᴰ·append-left, Memᴰ·append-right}
+use Prim.Native.Nat.{ℕ, _^_, _<_}
+use native.Mathlib.Omega.{arith}
+use lib.Dec.{eqb}
+use Rattle.candidates.specs.Masks.{has}
+use Rattle.candidates.proofs.Membership.{gather-lt, bit-gather}
+use Rattle.grid.specs.Units.{unit, unitCell, inUnit, Member}
+use Rattle.candidates.proofs.Tests.{both, both-left, both-right}
+use Rattle.grid.proofs.Units.{at-place, same-place, member-in, in-member, member-mem, mem-member}
+use Rattle.steps.specs.Boards.{at, isOpen}
+use Rattle.steps.specs.Ported.{holds, spots}
+use Rattle.steps.specs.Published.{Holder, HiddenSingle}
+use Rattle.candidates.proofs.FewDigits.{One}
+use Rattle.candidates.proofs.Held.{Held, held-below}
+
+-- the cells of two units, named in either order
+pub in-either : {x y f s : ℕ} → x < 27 → y < 27 → ((x ≡ f) × (y ≡ s)) ⊎ ((x ≡ s) × (y ≡ f)) → (e : ℕ) → List·Memᴰ e (unit f ++ unit s) ↔ (Member x e ⊎ Member y e)
+in-either {x} {y} {f} {s} h k same e = go same
+  where
+    joined : (a b : ℕ) → a < 27 → b < 27 → List·Memᴰ e (unit a ++ unit b) ↔ (Member a e ⊎ Member b e)
+    joined a b h k = (
+      λ l. ⊎-elim (λ p. inl (mem-member h p)) (λ p. inr (mem-member k p)) (List·Memᴰ·append-cases (unit a) l),
+      ⊎-elim (λ p. Memᴰ·append-left (unit b) (member-mem h p)) (λ p. Memᴰ·append-right (unit a) (member-mem k p)),
+    )
+
+    swapped : List·Memᴰ e (unit y ++ unit x) ↔ (Member x e ⊎ Member y e)
+    swapped =
+        let j = joined y x k h in
+        (λ l. ⊎-elim (λ p. inr p) (λ p. inl p) (j .0 l), λ t. j .1 (⊎-elim (λ p. inr p) (λ p. inl p) t))
+
+    go : ((x ≡ f) × (y ≡ s)) ⊎ ((x ≡ s) × (y ≡ f)) → List·Memᴰ e (unit f ++ unit s) ↔ (Member x e ⊎ Member y e)
+    go (inl p) = rw (← p .0, ← p .1) (joined x y h k)
+    go (inr p) = rw (← p .0, ← p .1) swapped
+
+pub outside : (u e : ℕ) → u < 27 → e < 81 → (inUnit u e ≡ false) ↔ (¬ (Member u e))
+outside u e h k = (λ f p. true≢false (sym (member-in h p) ∙ f), λ n. go n (inUnit u e) refl)
+  where
+    go : ¬ (Member u e) → (t : Bool) → inUnit u e ≡ t → inUnit u e ≡ false
+    go n true t = absurd (n (in-member u e h k t))
+    go n false t = t
+
+module _ (g m : List ℕ) where
+  pub holder-holds : {d c : ℕ} → Holder g m d c → holds g m d c ≡ true
+  holder-holds h = both (h .free) (h .held)
+
+  pub holds-holder : (d c : ℕ) → holds g m d c ≡ true → Holder g m d c
+  holds-holder d c t = record { free = both-left (isOpen g c) (has (at m c) d) t; held = both-right (isOpen g c) (has (at m c) d) t }
+
+  module _ (u d : ℕ) where
+    pub spots-lt : spots g m u d < 2 ^ 9
+    unfolding spots
+    spots-lt = gather-lt (λ i. holds g m d (unitCell u i)) 9
+
+    pub spots-small : spots g m u d < 2 ^ 16
+    spots-small = omega (arith, spots-lt)
+
+    pub has-spots : (i : ℕ) → i < 9 → has (spots g m u d) i ≡ holds g m d (unitCell u i)
+    unfolding spots
+    has-spots i h = ap (λ (b : ℕ). eqb b 1) (bit-gather (λ i. holds g m d (unitCell u i)) 9 i h) ∙ go (holds g m d (unitCell u i))
+      where
+        go : (b : Bool) → eqb (cond b 1 0) 1 ≡ b
+        go true = refl
+        go false = refl
+
+    pub spot-below : (i : ℕ) → Held (spots g m u d) i → i < 9
+    spot-below i t = held-below (spots g m u d) 9 i spots-lt t
+
+    pub spot-holder : (i : ℕ) → Held (spots g m u d) i → Holder g m d (unitCell u i)
+    spot-holder i t = holds-holder d (unitCell u i) (sym (has-spots i (spot-below i t)) ∙ t)
+
+    pub holder-spot : (i : ℕ) → i < 9 → Holder g m d (unitCell u i) → Held (spots g m u d) i
+    holder-spot i h p = has-spots i h ∙ holder-holds p
+
+    pub member-spot : {e : ℕ} (p : Member u e) → Holder g m d e → Held (spots g m u d) (p .place)
+    member-spot p q = holder-spot (p .place) (p .within) (subst (λ (c : ℕ). Holder g m d c) (sym (p .is)) q)
+
+    -- ---- a unit with one holder
+
+    pub one-hidden : (i : ℕ) → One (spots g m u d) i → HiddenSingle g m u d (unitCell u i)
+    one-hidden i o = record {
+      member = at-place u i (spot-below i (o .held));
+      holder = spot-holder i (o .held);
+      alone = λ e p q. sym (p .is) ∙ ap (unitCell u) (o .alone (p .place) (member-spot p q));
+    }
+
+    pub hidden-one : u < 27 → (c : ℕ) (s : HiddenSingle g m u d c) → One (spots g m u d) (s .member .place)
+    hidden-one h c s = record {
+      held = member-spot (s .member) (s .holder);
+      alone = λ i t. same-place u i (s .member .place) h (spot-below i t) (s .member .within)
+          (s .alone (unitCell u i) (at-place u i (spot-below i t)) (spot-holder i t) ∙ sym (s .member .is));
+    }

@@ -1,0 +1,81 @@
+-- A board: 81 clues and 81 masks. "A board is 81 clues (signed 32-bit numbers, 0 = open) and 81 masks."
+-- Everything below the check of a board works on its givens, the fixed digit of each cell, and its masks.
+use mathlib.Core.Path.{_≡_}
+use mathlib.Core.Bool.{Bool, true, false, cond}
+use mathlib.Core.List.{List, [], _∷_, map}
+use Prim.Native.Nat.{ℕ, _+_, _-_, _≤_}
+use lib.Dec.{eqb, leb}
+use lib.IntN.{ℤ, pos, negsuc}
+use lib.ListN.{length, getD}
+use Rattle.candidates.specs.Masks.{union, count, single, Sub}
+use Rattle.grid.specs.Cells.{cells, peers}
+use Rattle.steps.specs.Loops.{each}
+
+pub record Board : Type 0 where
+  pub clues : List ℤ
+  pub masks : List ℕ
+
+-- the mask of a cell
+abbrev pub at : List ℕ → ℕ → ℕ
+at m c = getD m c 0
+
+-- ---- the digit that a cell is given: 1 to 9, or 0 where it is open
+
+-- a clue's digit; 0 also for a number that is no clue, which stop 3 refuses
+abbrev pub digitOf : ℤ → ℕ
+digitOf (pos n) = cond (leb n 9) n 0
+digitOf (negsuc n) = 0
+
+unfoldable pub givensOf : List ℤ → List ℕ
+givensOf clues = map (λ c. digitOf (getD clues c (pos 0))) cells
+
+abbrev pub given : List ℕ → ℕ → ℕ
+given g c = getD g c 0
+
+abbrev pub isOpen : List ℕ → ℕ → Bool
+isOpen g c = eqb (given g c) 0
+
+-- the digit that a cell is given, as a mask
+abbrev pub givenMask : List ℕ → ℕ → ℕ
+givenMask g c = cond (isOpen g c) 0 (single (given g c - 1))
+
+-- 81 cells, each open or given a digit
+pub record Givens (g : List ℕ) : Type 0 where
+  pub size : length g ≡ 81
+  pub small : (c : ℕ) → given g c ≤ 9
+
+-- ---- fresh masks
+
+-- the digits that the peers of a cell are given
+unfoldable pub taken : List ℕ → ℕ → ℕ
+taken g c = each (λ e k. union k (givenMask g e)) (peers c) 0
+
+-- "A clue cell's mask is its digit alone"; "an open cell holds d exactly if no peer's clue is d"
+abbrev pub freshAt : List ℕ → ℕ → ℕ
+freshAt g c = cond (isOpen g c) (511 - taken g c) (givenMask g c)
+
+unfoldable pub fresh : List ℕ → List ℕ
+fresh g = map (freshAt g) cells
+
+-- ---- masks that a call takes
+
+-- the masks of m are below those of n, cell by cell
+pub record Under (m n : List ℕ) : Type 0 where
+  pub at : (c : ℕ) → Sub (getD m c 0) (getD n c 0)
+
+-- no stop 9: nothing that the fresh mask lacks, and in a clue cell its digit
+pub record Admissible (g m : List ℕ) : Type 0 where
+  pub size : length m ≡ 81
+  pub under : Under m (fresh g)
+  pub clues : (c : ℕ) → isOpen g c ≡ false → getD m c 0 ≡ getD (fresh g) c 0
+
+-- how many candidates there are in all
+unfoldable pub total : List ℕ → ℕ
+total [] = 0
+total (x ∷ xs) = count x + total xs
+
+abbrev pub sameMasks : List ℕ → List ℕ → Bool
+sameMasks [] [] = true
+sameMasks [] (y ∷ ys) = false
+sameMasks (x ∷ xs) [] = false
+sameMasks (x ∷ xs) (y ∷ ys) = cond (eqb x y) (sameMasks xs ys) false

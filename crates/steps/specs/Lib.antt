@@ -1,0 +1,12 @@
+pub mod Loops
+pub mod Boards
+pub mod Steps
+pub mod Instances
+pub mod Passes
+pub mod Ported
+pub mod Singles
+pub mod Chains
+pub mod Published
+pub mod Calls
+pub mod Fillings
+pub mod Demand3
