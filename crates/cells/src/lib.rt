@@ -1,7 +1,8 @@
 // The givens and masks of a board as lent arrays: reading cells, and losing digits in place. The passes are loops over these.
 // Every function is total: a number above 80 is no cell, has no candidate and is not open.
 ghost use mathlib.Core.Path.{_≡_};
-ghost use Rattle.steps.specs.Boards.{isOpen};
+ghost use Rattle.steps.specs.Boards.{isOpen, total};
+ghost use Rattle.steps.specs.Passes.{changed};
 ghost use Rattle.cells.specs.Places.{maskAt, openAt, loseIn, losePlaces, openMask, unitMasks, placesOf};
 use candidates::masks;
 use grid::unit_cells;
@@ -85,4 +86,31 @@ pub fn places_of(nine: &[u16; 9], digit: usize) -> u16
         place += 1;
     }
     found
+}
+
+// Whether any mask differs: "whether it removed anything", once a pass is over.
+pub fn changed(before: [u16; 81], after: [u16; 81]) -> bool
+    ensures { λ r. ⌜ r ≡ changed before after ⌝ }
+{
+    let mut cell: usize = 0;
+    while cell < 81 {
+        if before[cell] != after[cell] {
+            return true;
+        }
+        cell += 1;
+    }
+    false
+}
+
+// How many candidates there are in all.
+pub fn total(masks: [u16; 81]) -> usize
+    ensures { λ r. ⌜ r ≡ total masks ⌝ }
+{
+    let mut sum: usize = 0;
+    let mut cell: usize = 0;
+    while cell < 81 {
+        sum += masks::digit_count(masks[cell]);
+        cell += 1;
+    }
+    sum
 }

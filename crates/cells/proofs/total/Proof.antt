@@ -1,0 +1,68 @@
+-- `cells::total` meets its contract. The invariant: what is counted and what is left are all candidates. Assumes nothing.
+use mathlib.Core.Path.{_≡_, refl, ap}
+use Prim.Native.Nat.{ℕ, _+_, _-_, _*_, _≤_}
+use native.Mathlib.Omega.{arith}
+use mir.Syntax.{w16}
+use mir.Val.{Fits}
+use borrow.Author.Needs.{needs}
+use lib.Count.{ones-le}
+use lib.ListN.{length, getD, drop}
+use Rattle.steps.specs.Boards.{total}
+use Rattle.cells.proofs.Whole.{total-on, total-end}
+use Rattle.cells.proofs.total.Statement.{statement}
+use Rattle.cells.proofs.total.Tie as tie
+
+abbrev Inv-loop : tie.InvT-loop
+Inv-loop masks sum₀ cell₀ sum cell = (length masks ≡ 81) × (cell ≤ 81) × (sum ≤ 16 * cell) × (sum + total (drop cell masks) ≡ total masks)
+
+abbrev μ-loop : tie.MeasureT-loop
+μ-loop masks sum₀ cell₀ sum cell = 81 - cell
+
+loop-holds : tie.Need-loop-holds Inv-loop μ-loop
+loop-holds c = (search needs, omega arith, omega arith, omega arith)
+
+mul-digit-count : tie.Need-mul-digit-count Inv-loop μ-loop
+mul-digit-count c = omega arith
+
+array-read-digit-count : tie.Need-array-read-digit-count Inv-loop μ-loop
+array-read-digit-count c = omega arith
+
+digit-count-requires : tie.Need-digit-count-requires Inv-loop μ-loop
+digit-count-requires c κs = search needs
+
+add-sum : tie.Need-add-sum Inv-loop μ-loop
+add-sum c =
+    let small : Fits w16 (getD (c .before .before .before .args .t1) (c .before .before .loop .cell) 0) = search needs in
+    omega (arith, c .digit-count .ensures, ones-le 16 _ (small .fits))
+
+add-cell : tie.Need-add-cell Inv-loop μ-loop
+add-cell c = omega arith
+
+loop-less : tie.Need-loop-less Inv-loop μ-loop
+loop-less c = omega arith
+
+loop-again : tie.Need-loop-again Inv-loop μ-loop
+loop-again c =
+    let small : Fits w16 (getD (c .before .before .before .args .t1) (c .before .before .loop .cell) 0) = search needs in
+    let inv = c .before .before .loop .inv in
+    let on = total-on (c .before .before .before .args .t1) (c .before .before .loop .cell) (omega arith) in
+    (inv .0, omega arith, omega (arith, c .digit-count .ensures, ones-le 16 _ (small .fits)), omega (arith, c .digit-count .ensures, on, inv .3))
+
+returns : tie.Need-returns Inv-loop μ-loop
+returns c = omega (arith, total-end (c .before .before .args .t1) (c .before .loop .cell) (omega arith), c .before .loop .inv .3)
+
+pub total-spec : {M : Type 1} → statement M
+total-spec =
+    tie.close
+    (tie.spec
+    Inv-loop
+    μ-loop
+    loop-holds
+    mul-digit-count
+    array-read-digit-count
+    digit-count-requires
+    add-sum
+    add-cell
+    loop-less
+    loop-again
+    returns)
