@@ -50,7 +50,8 @@ pub fn lose_places(givens: &[u8; 81], masks: &mut [u16; 81], unit: usize, places
     }
 }
 
-fn open_mask(givens: &[u8; 81], masks: &[u16; 81], cell: usize) -> u16
+// The mask of a cell, 0 for a cell that is not open.
+pub fn open_mask(givens: &[u8; 81], masks: &[u16; 81], cell: usize) -> u16
     ensures { λ r. ⌜ r ≡ openMask (now (givens .entry)) (now (masks .entry)) cell ⌝ }
 {
     if is_open(givens, cell) {

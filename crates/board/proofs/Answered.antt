@@ -1,0 +1,152 @@
+-- What a call hands back once its board is checked. Assumes nothing.
+use mathlib.Core.Path.{_≡_, refl, sym, ap, _∙_}
+use mathlib.Core.Bool.{Bool, true, false, true≢false, cond, not, _&&_, _||_}
+use mathlib.Core.List.{List}
+use mathlib.Core.Option.{Option, none, some}
+use Prim.Native.Nat.{ℕ, suc, _+_, _-_, _<_, _≤_}
+use native.Mathlib.Omega.{arith}
+use borrow.Author.Tests.{lt-ltb, le-ltb, eqb-true}
+use lib.Dec.{eqb, ltb}
+use lib.IntN.{ℤ, pos}
+use Rattle.candidates.specs.Answer.{gives, stop}
+use Rattle.candidates.specs.Masks.{nine, count, lowest, minus}
+use Rattle.candidates.specs.Sets.{onlyOf}
+use Rattle.candidates.proofs.Order.{sub-le, sub-of-minus}
+use Rattle.candidates.proofs.Tests.{cond-true, cond-false}
+use Rattle.grid.specs.Cells.{cells}
+use Rattle.grid.specs.Lists.{range, all}
+use Rattle.grid.proofs.Lists.{range-on, range-end}
+use Rattle.steps.specs.Boards as S
+use Rattle.steps.specs.Boards.{at, givensOf, isOpen, freshAt, fresh}
+use Rattle.steps.specs.Calls.{misfit, badMask, firstStop, refusal, checked, Call, updateCandidates, outcome, answer, left}
+use Rattle.steps.specs.Loops.{first}
+use Rattle.steps.proofs.Check.{clues-givens}
+use Rattle.steps.proofs.Fresh.{freshAt-small}
+use Rattle.steps.proofs.Loops.{first-none, upTo-in}
+use Rattle.board.specs.Answers.{beside, passes}
+use Rattle.board.specs.Boards.{handed, firstBadClue, clueCount, maskOr5, Finished, Open, Dead, noneEmpty, allSingle, verdictOf, verdictRead}
+use Rattle.board.proofs.Searches.{all-cells}
+
+module _ {A : Type 0} (o : Option (ℕ × ℕ)) (a z : A) where
+  pub good-beside : passes o ≡ true → a ≡ beside (checked o a) z
+  good-beside t = go o t
+    where
+      go : (o : Option (ℕ × ℕ)) → passes o ≡ true → a ≡ beside (checked o a) z
+      go none t = refl
+      go (some r) t = absurd (true≢false (sym t))
+
+  pub refused-beside : passes o ≡ false → z ≡ beside (checked o a) z
+  refused-beside t = go o t
+    where
+      go : (o : Option (ℕ × ℕ)) → passes o ≡ false → z ≡ beside (checked o a) z
+      go none t = absurd (true≢false t)
+      go (some r) t = refl
+
+-- ---- the board that a call leaves
+
+pub refused-left : (k : Call) (b : S.Board) → passes (refusal b) ≡ false → b ≡ left b (answer k b)
+unfolding answer
+refused-left k b t = go (refusal b) t
+  where
+    go : (o : Option (ℕ × ℕ)) → passes o ≡ false → b ≡ left b (checked o (outcome k (givensOf (b .clues)) (b .masks)))
+    go none t = absurd (true≢false t)
+    go (some r) t = refl
+
+pub updated : (b : S.Board) {m : List ℕ} → passes (refusal b) ≡ true → m ≡ fresh (givensOf (b .clues)) → handed (b .clues) m ≡ left b (answer updateCandidates b)
+unfolding answer outcome
+updated b t e = ap (handed (b .clues)) e ∙ go (refusal b) t
+  where
+    go : (o : Option (ℕ × ℕ)) → passes o ≡ true → handed (b .clues) (fresh (givensOf (b .clues))) ≡ left b (checked o (outcome updateCandidates (givensOf (b .clues)) (b .masks)))
+    go none t = refl
+    go (some r) t = absurd (true≢false (sym t))
+
+-- ---- clues counted
+
+module _ (g : List ℕ) (i : ℕ) where
+  pub count-on : i < 81 → clueCount g (range (81 - i) i) ≡ cond (isOpen g i) (clueCount g (range (81 - (i + 1)) (i + 1))) (suc (clueCount g (range (81 - (i + 1)) (i + 1))))
+  unfolding clueCount
+  count-on h = ap (clueCount g) (range-on 81 i h)
+
+  pub count-end : 81 ≤ i → clueCount g (range (81 - i) i) ≡ 0
+  unfolding clueCount
+  count-end h = ap (clueCount g) (range-end 81 i h)
+
+-- ---- one cell's mask
+
+module _ (m : List ℕ) (c : ℕ) where
+  pub cell-in : c < 81 → gives (at m c) ≡ maskOr5 m c
+  cell-in h = sym (cond-true (ltb c 81) (gives (at m c)) (stop 5 (pos c)) (lt-ltb c 81 h))
+
+  pub cell-past : 81 ≤ c → stop 5 (pos c) ≡ maskOr5 m c
+  cell-past h = sym (cond-false (ltb c 81) (gives (at m c)) (stop 5 (pos c)) (le-ltb c 81 h))
+
+-- ---- the verdict
+
+module _ (x : ℕ) where
+  pub one-digit : {z : ℤ} → some z ≡ onlyOf x → true ≡ eqb (count (nine x)) 1
+  one-digit {z} e = go (eqb (count (nine x)) 1) e
+    where
+      go : (t : Bool) → some z ≡ cond t (some (pos (lowest (nine x) + 1))) none → true ≡ t
+      go true e = refl
+      go false e = let w : _≡_ {A = ℕ} 0 1 = cc in absurd (omega arith)
+
+  pub not-one : none ≡ onlyOf x → false ≡ eqb (count (nine x)) 1
+  not-one e = go (eqb (count (nine x)) 1) e
+    where
+      go : (t : Bool) → none ≡ cond t (some (pos (lowest (nine x) + 1))) none → false ≡ t
+      go true e = let w : _≡_ {A = ℕ} 0 1 = cc in absurd (omega arith)
+      go false e = refl
+
+module _ (m : List ℕ) where
+  pub is-dead : noneEmpty m ≡ false → Dead ≡ verdictRead m
+  unfolding verdictRead
+  is-dead e = sym (cond-false (noneEmpty m) (cond (allSingle m) Finished Open) Dead e)
+
+  module _ (e : noneEmpty m ≡ true) where
+    pub is-finished : allSingle m ≡ true → Finished ≡ verdictRead m
+    unfolding verdictRead
+    is-finished t = sym (cond-true (allSingle m) Finished Open t) ∙ sym (cond-true (noneEmpty m) (cond (allSingle m) Finished Open) Dead e)
+
+    pub is-open : allSingle m ≡ false → Open ≡ verdictRead m
+    unfolding verdictRead
+    is-open t = sym (cond-false (allSingle m) Finished Open t) ∙ sym (cond-true (noneEmpty m) (cond (allSingle m) Finished Open) Dead e)
+
+-- a board that is not refused has masks of nine digits
+
+no-misfit : (x y : Option ℕ) → firstStop 3 x (firstStop 9 y none) ≡ none → y ≡ none
+no-misfit none none t = refl
+no-misfit none (some c) t = absurd (true≢false (ap passes (sym t)))
+no-misfit (some c) y t = absurd (true≢false (ap passes (sym t)))
+
+nothing-more : (x f : ℕ) (o : Bool) → misfit x f o ≡ false → minus x f ≡ 0
+nothing-more x f o t = go (eqb (minus x f) 0) refl t
+  where
+    go : (a : Bool) → eqb (minus x f) 0 ≡ a → not (a && (o || eqb x f)) ≡ false → minus x f ≡ 0
+    go true e t = eqb-true (minus x f) 0 e
+    go false e t = absurd (true≢false t)
+
+module _ (b : S.Board) (t : refusal b ≡ none) where
+  g : List ℕ
+  g = givensOf (b .clues)
+
+  m : List ℕ
+  m = b .masks
+
+  good : (c : ℕ) → c < 81 → badMask g m c ≡ false
+  unfolding refusal cells g m
+  good c h =
+      first-none (badMask g m) cells (no-misfit (firstBadClue (b .clues)) (first (badMask g m) cells) t) c (upTo-in 81 c h)
+
+  small : (c : ℕ) → c < 81 → nine (at m c) ≡ at m c
+  unfolding g m
+  small c h =
+      let s = sub-le (sub-of-minus (at m c) (freshAt g c) (nothing-more (at m c) (freshAt g c) (isOpen g c) (good c h))) in
+      omega (arith, s, freshAt-small g (clues-givens (b .clues)) c)
+
+  pub verdict-read : verdictRead (b .masks) ≡ verdictOf (b .masks)
+  unfolding verdictRead verdictOf m
+  verdict-read =
+      ap (λ (a : Bool). cond a (cond (allSingle m) Finished Open) Dead)
+      (all-cells (λ c. not (eqb (count (nine (at m c))) 0)) (λ c. not (eqb (count (at m c)) 0)) (λ c h. ap (λ (x : ℕ). not (eqb (count x) 0)) (small c h)))
+      ∙ ap (λ (a : Bool). cond (all (λ c. not (eqb (count (at m c)) 0)) cells) (cond a Finished Open) Dead)
+      (all-cells (λ c. eqb (count (nine (at m c))) 1) (λ c. eqb (count (at m c)) 1) (λ c h. ap (λ (x : ℕ). eqb (count x) 1) (small c h)))

@@ -1,0 +1,74 @@
+-- The check of a handed board as the code makes it: a mask beside the fresh one, and the first cells of stops 3 and 9. Assumes nothing.
+use mathlib.Core.Path.{_≡_, refl, sym, ap, _∙_}
+use mathlib.Core.Bool.{Bool, true, false, not, _&&_}
+use mathlib.Core.List.{List}
+use mathlib.Core.Option.{Option, none, some}
+use Prim.Native.Nat.{ℕ}
+use borrow.Author.Tests.{eq-eqb, ne-eqb, eqb-true}
+use lib.Dec.{eqb}
+use lib.IntN.{ℤ, pos}
+use Rattle.candidates.specs.Answer.{gives, stop}
+use Rattle.candidates.specs.Masks.{minus}
+use Rattle.candidates.proofs.Order.{sub-refl, minus-of-sub}
+use Rattle.grid.specs.Cells.{cells}
+use Rattle.steps.specs.Boards.{at, givensOf, given, fresh}
+use Rattle.steps.specs.Calls.{badMask, firstStop, refusal, opened}
+use Rattle.steps.specs.Loops.{first}
+use Rattle.steps.proofs.Fresh.{fresh-at}
+use Rattle.board.specs.Boards.{handed, firstBadClue, misfitOf, firstMisfit, openedOr, openOf}
+use Rattle.board.proofs.Searches.{first-cells}
+
+-- ---- one mask
+
+module _ (x f d : ℕ) where
+  pub open-misfit : d ≡ 0 → not (eqb (minus x f) 0) ≡ misfitOf x f d
+  open-misfit e = rw (eq-eqb d 0 e) (go (eqb (minus x f) 0))
+    where
+      go : (t : Bool) → not t ≡ not (t && true)
+      go true = refl
+      go false = refl
+
+  pub clue-misfit : (d ≡ 0 → ⊥) → not (eqb x f) ≡ misfitOf x f d
+  clue-misfit n = rw (ne-eqb d 0 n) (go (eqb x f) refl)
+    where
+      none : x ≡ f → minus x f ≡ 0
+      none e = rw e (minus-of-sub (sub-refl f))
+
+      go : (t : Bool) → eqb x f ≡ t → not t ≡ not (eqb (minus x f) 0 && t)
+      go true e = rw (eq-eqb (minus x f) 0 (none (eqb-true x f e)))
+      go false e = last (eqb (minus x f) 0)
+        where
+          last : (t : Bool) → true ≡ not (t && false)
+          last true = refl
+          last false = refl
+
+-- ---- the two searches
+
+module _ (clues : List ℤ) (masks : List ℕ) where
+  -- the first cell of stop 9, if no clue is bad
+  badMasks : Option ℕ
+  badMasks = first (badMask (givensOf clues) masks) cells
+
+  pub clue-refused : {c : ℕ} → firstBadClue clues ≡ some c → some (3, c) ≡ refusal (handed clues masks)
+  unfolding refusal badMasks
+  clue-refused e = sym (ap (λ (x : Option ℕ). firstStop 3 x (firstStop 9 badMasks none)) e)
+
+  pub clues-good : firstBadClue clues ≡ none → {g f : List ℕ} → g ≡ givensOf clues → f ≡ fresh g → {r : Option ℕ} → firstMisfit g f masks ≡ r → firstStop 9 r none ≡ refusal (handed clues masks)
+  unfolding refusal badMasks
+  clues-good e {g} {f} p q {r} m =
+      ap (λ (x : Option ℕ). firstStop 9 x none) (sym m ∙ ap (λ (f : List ℕ). firstMisfit g f masks) q ∙ same g ∙ ap (λ (g : List ℕ). first (badMask g masks) cells) p)
+      ∙ sym (ap (λ (x : Option ℕ). firstStop 3 x (firstStop 9 badMasks none)) e)
+    where
+      same : (g : List ℕ) → firstMisfit g (fresh g) masks ≡ first (badMask g masks) cells
+      same g = first-cells (λ c. misfitOf (at masks c) (at (fresh g) c) (given g c)) (badMask g masks) (λ c h. ap (λ (f : ℕ). misfitOf (at masks c) f (given g c)) (fresh-at g c h))
+
+-- ---- the opener
+
+module _ (clues : List ℤ) where
+  pub not-opened : {c : ℕ} → firstBadClue clues ≡ some c → stop 3 (pos c) ≡ openOf clues
+  unfolding openOf
+  not-opened e = sym (ap (λ (x : Option ℕ). openedOr x clues) e)
+
+  pub is-opened : firstBadClue clues ≡ none → {m : List ℕ} → m ≡ fresh (givensOf clues) → gives (handed clues m) ≡ openOf clues
+  unfolding openOf opened
+  is-opened e p = ap (λ (m : List ℕ). gives (handed clues m)) p ∙ sym (ap (λ (x : Option ℕ). openedOr x clues) e)

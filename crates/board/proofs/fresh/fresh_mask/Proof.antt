@@ -1,0 +1,36 @@
+-- `board::fresh::fresh_mask` meets its contract. Assumes nothing.
+use mathlib.Core.Path.{_≡_, sym, _∙_}
+use Prim.Native.Nat.{_-_}
+use native.Mathlib.Omega.{arith}
+use borrow.Author.Needs.{needs}
+use borrow.Author.Tests.{eq-eqb, ne-eqb}
+use lib.Dec.{eqb}
+use Rattle.candidates.proofs.Tests.{cond-true, cond-false}
+use Rattle.board.specs.Fresh.{digitMask}
+use Rattle.board.proofs.fresh.fresh_mask.Statement.{statement}
+use Rattle.board.proofs.fresh.fresh_mask.Tie as tie
+
+given-mask-requires : tie.Need-given-mask-requires
+given-mask-requires c κs = search needs
+
+returns : tie.Need-returns
+returns c =
+    let a = c .before .before .args in
+    c .given-mask .ensures ∙ sym (cond-false (eqb (a .digit) 0) (511 - a .seen) (digitMask (a .digit)) (ne-eqb (a .digit) 0 (c .before .if1 .taken)))
+
+sub-result : tie.Need-sub-result
+sub-result c = search needs
+
+returns-2 : tie.Need-returns-2
+returns-2 c =
+    let a = c .before .before .args in
+    sym (cond-true (eqb (a .digit) 0) (511 - a .seen) (digitMask (a .digit)) (eq-eqb (a .digit) 0 (c .before .if1 .left)))
+
+returns-3 : tie.Need-returns-3
+returns-3 c =
+    let a = c .before .before .args in
+    let e : 0 ≡ 511 - a .seen = omega arith in
+    e ∙ sym (cond-true (eqb (a .digit) 0) (511 - a .seen) (digitMask (a .digit)) (eq-eqb (a .digit) 0 (c .before .if1 .left)))
+
+pub fresh-mask-spec : {M : Type 1} → statement M
+fresh-mask-spec = tie.close (tie.spec given-mask-requires returns sub-result returns-2 returns-3)

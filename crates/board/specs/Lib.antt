@@ -1,0 +1,4 @@
+pub mod Boards
+pub mod Fresh
+pub mod Texts
+pub mod Answers

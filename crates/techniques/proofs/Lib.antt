@@ -1,0 +1,4 @@
+pub mod Loops
+pub mod UnitPlaces
+pub mod NakedPairs
+pub mod BoxLines

@@ -1,0 +1,55 @@
+-- `techniques::box_lines::line_at` meets its contract. Assumes nothing.
+use mathlib.Core.Path.{_≡_, sym, _∙_}
+use borrow.Author.Needs.{needs}
+use Rattle.techniques.proofs.BoxLines.{line-lost, line-kept}
+use Rattle.techniques.proofs.box_lines.line_at.Statement.{statement}
+use Rattle.techniques.proofs.box_lines.line_at.Tie as tie
+
+line-places-requires : tie.Need-line-places-requires
+line-places-requires c κs = search needs
+
+lose-requires : tie.Need-lose-requires
+lose-requires c κs = search needs
+
+is-none-requires : tie.Need-is-none-requires
+is-none-requires c κs = search needs
+
+line-unit-requires : tie.Need-line-unit-requires
+line-unit-requires c κs = search needs
+
+outside-box-requires : tie.Need-outside-box-requires
+outside-box-requires c κs = search needs
+
+digit-mask-requires : tie.Need-digit-mask-requires
+digit-mask-requires c κs = search needs
+
+lose-places-requires : tie.Need-lose-places-requires
+lose-places-requires c κs = search needs
+
+returns : tie.Need-returns
+returns c =
+    let a = c .before .before .before .before .before .before .before .before .before .args in
+    let w = c .before .before .before .before .before .before in
+    c .lose-places .ensures
+    ∙ line-lost (a .givens .now) (a .block) (a .digit) (a .spots) (a .line) (a .masks .now) (w .before .before .line-places .ensures) (w .before .lose .ensures)
+    (c .before .before .before .line-unit .ensures) (c .before .before .outside-box .ensures) (c .before .digit-mask .ensures) (sym (w .is-none .ensures) ∙ c .before .before .before .before .before .if1 .taken)
+
+returns-2 : tie.Need-returns-2
+returns-2 c =
+    let a = c .before .before .before .before .args in
+    line-kept (a .givens .now) (a .block) (a .digit) (a .spots) (a .line) (a .masks .now) (c .before .before .before .line-places .ensures) (c .before .before .lose .ensures)
+    (sym (c .before .is-none .ensures) ∙ c .if1 .left)
+
+pub line-at-spec : {M : Type 1} → statement M
+line-at-spec =
+    tie.close
+    (tie.spec
+    line-places-requires
+    lose-requires
+    is-none-requires
+    line-unit-requires
+    outside-box-requires
+    digit-mask-requires
+    lose-places-requires
+    returns
+    returns-2)

@@ -1,0 +1,4 @@
+pub mod Places
+pub mod NakedPairs
+pub mod BoxLines
+pub mod Techniques
