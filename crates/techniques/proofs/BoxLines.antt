@@ -1,12 +1,12 @@
 -- Box-line by places: what a turn does, and that the turns are those of module 4. A box keeps its masks, so they are read once. Assumes nothing.
 use mathlib.Core.Path.{_≡_, refl, sym, ap, _∙_}
 use mathlib.Core.Bool.{Bool, true, false, cond, not, _&&_, _||_, true≢false}
-use mathlib.Core.List.{List, [], _∷_}
+use mathlib.Core.List.{List}
 use Prim.Native.Nat.{ℕ, _+_, _-_, _*_, _/_, _%_, _^_, _≤_, _<_}
 use native.Mathlib.Decide.{decLt}
 use native.Mathlib.Omega.{arith}
 use borrow.Author.Tests.{eq-eqb, ne-eqb, eqb-true, lt-ltb, le-leb, lt-leb}
-use lib.Dec.{T, eqb, ltb, leb}
+use lib.Dec.{eqb, ltb, leb}
 use Rattle.candidates.specs.Masks.{has, minus, count, single, tail}
 use Rattle.candidates.proofs.Counts.{count-none, count-zero, count-some, count-tail}
 use Rattle.candidates.proofs.Held.{Held, held-ext, none-held, held-minus}
@@ -23,7 +23,8 @@ use Rattle.steps.proofs.Spots.{spots-small, spot-below, has-spots}
 use Rattle.cells.specs.Places.{losePlaces, unitMasks, placesOf}
 use Rattle.cells.proofs.Places.{each-same, each-alike, places-lose, all-kept, unit-masks-same, spots-are}
 use Rattle.techniques.specs.BoxLines.{linePlaces, otherThirds, outsideBox, lineUnit, lineAt, digitLines, blockLines, blockTurn}
-use Rattle.techniques.proofs.UnitPlaces.{single-is, unless}
+use Rattle.techniques.proofs.Loops.{each-unless}
+use Rattle.techniques.proofs.UnitPlaces.{agree, agreed, single-is, unless}
 
 -- ---- one turn of the code
 
@@ -40,17 +41,6 @@ module _ (g : List ℕ) (b d s k : ℕ) (m : List ℕ) {on rest : ℕ} (is-on : 
   line-kept t = sym (cond-false (eqb (count (minus s (linePlaces k))) 0) (losePlaces (isOpen g) (lineUnit b k) (outsideBox b k) (single d) m) m (test ∙ t))
 
 -- ---- the two kinds of places, by one test over all boxes, lines and places
-
-agree : Bool → Bool → Bool
-agree true t = t
-agree false t = not t
-
-agreed : (s t : Bool) → T (agree s t) → s ≡ t
-unfolding agree
-agreed true true a = refl
-agreed true false a = absurd a
-agreed false true a = absurd a
-agreed false false a = refl
 
 module _ (b k : ℕ) (hb : b < 9) (hk : k < 6) where
   on-line : (i : ℕ) → i < 9 → has (linePlaces k) i ≡ inUnit (lineOf b k) (unitCell (18 + b) i)
@@ -168,11 +158,6 @@ module _ (g : List ℕ) (b d k : ℕ) (hb : b < 9) (hk : k < 6) (m : List ℕ) w
 
 -- ---- the loops
 
-each-idle : {A S : Type 0} (xs : List A) (s : S) → each (λ x s. s) xs s ≡ s
-unfolding each
-each-idle [] s = refl
-each-idle (x ∷ xs) s = each-idle xs s
-
 module _ (g nine : List ℕ) (b : ℕ) (hb : b < 9) where
   -- the box holds what it held
   abbrev Kept : List ℕ → Type 0
@@ -183,28 +168,20 @@ module _ (g nine : List ℕ) (b : ℕ) (hb : b < 9) where
 
   digit-is : (d : ℕ) → d < 9 → (m : List ℕ) → Kept m → (digitLines g b d (placesOf nine d) m ≡ lines d m) × Kept (lines d m)
   unfolding digitLines
-  digit-is d hd m p = go (eqb (count (tail (placesOf nine d))) 0) refl
+  digit-is d hd m p = (each-unless few (lineAt g b d (placesOf nine d)) (upTo 6) m ∙ w .0, w .1)
     where
-      turn : ℕ → List ℕ → List ℕ
-      turn k n = cond (eqb (count (tail (placesOf nine d))) 0) n (lineAt g b d (placesOf nine d) k n)
+      few : Bool
+      few = eqb (count (tail (placesOf nine d))) 0
 
-      same : (k : ℕ) → k < 6 → (n : List ℕ) → Kept n → turn k n ≡ boxLineAt g (18 + b) (lineOf b k) d n
+      same : (k : ℕ) → k < 6 → (n : List ℕ) → Kept n → cond few n (lineAt g b d (placesOf nine d) k n) ≡ boxLineAt g (18 + b) (lineOf b k) d n
       same k hk n q =
           let e : spots g n (18 + b) d ≡ placesOf nine d = sym (spots-are g n (18 + b) d (omega arith)) ∙ ap (λ (x : List ℕ). placesOf x d) q in
           sym (line-is g b d k hb hk n hd ∙ ap (λ (s : ℕ). cond (eqb (count (tail s)) 0) n (lineAt g b d s k n)) e)
 
-      all-lines : (f : ℕ → List ℕ → List ℕ) → ((k : ℕ) (n : List ℕ) → f k n ≡ turn k n) → (each f (upTo 6) m ≡ lines d m) × Kept (lines d m)
-      all-lines f e =
-          each-alike f (λ k. boxLineAt g (18 + b) (lineOf b k) d) Kept (upTo 6)
-          (λ k l n q. (e k n ∙ same k (in-upTo 6 k l) n q, box-kept g b d k hb (in-upTo 6 k l) n ∙ q)) m p
-
-      go : (t : Bool) → eqb (count (tail (placesOf nine d))) 0 ≡ t → (cond (eqb (count (tail (placesOf nine d))) 0) m (each (lineAt g b d (placesOf nine d)) (upTo 6) m) ≡ lines d m) × Kept (lines d m)
-      go true t =
-          let w = all-lines (λ k n. n) (λ k n. sym (cond-true (eqb (count (tail (placesOf nine d))) 0) n (lineAt g b d (placesOf nine d) k n) t)) in
-          (cond-true (eqb (count (tail (placesOf nine d))) 0) m (each (lineAt g b d (placesOf nine d)) (upTo 6) m) t ∙ sym (each-idle (upTo 6) m) ∙ w .0, w .1)
-      go false t =
-          let w = all-lines (lineAt g b d (placesOf nine d)) (λ k n. sym (cond-false (eqb (count (tail (placesOf nine d))) 0) n (lineAt g b d (placesOf nine d) k n) t)) in
-          (cond-false (eqb (count (tail (placesOf nine d))) 0) m (each (lineAt g b d (placesOf nine d)) (upTo 6) m) t ∙ w .0, w .1)
+      w : (each (λ k n. cond few n (lineAt g b d (placesOf nine d) k n)) (upTo 6) m ≡ lines d m) × Kept (lines d m)
+      w =
+          each-alike (λ k n. cond few n (lineAt g b d (placesOf nine d) k n)) (λ k. boxLineAt g (18 + b) (lineOf b k) d) Kept (upTo 6)
+          (λ k l n q. (same k (in-upTo 6 k l) n q, box-kept g b d k hb (in-upTo 6 k l) n ∙ q)) m p
 
   block-is : (m : List ℕ) → Kept m → blockLines g b nine m ≡ each lines (upTo 9) m
   unfolding blockLines

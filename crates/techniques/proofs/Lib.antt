@@ -2,3 +2,4 @@ pub mod Loops
 pub mod UnitPlaces
 pub mod NakedPairs
 pub mod BoxLines
+pub mod XWings

@@ -1,10 +1,10 @@
--- Places of a unit: all but two of them. Assumes nothing.
+-- Places of a unit: all but two of them, and what cells they are. Assumes nothing.
 use mathlib.Core.Path.{_≡_, refl, sym, ap, _∙_}
 use mathlib.Core.Bool.{Bool, true, false, cond, not, _&&_, _||_}
 use Prim.Native.Nat.{ℕ, _^_, _<_}
 use native.Mathlib.Omega.{arith}
 use borrow.Author.Tests.{lt-ltb, eq-eqb, eqb-true}
-use lib.Dec.{eqb, ltb}
+use lib.Dec.{T, eqb, ltb}
 use Rattle.candidates.specs.Masks.{bit, has, minus, single}
 use Rattle.candidates.proofs.Held.{held-power, has-minus}
 use Rattle.candidates.proofs.Membership.{bit-all}
@@ -12,6 +12,18 @@ use Rattle.candidates.proofs.Tests.{cond-true, bool-iff, eqb-iff}
 use Rattle.grid.specs.Units.{unitCell}
 use Rattle.grid.proofs.Units.{same-place}
 use Rattle.techniques.specs.Places.{allBut}
+
+-- two tests that say the same, as a test
+unfoldable pub agree : Bool → Bool → Bool
+agree true t = t
+agree false t = not t
+
+pub agreed : (s t : Bool) → T (agree s t) → s ≡ t
+unfolding agree
+agreed true true a = refl
+agreed true false a = absurd a
+agreed false true a = absurd a
+agreed false false a = refl
 
 pub single-is : (d : ℕ) → d < 16 → single d ≡ 2 ^ d
 single-is d h = cond-true (ltb d 16) (2 ^ d) 0 (lt-ltb d 16 h)

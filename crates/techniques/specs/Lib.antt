@@ -1,4 +1,5 @@
 pub mod Places
 pub mod NakedPairs
 pub mod BoxLines
+pub mod XWings
 pub mod Techniques

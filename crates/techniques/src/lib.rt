@@ -1,7 +1,7 @@
 // The ported techniques (modules 3 to 6), with the original's names. A call checks its board first; the modules work on lent givens and masks,
 // where givens are the digit that each cell is given, 0 where it is open, and every function is total.
 ghost use mathlib.Core.Path.{_≡_};
-ghost use Rattle.steps.specs.Calls.{answer, left, nakedPairsCall, boxLineCall};
+ghost use Rattle.steps.specs.Calls.{answer, left, nakedPairsCall, boxLineCall, xWingCall};
 ghost use Rattle.board.specs.Boards.{boardOf};
 ghost use Rattle.progress.specs.Answers.{progressAnswer, flagOf};
 ghost use Rattle.techniques.specs.Techniques.{callOf, masksLeft};
@@ -15,10 +15,12 @@ use progress::taken_to;
 pub mod box_lines;
 pub mod naked_pairs;
 pub mod places;
+pub mod x_wings;
 
 enum Technique {
     NakedPairs,
     BoxLine,
+    XWing,
 }
 
 fn eliminate(technique: Technique, givens: &[u8; 81], masks: &mut [u16; 81])
@@ -27,6 +29,7 @@ fn eliminate(technique: Technique, givens: &[u8; 81], masks: &mut [u16; 81])
     match technique {
         Technique::NakedPairs => naked_pairs::naked_pairs(givens, masks),
         Technique::BoxLine => box_lines::box_lines(givens, masks),
+        Technique::XWing => x_wings::x_wings(givens, masks),
     }
 }
 
@@ -53,4 +56,10 @@ pub fn apply_box_line_reduction(board: Board) -> Eliminated
     ensures { λ r. ⌜ (progressAnswer (r .answer) ≡ flagOf (answer boxLineCall (boardOf board))) × (boardOf (r .board) ≡ left (boardOf board) (answer boxLineCall (boardOf board))) ⌝ }
 {
     apply(Technique::BoxLine, board)
+}
+
+pub fn apply_x_wing(board: Board) -> Eliminated
+    ensures { λ r. ⌜ (progressAnswer (r .answer) ≡ flagOf (answer xWingCall (boardOf board))) × (boardOf (r .board) ≡ left (boardOf board) (answer xWingCall (boardOf board))) ⌝ }
+{
+    apply(Technique::XWing, board)
 }

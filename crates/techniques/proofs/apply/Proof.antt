@@ -19,6 +19,7 @@ eliminates : (t : Technique) (g m : List ℕ) → outcome (callOf t) g m ≡ eli
 unfolding outcome
 eliminates technique.NakedPairs g m = refl
 eliminates technique.BoxLine g m = refl
+eliminates technique.XWing g m = refl
 
 check-requires : tie.Need-check-requires
 check-requires c κs = search needs

@@ -1,0 +1,136 @@
+-- The peers of a cell lose digits: the others of its row, its column and its box do. Assumes nothing.
+use mathlib.Core.Path.{_≡_, refl, sym, ap, _∙_}
+use mathlib.Core.Logic.{_⊎_, _↔_, _≢_, inl, inr, ⊎-elim}
+use mathlib.Core.Bool.{Bool, true, false, cond, not, _||_, true≢false}
+use mathlib.Core.List.{List, _++_, List·Memᴰ, List·Memᴰ·append-cases, Memᴰ·append-left, Memᴰ·append-right}
+use Prim.Native.Nat.{ℕ, _+_, _*_, _%_, _<_}
+use native.Mathlib.Omega.{arith}
+use borrow.Author.Tests.{eq-eqb, eqb-true, eqb-false, ne-eqb}
+use lib.Dec.{eqb, eqb→eq}
+use Rattle.candidates.specs.Masks.{has, minus, single}
+use Rattle.candidates.proofs.Held.{Held}
+use Rattle.candidates.proofs.Tests.{below, both-right, eqb-sym}
+use Rattle.grid.specs.Cells.{row, col, box, aligned, sees, peers}
+use Rattle.grid.specs.Units.{units, unit, unitCell, inUnit, Member}
+use Rattle.grid.proofs.Cells.{row-below, col-below, box-below, share-sees, sees-differ, peer-sees, sees-peer}
+use Rattle.grid.proofs.Units.{in-row, in-col, in-box, in-member, member-in, member-below, member-mem, mem-member}
+use Rattle.steps.specs.Boards.{isOpen}
+use Rattle.steps.specs.Loops.{each}
+use Rattle.steps.specs.Steps.{loseAt, loseAll}
+use Rattle.steps.proofs.Loops.{each-append}
+use Rattle.steps.proofs.Losses.{Lost, held-unless}
+use Rattle.cells.specs.Places.{losePlaces}
+use Rattle.passes.specs.Turns.{othersLose, peersLose}
+use Rattle.passes.proofs.Losing.{places-lose, lose-same}
+use Rattle.passes.proofs.NineBits.{has-except, has-place, cond-not}
+
+-- ---- the others of a unit
+
+pub others-lose : (g : List ℕ) (u i k : ℕ) (m : List ℕ) → u < 27 → i < 9 → losePlaces (isOpen g) u (minus 511 (single i)) k m ≡ othersLose g u i k m
+unfolding othersLose
+others-lose g u i k m h l = places-lose (isOpen g) u (minus 511 (single i)) k (λ e. cond (eqb e (unitCell u i)) 0 k) m h at-place
+  where
+    spares : (j : ℕ) → j < 9 → has (minus 511 (single i)) j ≡ not (eqb (unitCell u j) (unitCell u i))
+    spares j n = has-except (single i) j n ∙ ap not (has-place u i j h l n)
+
+    at-place : (j : ℕ) → j < 9 → cond (eqb (unitCell u j) (unitCell u i)) 0 k ≡ cond (has (minus 511 (single i)) j) k 0
+    at-place j n = cond-not (eqb (unitCell u j) (unitCell u i)) 0 k ∙ ap (λ (t : Bool). cond t k 0) (sym (spares j n))
+
+-- ---- a cell in its three units
+
+abbrev boxPlace : ℕ → ℕ
+boxPlace c = 3 * (row c % 3) + col c % 3
+
+in-its-row : (c : ℕ) → c < 81 → unitCell (row c) (col c) ≡ c
+unfolding unit units
+in-its-row c h = eqb→eq (unitCell (row c) (col c)) c (below 81 (λ c. eqb (unitCell (row c) (col c)) c) tt c h)
+
+in-its-col : (c : ℕ) → c < 81 → unitCell (9 + col c) (row c) ≡ c
+unfolding unit units
+in-its-col c h = eqb→eq (unitCell (9 + col c) (row c)) c (below 81 (λ c. eqb (unitCell (9 + col c) (row c)) c) tt c h)
+
+in-its-box : (c : ℕ) → c < 81 → unitCell (18 + box c) (boxPlace c) ≡ c
+unfolding unit units
+in-its-box c h = eqb→eq (unitCell (18 + box c) (boxPlace c)) c (below 81 (λ c. eqb (unitCell (18 + box c) (boxPlace c)) c) tt c h)
+
+module _ (c : ℕ) (within : c < 81) where
+  its : List ℕ
+  its = unit (row c) ++ (unit (9 + col c) ++ unit (18 + box c))
+
+  row-unit : row c < 27
+  row-unit = omega (arith, row-below c within)
+
+  col-unit : 9 + col c < 27
+  col-unit = omega (arith, col-below c)
+
+  box-unit : 18 + box c < 27
+  box-unit = omega (arith, box-below c within)
+
+  -- an other cell of the three sees the cell, and only such a one
+  its-sees : (e : ℕ) → List·Memᴰ e its → c ≢ e → List·Memᴰ e (peers c)
+  unfolding its
+  its-sees e k n = ⊎-elim (λ l. seen (row c) row-unit (in-row (row c) c (row-below c within) ∙ eq-eqb (row c) (row c) refl) l)
+      (λ l. ⊎-elim (λ r. seen (9 + col c) col-unit (in-col (col c) c (col-below c) ∙ eq-eqb (col c) (col c) refl) r)
+      (λ r. seen (18 + box c) box-unit (in-box (box c) c (box-below c within) ∙ eq-eqb (box c) (box c) refl) r)
+      (List·Memᴰ·append-cases (unit (9 + col c)) l)) (List·Memᴰ·append-cases (unit (row c)) k)
+    where
+      seen : (u : ℕ) → u < 27 → inUnit u c ≡ true → List·Memᴰ e (unit u) → List·Memᴰ e (peers c)
+      seen u h t l =
+          let p : Member u e = mem-member h l in
+          sees-peer c e (member-below h p) (share-sees u c e h n t (member-in h p))
+
+  sees-its : (e : ℕ) → List·Memᴰ e (peers c) → List·Memᴰ e its
+  unfolding its
+  sees-its e k =
+      let p = peer-sees c e k in
+      go (p .0) (eqb (row c) (row e)) (eqb (col c) (col e)) (eqb (box c) (box e)) refl refl refl (both-right (not (eqb c e)) (aligned c e) (p .1))
+    where
+      go : e < 81 → (p q r : Bool) → eqb (row c) (row e) ≡ p → eqb (col c) (col e) ≡ q → eqb (box c) (box e) ≡ r → (p || q || r) ≡ true → List·Memᴰ e its
+      go h true q r x y z t =
+          Memᴰ·append-left (unit (9 + col c) ++ unit (18 + box c))
+          (member-mem row-unit (in-member (row c) e row-unit h (in-row (row c) e (row-below c within) ∙ eqb-sym (row e) (row c) ∙ x)))
+      go h false true r x y z t =
+          Memᴰ·append-right (unit (row c)) (Memᴰ·append-left (unit (18 + box c))
+          (member-mem col-unit (in-member (9 + col c) e col-unit h (in-col (col c) e (col-below c) ∙ eqb-sym (col e) (col c) ∙ y))))
+      go h false false true x y z t =
+          Memᴰ·append-right (unit (row c)) (Memᴰ·append-right (unit (9 + col c))
+          (member-mem box-unit (in-member (18 + box c) e box-unit h (in-box (box c) e (box-below c within) ∙ eqb-sym (box e) (box c) ∙ z))))
+      go h false false false x y z t = absurd (true≢false (sym t))
+
+  module _ (g : List ℕ) (k : ℕ) where
+    but : ℕ → ℕ
+    but e = cond (eqb e c) 0 k
+
+    lost : (e d : ℕ) → Lost (isOpen g) but its e d ↔ Lost (isOpen g) (λ _. k) (peers c) e d
+    unfolding but
+    lost e d = (λ l. down l (held-unless (eqb e c) k d .0 (l .digit)), λ l. up l)
+      where
+        down : Lost (isOpen g) but its e d → (eqb e c ≡ false) × Held k d → Lost (isOpen g) (λ _. k) (peers c) e d
+        down l w = record { listed = its-sees e (l .listed) (λ q. eqb-false e c (w .0) (sym q)); free = l .free; digit = w .1 }
+
+        up : Lost (isOpen g) (λ _. k) (peers c) e d → Lost (isOpen g) but its e d
+        up l = record {
+          listed = sees-its e (l .listed);
+          free = l .free;
+          digit = held-unless (eqb e c) k d .1 (ne-eqb e c (λ q. sees-differ c e (peer-sees c e (l .listed) .1) (sym q)), l .digit);
+        }
+
+    one-unit : (u i : ℕ) (m : List ℕ) → unitCell u i ≡ c → othersLose g u i k m ≡ loseAll (isOpen g) (unit u) but m
+    unfolding othersLose but
+    one-unit u i m e = ap (λ (x : ℕ). loseAll (isOpen g) (unit u) (λ y. cond (eqb y x) 0 k) m) e
+
+    pub peers-lose : (m : List ℕ) → othersLose g (18 + box c) (boxPlace c) k (othersLose g (9 + col c) (row c) k (othersLose g (row c) (col c) k m)) ≡ peersLose g c k m
+    unfolding peersLose its
+    peers-lose m =
+        one-unit (18 + box c) (boxPlace c) _ (in-its-box c within)
+        ∙ ap (loseAll (isOpen g) (unit (18 + box c)) but) (one-unit (9 + col c) (row c) _ (in-its-col c within) ∙ ap (loseAll (isOpen g) (unit (9 + col c)) but) (one-unit (row c) (col c) m (in-its-row c within)))
+        ∙ sym (each-append turn (unit (row c)) (unit (9 + col c) ++ unit (18 + box c)) m ∙ each-append turn (unit (9 + col c)) (unit (18 + box c)) (each turn (unit (row c)) m))
+        ∙ lose-same (isOpen g) but (λ _. k) its (peers c) m lost
+      where
+        turn : ℕ → List ℕ → List ℕ
+        turn e = loseAt (isOpen g) e (but e)
+
+    -- the same, unit after unit
+    pub unit-by-unit : (m x y z : List ℕ) (r w b : ℕ) → r ≡ row c → w ≡ col c → b ≡ box c
+        → x ≡ othersLose g r w k m → y ≡ othersLose g (9 + w) r k x → z ≡ othersLose g (18 + b) (3 * (r % 3) + w % 3) k y → z ≡ peersLose g c k m
+    unit-by-unit m x y z r w b er ew eb p q s = cc (peers-lose m)

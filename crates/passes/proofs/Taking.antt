@@ -1,0 +1,63 @@
+-- A step is taken where its test passes, and leaves the masks where it does not; the steps of Lone. Assumes nothing.
+use mathlib.Core.Path.{_≡_, refl, sym, ap, _∙_}
+use mathlib.Core.Bool.{Bool, true, false, cond, _&&_}
+use mathlib.Core.List.{List, [], _∷_}
+use Prim.Native.Nat.{ℕ, _-_, _^_, _<_}
+use native.Mathlib.Omega.{arith}
+use borrow.Author.Tests.{lt-ltb}
+use lib.Bits.{bitAnd}
+use lib.Dec.{eqb, ltb}
+use Rattle.candidates.specs.Masks.{minus, count, single, Sub}
+use Rattle.candidates.proofs.Counts.{test-none}
+use Rattle.candidates.proofs.Tests.{cond-true, cond-false}
+use Rattle.steps.specs.Boards.{at, isOpen}
+use Rattle.steps.specs.Instances.{only, except, lone, loneStep, stepOf, lones}
+use Rattle.steps.specs.Loops.{each, for, upTo}
+use Rattle.steps.specs.Passes.{Lone, instances, instanceTaken, pass}
+use Rattle.steps.specs.Steps.{Step, lacks, applies, loseAll, take}
+use Rattle.cells.specs.Places.{maskAt}
+use Rattle.passes.specs.Turns.{peersLose, loneCell}
+use Rattle.passes.proofs.NineBits.{single-is, except-single}
+use Rattle.passes.proofs.Turns.{each-one, each-in}
+
+module _ (free : ℕ → Bool) (s : Step) (m : List ℕ) where
+  pub taken : applies s m ≡ true → loseAll free (s .hits) (s .loses) m ≡ take free s m
+  unfolding take
+  taken t = sym (cond-true (applies s m) (loseAll free (s .hits) (s .loses) m) m t)
+
+  pub left-alone : applies s m ≡ false → m ≡ take free s m
+  unfolding take
+  left-alone t = sym (cond-false (applies s m) (loseAll free (s .hits) (s .loses) m) m t)
+
+pub mask-at : (m : List ℕ) (c : ℕ) → c < 81 → maskAt m c ≡ at m c
+mask-at m c h = cond-true (ltb c 81) (at m c) 0 (lt-ltb c 81 h)
+
+pub and-true : (t : Bool) → (t && true) ≡ t
+and-true true = refl
+and-true false = refl
+
+-- ---- Lone
+
+-- the test of an instance, as code makes it
+abbrev pub loneTest : List ℕ → ℕ → ℕ → Bool
+loneTest m c d = eqb (count (bitAnd (maskAt m c) (minus 511 (single d)))) 0
+
+lone-applies : (m : List ℕ) (c d : ℕ) → c < 81 → d < 9 → loneTest m c d ≡ applies (loneStep c d) m
+lone-applies m c d h l =
+    sym (test-none (bitAnd (maskAt m c) (minus 511 (single d))))
+    ∙ ap (λ (x : ℕ). eqb (bitAnd x (minus 511 (single d))) 0) (mask-at m c h)
+    ∙ ap (λ (k : ℕ). eqb (bitAnd (at m c) k) 0) (except-single d l)
+    ∙ sym (and-true (lacks m c (except (only d))))
+
+module _ (g m : List ℕ) (c d : ℕ) (h : c < 81) (l : d < 9) where
+  pub lone-taken : loneTest m c d ≡ true → peersLose g c (single d) m ≡ instanceTaken g (lone c d) m
+  unfolding stepOf peersLose
+  lone-taken t = ap (λ (k : ℕ). peersLose g c k m) (single-is d l) ∙ taken (isOpen g) (loneStep c d) m (sym (lone-applies m c d h l) ∙ t)
+
+  pub lone-left : loneTest m c d ≡ false → m ≡ instanceTaken g (lone c d) m
+  unfolding stepOf
+  lone-left t = left-alone (isOpen g) (loneStep c d) m (sym (lone-applies m c d h l) ∙ t)
+
+pub lone-pass : (g m : List ℕ) → pass g Lone m ≡ each (loneCell g) (upTo 81) m
+unfolding pass instances lones loneCell
+lone-pass g m = each-in (instanceTaken g) (upTo 81) (λ c. for (upTo 9) λ d. lone c d ∷ []) (loneCell g) (λ c n. each-one (instanceTaken g) (upTo 9) (lone c) n) m

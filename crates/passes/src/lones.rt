@@ -1,0 +1,62 @@
+// Lone, by cells and instances.
+ghost use mathlib.Core.Path.{_≡_};
+ghost use Prim.Native.Nat.{_<_};
+ghost use Rattle.steps.specs.Instances.{lone};
+ghost use Rattle.steps.specs.Passes.{instanceTaken};
+ghost use Rattle.passes.specs.Turns.{othersLose, peersLose, loneCell};
+use candidates::masks;
+use cells::lose_places;
+use cells::mask_at;
+use grid::box_of;
+use grid::col_of;
+use grid::row_of;
+
+// The other open cells of the unit lose the digits of `lost`.
+fn lose_others(givens: &[u8; 81], masks: &mut [u16; 81], unit: usize, place: usize, lost: u16)
+    requires { ⌜ (unit < 27) × (place < 9) ⌝ }
+    ensures { λ _. ⌜ now (masks .exit) ≡ othersLose (now (givens .entry)) unit place lost (now (masks .entry)) ⌝ }
+{
+    let places = masks::lose(511, masks::digit_mask(place));
+    lose_places(givens, masks, unit, places, lost);
+}
+
+// A cell's peers are the other cells of its row, its column and its box.
+fn lose_peers(givens: &[u8; 81], masks: &mut [u16; 81], cell: usize, lost: u16)
+    requires { ⌜ cell < 81 ⌝ }
+    ensures { λ _. ⌜ now (masks .exit) ≡ peersLose (now (givens .entry)) cell lost (now (masks .entry)) ⌝ }
+{
+    let row = row_of(cell);
+    let col = col_of(cell);
+    lose_others(givens, masks, row, col, lost);
+    lose_others(givens, masks, 9 + col, row, lost);
+    lose_others(
+        givens,
+        masks,
+        18 + box_of(cell),
+        3 * (row % 3) + col % 3,
+        lost,
+    );
+}
+
+// One instance.
+fn lone_at(givens: &[u8; 81], masks: &mut [u16; 81], cell: usize, digit: usize)
+    requires { ⌜ (cell < 81) × (digit < 9) ⌝ }
+    ensures { λ _. ⌜ now (masks .exit) ≡ instanceTaken (now (givens .entry)) (lone cell digit) (now (masks .entry)) ⌝ }
+{
+    let one = masks::digit_mask(digit);
+    if masks::is_none(masks::meet(mask_at(masks, cell), masks::lose(511, one))) {
+        lose_peers(givens, masks, cell, one);
+    }
+}
+
+// The instances of a cell.
+pub fn lone_cell(givens: &[u8; 81], masks: &mut [u16; 81], cell: usize)
+    requires { ⌜ cell < 81 ⌝ }
+    ensures { λ _. ⌜ now (masks .exit) ≡ loneCell (now (givens .entry)) cell (now (masks .entry)) ⌝ }
+{
+    let mut digit: usize = 0;
+    while digit < 9 {
+        lone_at(givens, masks, cell, digit);
+        digit += 1;
+    }
+}

@@ -1,0 +1,50 @@
+// Place, by units, digits and instances.
+ghost use mathlib.Core.Path.{_≡_};
+ghost use Prim.Native.Nat.{_<_};
+ghost use Rattle.passes.specs.Turns.{placeTurn, placeDigit, placeUnit};
+use crate::holders::held_places;
+use candidates::masks;
+use cells::lose_at;
+use grid::unit_cell;
+
+// One instance, where `held` are the places that hold the digit.
+fn place_at(
+    givens: &[u8; 81],
+    masks: &mut [u16; 81],
+    unit: usize,
+    digit: usize,
+    held: u16,
+    place: usize,
+)
+    requires { ⌜ (unit < 27) × (digit < 9) × (place < 9) ⌝ }
+    ensures { λ _. ⌜ now (masks .exit) ≡ placeTurn (now (givens .entry)) unit digit held place (now (masks .entry)) ⌝ }
+{
+    if masks::is_none(masks::lose(held, masks::digit_mask(place))) {
+        let others = masks::lose(511, masks::digit_mask(digit));
+        lose_at(givens, masks, unit_cell(unit, place), others);
+    }
+}
+
+// The instances of a digit. None of them changes which places hold it.
+fn place_digit(givens: &[u8; 81], masks: &mut [u16; 81], unit: usize, digit: usize)
+    requires { ⌜ (unit < 27) × (digit < 9) ⌝ }
+    ensures { λ _. ⌜ now (masks .exit) ≡ placeDigit (now (givens .entry)) unit digit (now (masks .entry)) ⌝ }
+{
+    let held = held_places(masks, unit, digit);
+    let mut place: usize = 0;
+    while place < 9 {
+        place_at(givens, masks, unit, digit, held, place);
+        place += 1;
+    }
+}
+
+pub fn place_unit(givens: &[u8; 81], masks: &mut [u16; 81], unit: usize)
+    requires { ⌜ unit < 27 ⌝ }
+    ensures { λ _. ⌜ now (masks .exit) ≡ placeUnit (now (givens .entry)) unit (now (masks .entry)) ⌝ }
+{
+    let mut digit: usize = 0;
+    while digit < 9 {
+        place_digit(givens, masks, unit, digit);
+        digit += 1;
+    }
+}
