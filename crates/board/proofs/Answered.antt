@@ -5,7 +5,7 @@ use mathlib.Core.List.{List}
 use mathlib.Core.Option.{Option, none, some}
 use Prim.Native.Nat.{ℕ, suc, _+_, _-_, _<_, _≤_}
 use native.Mathlib.Omega.{arith}
-use borrow.Author.Tests.{lt-ltb, le-ltb, eqb-true}
+use borrow.Author.Tests.{not-true, not-false, lt-ltb, le-ltb, eqb-true}
 use lib.Dec.{eqb, ltb}
 use lib.IntN.{ℤ, pos}
 use Rattle.candidates.specs.Answer.{gives, stop}
@@ -26,6 +26,14 @@ use Rattle.steps.proofs.Loops.{first-none, upTo-in}
 use Rattle.board.specs.Answers.{beside, passes}
 use Rattle.board.specs.Boards.{handed, firstBadClue, clueCount, maskOr5, Finished, Open, Dead, noneEmpty, allSingle, verdictOf, verdictRead}
 use Rattle.board.proofs.Searches.{all-cells}
+
+-- p is what the check answered, o what it must answer, and t whether it refused nothing
+module _ {p o : Option (ℕ × ℕ)} {t : Bool} (check : p ≡ o) (is : t ≡ passes p) where
+  pub was-good : not t ≡ false → passes o ≡ true
+  was-good e = ap passes (sym check) ∙ sym is ∙ not-false t e
+
+  pub was-refused : not t ≡ true → passes o ≡ false
+  was-refused e = ap passes (sym check) ∙ sym is ∙ not-true t e
 
 module _ {A : Type 0} (o : Option (ℕ × ℕ)) (a z : A) where
   pub good-beside : passes o ≡ true → a ≡ beside (checked o a) z

@@ -12,10 +12,10 @@ use Rattle.candidates.specs.Masks.{minus}
 use Rattle.candidates.proofs.Order.{sub-refl, minus-of-sub}
 use Rattle.grid.specs.Cells.{cells}
 use Rattle.steps.specs.Boards.{at, givensOf, given, fresh}
-use Rattle.steps.specs.Calls.{badMask, firstStop, refusal, opened}
+use Rattle.steps.specs.Calls.{badMask, refusal, opened}
 use Rattle.steps.specs.Loops.{first}
 use Rattle.steps.proofs.Fresh.{fresh-at}
-use Rattle.board.specs.Boards.{handed, firstBadClue, misfitOf, firstMisfit, openedOr, openOf}
+use Rattle.board.specs.Boards.{handed, stops, firstBadClue, misfitOf, firstMisfit, openedOr, openOf}
 use Rattle.board.proofs.Searches.{first-cells}
 
 -- ---- one mask
@@ -44,23 +44,16 @@ module _ (x f d : ℕ) where
 
 -- ---- the two searches
 
-module _ (clues : List ℤ) (masks : List ℕ) where
-  -- the first cell of stop 9, if no clue is bad
-  badMasks : Option ℕ
-  badMasks = first (badMask (givensOf clues) masks) cells
-
-  pub clue-refused : {c : ℕ} → firstBadClue clues ≡ some c → some (3, c) ≡ refusal (handed clues masks)
-  unfolding refusal badMasks
-  clue-refused e = sym (ap (λ (x : Option ℕ). firstStop 3 x (firstStop 9 badMasks none)) e)
-
-  pub clues-good : firstBadClue clues ≡ none → {g f : List ℕ} → g ≡ givensOf clues → f ≡ fresh g → {r : Option ℕ} → firstMisfit g f masks ≡ r → firstStop 9 r none ≡ refusal (handed clues masks)
-  unfolding refusal badMasks
-  clues-good e {g} {f} p q {r} m =
-      ap (λ (x : Option ℕ). firstStop 9 x none) (sym m ∙ ap (λ (f : List ℕ). firstMisfit g f masks) q ∙ same g ∙ ap (λ (g : List ℕ). first (badMask g masks) cells) p)
-      ∙ sym (ap (λ (x : Option ℕ). firstStop 3 x (firstStop 9 badMasks none)) e)
-    where
-      same : (g : List ℕ) → firstMisfit g (fresh g) masks ≡ first (badMask g masks) cells
-      same g = first-cells (λ c. misfitOf (at masks c) (at (fresh g) c) (given g c)) (badMask g masks) (λ c h. ap (λ (f : ℕ). misfitOf (at masks c) f (given g c)) (fresh-at g c h))
+pub checks : (clues : List ℤ) (masks : List ℕ) {g f : List ℕ} → g ≡ givensOf clues → f ≡ fresh g → stops (firstBadClue clues) (firstMisfit g f masks) ≡ refusal (handed clues masks)
+unfolding refusal
+checks clues masks {g} {f} p q =
+    ap (stops (firstBadClue clues))
+    (ap (λ (f : List ℕ). firstMisfit g f masks) q ∙ same g ∙ ap (λ (g : List ℕ). first (badMask g masks) cells) p)
+  where
+    same : (g : List ℕ) → firstMisfit g (fresh g) masks ≡ first (badMask g masks) cells
+    same g =
+        first-cells (λ c. misfitOf (at masks c) (at (fresh g) c) (given g c)) (badMask g masks)
+        (λ c h. ap (λ (f : ℕ). misfitOf (at masks c) f (given g c)) (fresh-at g c h))
 
 -- ---- the opener
 

@@ -12,7 +12,7 @@ use Rattle.grid.specs.Cells.{cells}
 use Rattle.grid.specs.Lists.{all}
 use Rattle.steps.specs.Boards as S
 use Rattle.steps.specs.Boards.{at, given, isOpen}
-use Rattle.steps.specs.Calls.{badClue, misfit, opened}
+use Rattle.steps.specs.Calls.{badClue, misfit, firstStop, opened}
 use Rattle.steps.specs.Loops.{first}
 use Rattle.board.specs.declared.Board.{Board}
 
@@ -45,6 +45,10 @@ misfitOf x f d = misfit x f (eqb d 0)
 -- the first mask that stands wrong beside the fresh ones
 abbrev pub firstMisfit : List ℕ → List ℕ → List ℕ → Option ℕ
 firstMisfit g f m = first (λ c. misfitOf (at m c) (at f c) (given g c)) cells
+
+-- stop 3 with the first bad clue, then stop 9 with the first bad mask
+abbrev pub stops : Option ℕ → Option ℕ → Option (ℕ × ℕ)
+stops clue mask = firstStop 3 clue (firstStop 9 mask none)
 
 -- ---- the opener
 

@@ -7,7 +7,7 @@ ghost use Rattle.steps.specs.Boards.{givensOf};
 ghost use Rattle.steps.specs.Calls.{refusal, checked, updateCandidates, answer, left};
 ghost use Rattle.board.specs.Answers.{beside, foundCell, passes, refusalOf};
 ghost use Rattle.board.specs.Answers.{cellMaskAnswer, countingAnswer, openingAnswer, verdictAnswer};
-ghost use Rattle.board.specs.Boards.{boardOf, clueCount, firstMisfit, handed, maskOr5, misfitOf, noBoard, noClues, noMasks, openOf, thenAnswer, verdictOf};
+ghost use Rattle.board.specs.Boards.{boardOf, clueCount, firstMisfit, handed, maskOr5, misfitOf, noBoard, noClues, noMasks, openOf, stops, thenAnswer, verdictOf};
 use candidates::masks;
 
 pub mod clues;
@@ -138,20 +138,29 @@ fn first_misfit(givens: &[u8; 81], fresh: &[u16; 81], masks: &[u16; 81]) -> Foun
     Found::Nothing
 }
 
+// Stop 3 for a bad clue, before stop 9 for a bad mask.
+fn first_stop(clue: Found, mask: Found) -> Checked
+    ensures { λ r. ⌜ refusalOf r ≡ stops (foundCell clue) (foundCell mask) ⌝ }
+{
+    match clue {
+        Found::At(cell) => Checked::BadClue(cell),
+        Found::Nothing => match mask {
+            Found::At(cell) => Checked::BadMask(cell),
+            Found::Nothing => Checked::Good,
+        },
+    }
+}
+
 // The check of a handed board: stop 3, then stop 9, each with its first cell.
 pub fn check(clues: &[i32; 81], masks: &[u16; 81]) -> Checked
     ensures { λ r. ⌜ refusalOf r ≡ refusal (handed (now (clues .entry)) (now (masks .entry))) ⌝ }
 {
-    match clues::first_bad(clues) {
-        Found::At(cell) => Checked::BadClue(cell),
-        Found::Nothing => {
-            let givens = clues::givens_of(clues);
-            match first_misfit(&givens, &fresh::fresh_masks(&givens), masks) {
-                Found::At(cell) => Checked::BadMask(cell),
-                Found::Nothing => Checked::Good,
-            }
-        }
-    }
+    let givens = clues::givens_of(clues);
+    let fresh = fresh::fresh_masks(&givens);
+    first_stop(
+        clues::first_bad(clues),
+        first_misfit(&givens, &fresh, masks),
+    )
 }
 
 // Whether the check of a handed board refused nothing.

@@ -1,1 +1,1 @@
-pub mod Eliminations
+pub mod Answers

@@ -2,15 +2,15 @@
 use mathlib.Core.Path.{_≡_, refl, sym, ap, _∙_}
 use mathlib.Core.Bool.{Bool, true, false, cond, not, _&&_, _||_, true≢false}
 use mathlib.Core.List.{List}
-use Prim.Native.Nat.{ℕ, _+_, _-_, _*_, _/_, _%_, _^_, _≤_, _<_}
+use Prim.Native.Nat.{ℕ, _+_, _-_, _*_, _/_, _%_, _^_, _<_}
 use native.Mathlib.Decide.{decLt}
 use native.Mathlib.Omega.{arith}
 use borrow.Author.Tests.{eq-eqb, ne-eqb, eqb-true, lt-ltb, le-leb, lt-leb}
 use lib.Dec.{eqb, ltb, leb}
 use Rattle.candidates.specs.Masks.{has, minus, count, single, tail}
-use Rattle.candidates.proofs.Counts.{count-none, count-zero, count-some, count-tail}
+use Rattle.candidates.proofs.Counts.{count-none, count-zero, count-tail}
 use Rattle.candidates.proofs.Held.{Held, held-ext, none-held, held-minus}
-use Rattle.candidates.proofs.Tests.{allBelow, below, below-both, by-test, cond-true, cond-false, bool-iff, both-right}
+use Rattle.candidates.proofs.Tests.{allBelow, below, below-both, by-test, cond-true, cond-false, bool-iff}
 use Rattle.grid.specs.Units.{units, unit, unitCell, inUnit, Member}
 use Rattle.grid.proofs.Units.{at-place, cell-in, member-mem, mem-member}
 use Rattle.steps.specs.Boards.{at, isOpen}

@@ -3,3 +3,5 @@ pub mod UnitPlaces
 pub mod NakedPairs
 pub mod BoxLines
 pub mod XWings
+pub mod ReportLists
+pub mod SinglesFound

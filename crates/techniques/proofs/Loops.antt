@@ -1,7 +1,7 @@
 -- A loop of code over a range: what is left of it after a turn, and at its end; and a loop that stands under a test. Assumes nothing.
 use mathlib.Core.Path.{_≡_, refl, sym, ap, _∙_}
 use mathlib.Core.Bool.{Bool, true, false, cond}
-use mathlib.Core.List.{List, [], _∷_}
+use mathlib.Core.List.{List, [], _∷_, List·Memᴰ, List·Memᴰ·head, List·Memᴰ·tail}
 use Prim.Native.Nat.{ℕ, _+_, _-_, _≤_, _<_}
 use Rattle.grid.proofs.Lists.{each-on, each-end}
 use Rattle.steps.specs.Loops.{each, range}
@@ -12,6 +12,12 @@ module _ {S : Type 0} (f : ℕ → S → S) (n i : ℕ) (s : S) {whole : S} wher
 
   pub ended : n ≤ i → each f (range (n - i) i) s ≡ whole → s ≡ whole
   ended h left = sym (each-end f n i s h) ∙ left
+
+-- a loop whose every turn leaves things as they are
+pub each-stays : {A S : Type 0} (f : A → S → S) (xs : List A) (s : S) → ((x : A) → List·Memᴰ x xs → f x s ≡ s) → each f xs s ≡ s
+unfolding each
+each-stays f [] s h = refl
+each-stays f (x ∷ xs) s h = ap (each f xs) (h x (List·Memᴰ·head refl)) ∙ each-stays f xs s (λ y k. h y (List·Memᴰ·tail k))
 
 -- ---- a test in front of a loop is a test in each turn
 

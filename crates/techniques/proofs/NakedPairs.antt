@@ -1,24 +1,27 @@
 -- Naked pairs by places: what a turn does, and that the turns are those of module 3. Assumes nothing.
 use mathlib.Core.Path.{_≡_, refl, sym, ap, _∙_}
-use mathlib.Core.Bool.{Bool, true, false, cond, _&&_, _||_}
-use mathlib.Core.List.{List}
-use Prim.Native.Nat.{ℕ, _<_}
-use borrow.Author.Tests.{eq-eqb, ne-eqb, eqb-true}
+use mathlib.Core.Bool.{Bool, true, false, cond, not, _&&_, _||_}
+use mathlib.Core.List.{List, List·Memᴰ}
+use Prim.Native.Nat.{ℕ, _+_, _-_, _≤_, _<_}
+use native.Mathlib.Omega.{arith}
+use borrow.Author.Tests.{eq-eqb, ne-eqb, eqb-true, not-true}
 use lib.Dec.{eqb}
 use Rattle.candidates.specs.Masks.{has, count}
 use Rattle.candidates.proofs.Counts.{count-none}
 use Rattle.candidates.proofs.Tests.{cond-true, cond-false, both, both-left}
 use Rattle.grid.specs.Units.{unit, unitCell}
+use Rattle.grid.proofs.Lists.{all-on, all-stop, all-end}
 use Rattle.grid.proofs.Units.{cell-below}
 use Rattle.steps.specs.Boards.{at, isOpen}
-use Rattle.steps.specs.Loops.{each, upTo, above}
+use Rattle.steps.specs.Loops.{each, all, range, upTo, above}
 use Rattle.steps.specs.Ported.{isNakedPair, nakedPairLoss, nakedPairAt, nakedPairs}
 use Rattle.steps.specs.Steps.{loseAll}
-use Rattle.steps.proofs.Loops.{in-upTo, in-above}
-use Rattle.cells.specs.Places.{losePlaces, openMask}
-use Rattle.cells.proofs.Places.{each-same, places-lose, open-mask}
+use Rattle.steps.proofs.Loops.{in-upTo, in-above, all-member, member-all}
+use Rattle.cells.specs.Places.{losePlaces, openMask, unitMasks}
+use Rattle.cells.proofs.Places.{each-same, places-lose, open-mask, unit-mask}
 use Rattle.techniques.specs.Places.{allBut}
-use Rattle.techniques.specs.NakedPairs.{isPair, pairAt, unitPairs}
+use Rattle.techniques.specs.NakedPairs.{isPair, noTwin, pairAt, unitPairs}
+use Rattle.techniques.proofs.Loops.{each-stays}
 use Rattle.techniques.proofs.UnitPlaces.{has-allBut, unless, two-cells}
 
 -- ---- tests
@@ -68,6 +71,42 @@ module _ (g : List ℕ) (u i j : ℕ) (m : List ℕ) {a : ℕ} (first : a ≡ op
 
       B : ℕ
       B = openMask g m (unitCell u j)
+
+-- ---- the search for a twin
+
+module _ (nine : List ℕ) (i : ℕ) where
+  abbrev pub single-out : ℕ → Bool
+  single-out j = not (isPair (at nine i) (at nine j))
+
+  pub twin-past : 9 ≤ i → true ≡ noTwin nine i
+  unfolding noTwin
+  twin-past h = sym (all-end single-out 9 (i + 1) (omega arith))
+
+  pub twin-few : eqb (count (at nine i)) 2 ≡ false → true ≡ noTwin nine i
+  unfolding noTwin
+  twin-few few = sym (member-all single-out (above i 9) (λ j l. ap (λ (t : Bool). not (t && eqb (at nine i) (at nine j))) few))
+
+  module _ (j : ℕ) (h : j < 9) {whole : Bool} (left : all single-out (range (9 - j) j) ≡ whole) where
+    pub twin-found : eqb (count (at nine i)) 2 ≡ true → at nine j ≡ at nine i → false ≡ whole
+    twin-found two same = sym (all-stop single-out 9 j h (ap not (both two (eq-eqb (at nine i) (at nine j) (sym same))))) ∙ left
+
+    pub twin-not : (at nine j ≡ at nine i → ⊥) → all single-out (range (9 - (j + 1)) (j + 1)) ≡ whole
+    twin-not other =
+        sym (all-on single-out 9 j h (ap (λ (t : Bool). not (eqb (count (at nine i)) 2 && t)) (ne-eqb (at nine i) (at nine j) (λ e. other (sym e))) ∙ ap not (and-false (eqb (count (at nine i)) 2)))) ∙ left
+
+-- a first place without a twin changes nothing
+pub no-twin : (g m nine : List ℕ) (u i : ℕ) → i < 9 → nine ≡ unitMasks g m u → noTwin nine i ≡ true → m ≡ each (pairAt g u i) (above i 9) m
+unfolding noTwin pairAt
+no-twin g m nine u i h e t = sym (each-stays (pairAt g u i) (above i 9) m one)
+  where
+    mask : (j : ℕ) → j < 9 → at nine j ≡ openMask g m (unitCell u j)
+    mask j k = ap (λ (l : List ℕ). at l j) e ∙ unit-mask g m u j k
+
+    one : (j : ℕ) → List·Memᴰ j (above i 9) → cond (isPair (openMask g m (unitCell u i)) (openMask g m (unitCell u j))) (losePlaces (isOpen g) u (allBut i j) (openMask g m (unitCell u i)) m) m ≡ m
+    one j l =
+        cond-false (isPair (openMask g m (unitCell u i)) (openMask g m (unitCell u j))) (losePlaces (isOpen g) u (allBut i j) (openMask g m (unitCell u i)) m) m
+        (sym (ap (λ (x : ℕ). isPair x (at nine j)) (mask i h) ∙ ap (isPair (openMask g m (unitCell u i))) (mask j (in-above i 9 j l .1)))
+        ∙ not-true (isPair (at nine i) (at nine j)) (all-member (single-out nine i) (above i 9) t j l))
 
 -- ---- the turns of module 3
 

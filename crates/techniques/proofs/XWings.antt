@@ -3,20 +3,20 @@ use mathlib.Core.Path.{_≡_, refl, sym, ap, _∙_}
 use mathlib.Core.Logic.{inl, inr}
 use mathlib.Core.Bool.{Bool, true, false, cond, _&&_, _||_}
 use mathlib.Core.List.{List, _++_}
-use Prim.Native.Nat.{ℕ, _+_, _^_, _≤_, _<_}
+use Prim.Native.Nat.{ℕ, _+_, _≤_, _<_}
 use native.Mathlib.Nat.{zero-add}
 use native.Mathlib.Omega.{arith}
 use borrow.Author.Tests.{eq-eqb, ne-eqb, eqb-true}
 use lib.Dec.{eqb, lit≤}
 use Rattle.candidates.specs.Masks.{has, count, single, lowest, tail}
-use Rattle.candidates.proofs.FewDigits.{Two, count-two}
+use Rattle.candidates.proofs.FewDigits.{count-two}
 use Rattle.candidates.proofs.Tests.{allBelow, below, below-both, by-test, cond-true, cond-false}
 use Rattle.grid.specs.Units.{units, unit, unitCell, inUnit}
 use Rattle.grid.proofs.Lists.{at-range, each-end}
 use Rattle.steps.specs.Boards.{at, isOpen}
 use Rattle.steps.specs.Instances.{only}
 use Rattle.steps.specs.Loops.{each, upTo, above}
-use Rattle.steps.specs.Ported.{spots, firstAcross, secondAcross, isXWing, xWingAt, xWingDigit, xWings}
+use Rattle.steps.specs.Ported.{spots, xWingAt, xWingDigit, xWings}
 use Rattle.steps.specs.Steps.{loseAt, loseAll}
 use Rattle.steps.proofs.Loops.{each-append, in-upTo, in-above}
 use Rattle.steps.proofs.Spots.{spots-small, spot-below}

@@ -1,8 +1,8 @@
 -- Box-line by places of a box, as the code goes about it; `proofs/BoxLines.antt` shows that it is the box-line of module 4.
 -- b is a box and k one of the six lines that meet it, three rows and then three columns.
-use mathlib.Core.Bool.{Bool, cond}
+use mathlib.Core.Bool.{cond}
 use mathlib.Core.List.{List, [], _∷_}
-use Prim.Native.Nat.{ℕ, _+_, _*_, _/_, _%_}
+use Prim.Native.Nat.{ℕ, _+_, _/_, _%_}
 use lib.Dec.{eqb, ltb}
 use lib.ListN.{getD}
 use Rattle.candidates.specs.Masks.{minus, count, single, tail}

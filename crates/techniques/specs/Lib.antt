@@ -3,3 +3,5 @@ pub mod NakedPairs
 pub mod BoxLines
 pub mod XWings
 pub mod Techniques
+pub mod Reports
+pub mod Singles

@@ -15,6 +15,7 @@ use progress::taken_to;
 pub mod box_lines;
 pub mod naked_pairs;
 pub mod places;
+pub mod singles;
 pub mod x_wings;
 
 enum Technique {

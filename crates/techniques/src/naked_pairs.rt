@@ -2,11 +2,12 @@
 ghost use mathlib.Core.Path.{_≡_};
 ghost use Rattle.steps.specs.Loops.{each, upTo, above};
 ghost use Rattle.steps.specs.Ported.{nakedPairs};
-ghost use Rattle.techniques.specs.NakedPairs.{pairAt, unitPairs};
+ghost use Rattle.techniques.specs.NakedPairs.{noTwin, pairAt, unitPairs};
 use crate::places::all_but;
 use candidates::masks;
 use cells::lose_places;
 use cells::open_mask;
+use cells::unit_masks;
 use grid::unit_cell;
 
 // The cells at two places of a unit, tested when reached.
@@ -34,12 +35,39 @@ fn pairs_from(givens: &[u8; 81], masks: &mut [u16; 81], unit: usize, first: usiz
     }
 }
 
+// Whether no later place has the mask of the first one, or that has not two digits. `nine` are the masks of a unit's open cells.
+fn no_twin(nine: &[u16; 9], first: usize) -> bool
+    ensures { λ r. ⌜ r ≡ noTwin (now (nine .entry)) first ⌝ }
+{
+    if 9 <= first {
+        return true;
+    }
+    let mask = nine[first];
+    if !masks::is_two(mask) {
+        return true;
+    }
+    let mut second = first + 1;
+    while second < 9 {
+        if nine[second] == mask {
+            return false;
+        }
+        second += 1;
+    }
+    true
+}
+
+// A first place without a twin is passed over; after any other the nine masks are read anew.
 fn unit_pairs(givens: &[u8; 81], masks: &mut [u16; 81], unit: usize)
     ensures { λ _. ⌜ now (masks .exit) ≡ unitPairs (now (givens .entry)) unit (now (masks .entry)) ⌝ }
 {
+    let mut nine = unit_masks(givens, masks, unit);
     let mut first: usize = 0;
     while first < 9 {
-        pairs_from(givens, masks, unit, first);
+        if !no_twin(&nine, first) {
+            pairs_from(givens, masks, unit, first);
+            let renewed = unit_masks(givens, masks, unit);
+            nine = renewed;
+        }
         first += 1;
     }
 }

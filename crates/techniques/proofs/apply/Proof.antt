@@ -8,7 +8,7 @@ use Rattle.steps.specs.Boards.{givensOf}
 use Rattle.steps.specs.Calls.{eliminated, outcome}
 use Rattle.board.specs.Answers.{refusalOf}
 use Rattle.board.specs.Boards.{boardOf}
-use Rattle.progress.proofs.Eliminations.{call-eliminates}
+use Rattle.progress.proofs.Answers.{call-eliminates}
 use Rattle.techniques.specs.Techniques.{callOf, masksLeft}
 use Rattle.techniques.specs.declared.Technique.{Technique}
 use Rattle.techniques.specs.declared.Technique.the-variants as technique

@@ -1,11 +1,8 @@
 -- `board::Board::original_puzzle` meets its contract. Assumes nothing.
-use mathlib.Core.Path.{sym, ap, _∙_}
 use borrow.Author.Needs.{needs}
-use borrow.Author.Tests.{not-true, not-false}
 use Rattle.steps.specs.Calls.{refusal}
-use Rattle.board.specs.Answers.{passes}
 use Rattle.board.specs.Boards.{boardOf, noClues}
-use Rattle.board.proofs.Answered.{good-beside, refused-beside}
+use Rattle.board.proofs.Answered.{was-good, was-refused, good-beside, refused-beside}
 use Rattle.board.proofs.Board.original_puzzle.Statement.{statement}
 use Rattle.board.proofs.Board.original_puzzle.Tie as tie
 
@@ -20,7 +17,7 @@ returns c =
     let g = c .before in
     let b = boardOf (g .before .before .before .before .before .before .args .self) in (
       g .before .check .ensures,
-      refused-beside (refusal b) (b .clues) noClues (ap passes (sym (g .before .check .ensures)) ∙ sym (g .is-good .ensures) ∙ not-true (g .is-good .result) (c .if1 .taken)),
+      refused-beside (refusal b) (b .clues) noClues (was-refused (g .before .check .ensures) (g .is-good .ensures) (c .if1 .taken)),
     )
 
 returns-2 : tie.Need-returns-2
@@ -28,7 +25,7 @@ returns-2 c =
     let g = c .before in
     let b = boardOf (g .before .before .before .before .before .before .args .self) in (
       g .before .check .ensures,
-      good-beside (refusal b) (b .clues) noClues (ap passes (sym (g .before .check .ensures)) ∙ sym (g .is-good .ensures) ∙ not-false (g .is-good .result) (c .if1 .left)),
+      good-beside (refusal b) (b .clues) noClues (was-good (g .before .check .ensures) (g .is-good .ensures) (c .if1 .left)),
     )
 
 pub original-puzzle-spec : {M : Type 1} → statement M

@@ -1,12 +1,10 @@
 -- `board::Board::update_candidates` meets its contract. Assumes nothing.
-use mathlib.Core.Path.{sym, ap, _∙_}
+use mathlib.Core.Path.{ap, _∙_}
 use borrow.Author.Needs.{needs}
-use borrow.Author.Tests.{not-true, not-false}
 use Rattle.steps.specs.Boards.{fresh}
 use Rattle.steps.specs.Calls.{updateCandidates}
-use Rattle.board.specs.Answers.{passes}
 use Rattle.board.specs.Boards.{boardOf}
-use Rattle.board.proofs.Answered.{refused-left, updated}
+use Rattle.board.proofs.Answered.{was-good, was-refused, refused-left, updated}
 use Rattle.board.proofs.Board.update_candidates.Statement.{statement}
 use Rattle.board.proofs.Board.update_candidates.Tie as tie
 
@@ -21,7 +19,7 @@ returns c =
     let g = c .before in
     let b = boardOf (g .before .before .before .before .before .before .args .self) in (
       g .before .check .ensures,
-      refused-left updateCandidates b (ap passes (sym (g .before .check .ensures)) ∙ sym (g .is-good .ensures) ∙ not-true (g .is-good .result) (c .if1 .taken)),
+      refused-left updateCandidates b (was-refused (g .before .check .ensures) (g .is-good .ensures) (c .if1 .taken)),
     )
 
 givens-of-requires : tie.Need-givens-of-requires
@@ -36,7 +34,7 @@ returns-2 c =
     let g = e .before in
     let b = boardOf (g .before .before .before .before .before .before .args .self) in (
       g .before .check .ensures,
-      updated b (ap passes (sym (g .before .check .ensures)) ∙ sym (g .is-good .ensures) ∙ not-false (g .is-good .result) (e .if1 .left))
+      updated b (was-good (g .before .check .ensures) (g .is-good .ensures) (e .if1 .left))
           (c .fresh-masks .ensures ∙ ap fresh (c .before .before .givens-of .ensures)),
     )
 

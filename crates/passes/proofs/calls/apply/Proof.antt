@@ -9,7 +9,7 @@ use Rattle.steps.specs.Calls.{wide, outcome}
 use Rattle.steps.specs.Passes.{pass}
 use Rattle.board.specs.Answers.{refusalOf}
 use Rattle.board.specs.Boards.{boardOf}
-use Rattle.progress.proofs.Eliminations.{call-eliminates}
+use Rattle.progress.proofs.Answers.{call-eliminates}
 use Rattle.passes.specs.Kinds.{kindOf}
 use Rattle.passes.proofs.calls.apply.Statement.{statement}
 use Rattle.passes.proofs.calls.apply.Tie as tie

@@ -1,6 +1,5 @@
 -- `techniques::box_lines::digit_lines` meets its contract. The invariant: the lines that are left still make the whole. Assumes nothing.
 use mathlib.Core.Path.{_≡_, sym, ap, _∙_}
-use mathlib.Core.List.{List}
 use Prim.Native.Nat.{ℕ, _-_, _≤_}
 use native.Mathlib.Omega.{arith}
 use borrow.Author.Needs.{needs}

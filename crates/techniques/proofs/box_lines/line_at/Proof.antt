@@ -1,5 +1,5 @@
 -- `techniques::box_lines::line_at` meets its contract. Assumes nothing.
-use mathlib.Core.Path.{_≡_, sym, _∙_}
+use mathlib.Core.Path.{sym, _∙_}
 use borrow.Author.Needs.{needs}
 use Rattle.techniques.proofs.BoxLines.{line-lost, line-kept}
 use Rattle.techniques.proofs.box_lines.line_at.Statement.{statement}

@@ -1,7 +1,6 @@
 -- `techniques::box_lines::line_places` meets its contract: the table of the source is the one of the definition. Assumes nothing.
-use mathlib.Core.Path.{_≡_, refl, sym}
-use mathlib.Core.List.{List, [], _∷_}
-use Prim.Native.Nat.{ℕ}
+use mathlib.Core.Path.{refl, sym}
+use mathlib.Core.List.{[], _∷_}
 use borrow.Author.Needs.{needs}
 use lib.ListN.{List·getD-eq-default}
 use Rattle.techniques.specs.BoxLines.{linePlaces}

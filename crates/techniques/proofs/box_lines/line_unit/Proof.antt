@@ -1,5 +1,5 @@
 -- `techniques::box_lines::line_unit` meets its contract. Assumes nothing.
-use mathlib.Core.Path.{_≡_, sym, _∙_}
+use mathlib.Core.Path.{sym, _∙_}
 use mathlib.Core.Bool.{cond}
 use Prim.Native.Nat.{_+_, _*_, _/_, _%_, _-_}
 use native.Mathlib.Omega.{arith}

@@ -1,6 +1,6 @@
 -- `techniques::naked_pairs::naked_pairs` meets its contract. The invariant: the units that are left still make the whole. Assumes nothing.
 use mathlib.Core.Path.{_≡_}
-use Prim.Native.Nat.{ℕ, _-_, _≤_}
+use Prim.Native.Nat.{_-_, _≤_}
 use native.Mathlib.Omega.{arith}
 use borrow.Author.Needs.{needs}
 use Rattle.steps.specs.Loops.{each, range}

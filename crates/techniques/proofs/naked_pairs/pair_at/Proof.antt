@@ -1,5 +1,5 @@
 -- `techniques::naked_pairs::pair_at` meets its contract. Assumes nothing.
-use mathlib.Core.Path.{_≡_, ap, _∙_, sym}
+use mathlib.Core.Path.{ap, _∙_, sym}
 use borrow.Author.Needs.{needs}
 use Rattle.cells.specs.Places.{openMask}
 use Rattle.techniques.proofs.NakedPairs.{pair-lost, pair-not, pair-differs}

@@ -1,6 +1,6 @@
 -- `techniques::naked_pairs::pairs_from` meets its contract. The invariant: the second places that are left still make the whole. Assumes nothing.
 use mathlib.Core.Path.{_≡_, refl, sym}
-use Prim.Native.Nat.{ℕ, _+_, _-_, _≤_}
+use Prim.Native.Nat.{_+_, _-_, _≤_}
 use native.Mathlib.Omega.{arith}
 use borrow.Author.Needs.{needs}
 use Rattle.grid.proofs.Lists.{each-end}

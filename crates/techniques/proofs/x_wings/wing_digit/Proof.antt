@@ -1,11 +1,11 @@
 -- `techniques::x_wings::wing_digit` meets its contract. The invariant: the first lines that are left still make the whole. Assumes nothing.
-use mathlib.Core.Path.{_≡_, refl, sym, ap, _∙_}
+use mathlib.Core.Path.{_≡_, ap}
 use mathlib.Core.List.{List}
 use Prim.Native.Nat.{ℕ, _-_, _≤_}
 use native.Mathlib.Omega.{arith}
 use borrow.Author.Needs.{needs}
 use Rattle.steps.specs.Loops.{each, range, upTo}
-use Rattle.techniques.specs.XWings.{lineSpots, wingsFrom, wingDigit}
+use Rattle.techniques.specs.XWings.{wingsFrom, wingDigit}
 use Rattle.techniques.proofs.Loops.{turned, ended}
 use Rattle.techniques.proofs.x_wings.wing_digit.Statement.{statement}
 use Rattle.techniques.proofs.x_wings.wing_digit.Tie as tie

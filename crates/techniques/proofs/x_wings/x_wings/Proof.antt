@@ -1,5 +1,5 @@
 -- `techniques::x_wings::x_wings` meets its contract. Assumes nothing.
-use mathlib.Core.Path.{_≡_, ap, _∙_}
+use mathlib.Core.Path.{ap, _∙_}
 use mathlib.Core.Bool.{true}
 use borrow.Author.Needs.{needs}
 use Rattle.steps.specs.Loops.{each, upTo}

@@ -1,0 +1,277 @@
+// The reader, the opener, the board's calls and the writer at their edges. A line for each call, `NAME A B STOP DETAIL`: A and B
+// say on what, and STOP is 0 where the call is not refused, with its number or a checksum of its result beside it.
+// tools/board_check.py makes the file `stdout` from the paper's words, and knows nothing of this crate.
+use board::Board;
+use board::BoardVerdict;
+use board::CellMask;
+use board::Checked;
+use board::Counting;
+use board::Opening;
+use board::Parsing;
+use board::Writing;
+use board::clues;
+use board::text;
+use libc::STDOUT_FILENO;
+
+const NUMBERS: [i32; 7] = [-2147483648, -1, 0, 1, 9, 10, 2147483647];
+
+fn number(n: u64) {
+    io::write_all(STDOUT_FILENO, b" ");
+    io::print_decimal(STDOUT_FILENO, n);
+}
+
+fn line(name: &[u8], a: u64, b: u64, stop: u64, detail: u64) {
+    io::write_all(STDOUT_FILENO, name);
+    number(a);
+    number(b);
+    number(stop);
+    number(detail);
+    io::write_all(STDOUT_FILENO, b"\n");
+}
+
+fn fold(sum: u64, n: u16) -> u64 {
+    (sum % 72057594037927931 * 31 + n as u64) % 72057594037927931
+}
+
+fn wide(byte: u8) -> u16 {
+    byte as u16
+}
+
+fn byte_sum(bytes: &[u8]) -> u64 {
+    let mut sum: u64 = 0;
+    let mut i: usize = 0;
+    while i < bytes.len() {
+        sum = fold(sum, wide(bytes[i]));
+        i += 1;
+    }
+    sum
+}
+
+fn mask_sum(masks: &[u16; 81]) -> u64 {
+    let mut sum: u64 = 0;
+    let mut cell: usize = 0;
+    while cell < 81 {
+        sum = fold(sum, masks[cell]);
+        cell += 1;
+    }
+    sum
+}
+
+fn clue_sum(grid: &[i32; 81]) -> u64 {
+    byte_sum(&clues::givens_of(grid))
+}
+
+fn checked(name: &[u8], a: u64, b: u64, answer: Checked, value: u64) {
+    match answer {
+        Checked::Good => line(name, a, b, 0, value),
+        Checked::BadClue(cell) => line(name, a, b, 3, cell as u64),
+        Checked::BadMask(cell) => line(name, a, b, 9, cell as u64),
+    }
+}
+
+fn read(name: &[u8], a: u64, b: u64, bytes: &[u8]) {
+    let parsed = text::parse_string(bytes);
+    let answer = parsed.answer;
+    let grid = parsed.clues;
+    match answer {
+        Parsing::Read => line(name, a, b, 0, clue_sum(&grid)),
+        Parsing::WrongLength(length) => line(name, a, b, 1, length as u64),
+        Parsing::BadByte(index) => line(name, a, b, 2, index as u64),
+    }
+}
+
+fn opened(a: u64, b: u64, grid: [i32; 81]) {
+    let opened = Board::new(grid);
+    let answer = opened.answer;
+    let masks = opened.board.masks;
+    match answer {
+        Opening::Opened => line(b"open", a, b, 0, mask_sum(&masks)),
+        Opening::BadClue(cell) => line(b"open", a, b, 3, cell as u64),
+    }
+}
+
+fn write(a: u64, grid: &[i32; 81], out: &mut [u8]) {
+    let lent = out.len() as u64;
+    match text::write_text(grid, out) {
+        Writing::Written(n) => line(b"write", a, lent, 0, n as u64),
+        Writing::TooShort(n) => line(b"write", a, lent, 6, n as u64),
+        Writing::BadClue(cell) => line(b"write", a, lent, 3, cell as u64),
+    }
+}
+
+fn lent(a: u64, b: u64, out: &[u8; 100]) {
+    line(b"lent", a, b, 0, byte_sum(out));
+}
+
+// The writer on so many of a hundred bytes, and what they are after it.
+fn writes(a: u64, grid: &[i32; 81]) {
+    let mut none = [b'x'; 100];
+    write(a, grid, &mut none[..0]);
+    lent(a, 0, &none);
+    let mut few = [b'x'; 100];
+    write(a, grid, &mut few[..80]);
+    lent(a, 80, &few);
+    let mut just = [b'x'; 100];
+    write(a, grid, &mut just[..81]);
+    lent(a, 81, &just);
+    let mut more = [b'x'; 100];
+    write(a, grid, &mut more[..100]);
+    lent(a, 100, &more);
+}
+
+fn numbers_of(a: u64, at: u32, board: Board) {
+    let b = at as u64;
+    match board.clue_count() {
+        Counting::Clues(n) => line(b"count", a, b, 0, n as u64),
+        Counting::BadClue(cell) => line(b"count", a, b, 3, cell as u64),
+        Counting::BadMask(cell) => line(b"count", a, b, 9, cell as u64),
+    }
+    match board.cell_mask(at) {
+        CellMask::Mask(mask) => line(b"mask", a, b, 0, mask as u64),
+        CellMask::BadClue(cell) => line(b"mask", a, b, 3, cell as u64),
+        CellMask::BadMask(cell) => line(b"mask", a, b, 9, cell as u64),
+        CellMask::NoCell(cell) => line(b"mask", a, b, 5, cell as u64),
+    }
+    match board.verdict() {
+        BoardVerdict::Dead => line(b"dead", a, b, 0, 0),
+        BoardVerdict::Finished => line(b"finished", a, b, 0, 0),
+        BoardVerdict::Open => line(b"open", a, b, 0, 0),
+        BoardVerdict::BadClue(cell) => line(b"verdict", a, b, 3, cell as u64),
+        BoardVerdict::BadMask(cell) => line(b"verdict", a, b, 9, cell as u64),
+    }
+}
+
+// Each call on a board; `at` is the cell whose mask is asked for.
+fn calls(a: u64, at: u32, board: Board) {
+    let b = at as u64;
+    let puzzle = board.original_puzzle();
+    let puzzle_answer = puzzle.answer;
+    let grid = puzzle.clues;
+    checked(b"puzzle", a, b, puzzle_answer, clue_sum(&grid));
+    let candidates = board.get_candidates();
+    let candidates_answer = candidates.answer;
+    let masks = candidates.masks;
+    checked(b"candidates", a, b, candidates_answer, mask_sum(&masks));
+    let updated = board.update_candidates();
+    let updated_answer = updated.answer;
+    let after = updated.board.masks;
+    checked(b"update", a, b, updated_answer, mask_sum(&after));
+    line(b"left", a, b, 0, mask_sum(&after));
+    numbers_of(a, at, board);
+}
+
+fn with_clue(grid: [i32; 81], cell: usize, clue: i32) -> [i32; 81] {
+    let mut put = grid;
+    if cell < 81 {
+        put[cell] = clue;
+    }
+    put
+}
+
+// The fresh board of the clues, with one mask changed.
+fn with_mask(grid: [i32; 81], cell: usize, mask: u16) -> Board {
+    let opened = Board::new(grid);
+    let mut masks = opened.board.masks;
+    if cell < 81 {
+        masks[cell] = mask;
+    }
+    Board { clues: grid, masks }
+}
+
+fn texts() {
+    let dots = [b'.'; 4096];
+    read(b"text", 0, 0, &dots[..0]);
+    read(b"text", 80, 0, &dots[..80]);
+    read(b"text", 81, 0, &dots[..81]);
+    read(b"text", 82, 0, &dots[..82]);
+    read(b"text", 4096, 0, &dots);
+}
+
+fn bytes() {
+    let mut byte: u64 = 0;
+    while byte < 256 {
+        let mut first = [b'.'; 81];
+        first[0] = byte as u8;
+        read(b"byte", byte, 0, &first);
+        let mut last = [b'.'; 81];
+        last[80] = byte as u8;
+        read(b"byte", byte, 80, &last);
+        byte += 1;
+    }
+}
+
+fn clue_numbers() {
+    let mut i: usize = 0;
+    while i < 7 {
+        let first = with_clue([0; 81], 0, NUMBERS[i]);
+        opened(i as u64, 0, first);
+        let last = with_clue([0; 81], 80, NUMBERS[i]);
+        opened(i as u64, 80, last);
+        i += 1;
+    }
+}
+
+// Masks that an open cell or a clue cell may not have, and one that an open cell may.
+fn masks_at(at: u32) {
+    let cell = at as usize;
+    let beside = with_clue(with_clue([0; 81], 1, 1), 79, 1);
+    let on = with_clue(with_clue([0; 81], 0, 1), 80, 1);
+    calls(0, at, with_mask(beside, cell, 511));
+    calls(1, at, with_mask(beside, cell, 512));
+    calls(2, at, with_mask(beside, cell, 0));
+    calls(3, at, with_mask(on, cell, 0));
+    calls(4, at, with_mask(on, cell, 3));
+    calls(5, at, with_mask(on, cell, 2));
+}
+
+// A bad clue after a bad mask, and two bad clues.
+fn orders() {
+    let masks = [511; 81];
+    let one = with_clue(with_clue([0; 81], 1, 1), 80, 10);
+    calls(6, 0, Board { clues: one, masks });
+    let two = with_clue(one, 0, -1);
+    calls(7, 0, Board { clues: two, masks });
+    calls(
+        8,
+        0,
+        Board {
+            clues: with_clue([0; 81], 80, 1),
+            masks,
+        },
+    );
+}
+
+fn good(a: u64, bytes: &[u8]) {
+    let parsed = text::parse_string(bytes);
+    let grid = parsed.clues;
+    let opened = Board::new(grid);
+    let board = opened.board;
+    calls(a, 0, board);
+    calls(a, 80, board);
+    calls(a, 81, board);
+    calls(a, 4294967295, board);
+    writes(a, &grid);
+}
+
+fn main() {
+    texts();
+    bytes();
+    clue_numbers();
+    masks_at(0);
+    masks_at(80);
+    orders();
+    good(
+        9,
+        b"123456789456789123789123456231564897564897231897231564312645978645978312978312645",
+    );
+    good(
+        10,
+        b".2345678945678912378912345623156489756489723189723156431264597864597831297831264.",
+    );
+    good(
+        11,
+        b"0..4567893.......................................................................",
+    );
+    let bad = with_clue([9; 81], 80, 10);
+    writes(12, &bad);
+}

@@ -1,0 +1,106 @@
+-- Reports in a value: what a push and a list of pushes make of it, and that no list of singles is too long for it. Assumes nothing.
+use mathlib.Core.Path.{_≡_, refl, sym, ap, _∙_}
+use mathlib.Core.Bool.{Bool, true, false, cond}
+use mathlib.Core.List.{List, [], _∷_, _++_, map, append-assoc}
+use Prim.Native.Nat.{ℕ, suc, _+_, _-_, _*_, _≤_, _<_}
+use native.Mathlib.Omega.{arith}
+use borrow.Author.Tests.{lt-ltb}
+use lib.Dec.{eqb, ltb, lit≤}
+use lib.ListN.{length, set, replicate, length-append}
+use lib.Seq.{set-at, append-snoc}
+use Rattle.candidates.specs.Masks.{count, lowest}
+use Rattle.candidates.proofs.Tests.{cond-true}
+use Rattle.grid.specs.Cells.{cells}
+use Rattle.grid.specs.Units.{unitCell}
+use Rattle.steps.specs.Boards.{at}
+use Rattle.steps.specs.Loops.{each, for, upTo}
+use Rattle.steps.specs.Ported.{spots}
+use Rattle.steps.specs.Singles.{Report, reportIf, isNakedSingle, nakedSingles, hiddenSingles}
+use Rattle.techniques.specs.declared.singles.Reports.{Reports}
+use Rattle.techniques.specs.Reports.{filled, reportsOf, pushed, append}
+
+-- ---- one report
+
+pub append-one : (t : Bool) (c d : ℕ) (q : Reports) → append (reportIf t c d) q ≡ cond t (pushed q c (d + 1)) q
+unfolding append each
+append-one true c d q = refl
+append-one false c d q = refl
+
+-- ---- a value that a list stands in
+
+map-length : {A B : Type 0} (f : A → B) (xs : List A) → length (map f xs) ≡ length xs
+map-length f [] = refl
+map-length f (x ∷ xs) = ap suc (map-length f xs)
+
+map-append : {A B : Type 0} (f : A → B) (xs ys : List A) → map f (xs ++ ys) ≡ map f xs ++ map f ys
+map-append f [] ys = refl
+map-append {B = B} f (x ∷ xs) ys = ap (λ (l : List B). f x ∷ l) (map-append f xs ys)
+
+-- the first zero is written
+fill-next : (xs : List ℕ) (n x : ℕ) → length xs ≡ n → n < 324 → set (filled xs) n x ≡ filled (xs ++ (x ∷ []))
+unfolding filled
+fill-next xs n x e h =
+    let a : 324 - length xs ≡ suc (324 - (n + 1)) = omega arith in
+    let b : 324 - (n + 1) ≡ 324 - length (xs ++ (x ∷ [])) = omega (arith, length-append xs (x ∷ [])) in
+    ap (λ (k : ℕ). set (xs ++ replicate k 0) n x) a ∙ set-at xs 0 (replicate (324 - (n + 1)) 0) x n e ∙ sym (append-snoc xs x (replicate (324 - (n + 1)) 0))
+    ∙ ap (λ (k : ℕ). (xs ++ (x ∷ [])) ++ replicate k 0) b
+
+push-on : (rs : List Report) (r : Report) → length rs < 324 → pushed (reportsOf rs) (r .cell) (r .digit) ≡ reportsOf (rs ++ (r ∷ []))
+unfolding pushed reportsOf
+push-on rs r h =
+    cond-true (ltb (length rs) 324) (record { cells = set (filled (map (λ r. r .cell) rs)) (length rs) (r .cell); digits = set (filled (map (λ r. r .digit) rs)) (length rs) (r .digit); count = length rs + 1 }) (reportsOf rs)
+    (lt-ltb (length rs) 324 h)
+    ∙ same (field (λ r. r .cell)) (field (λ r. r .digit)) (sym (length-append rs (r ∷ [])))
+  where
+    field : (f : Report → ℕ) → set (filled (map f rs)) (length rs) (f r) ≡ filled (map f (rs ++ (r ∷ [])))
+    field f = fill-next (map f rs) (length rs) (f r) (map-length f rs) h ∙ ap filled (sym (map-append f rs (r ∷ [])))
+
+    same : {a b c d : List ℕ} {m n : ℕ} → a ≡ b → c ≡ d → m ≡ n → _≡_ {A = Reports} (record { cells = a; digits = c; count = m }) (record { cells = b; digits = d; count = n })
+    same p q s = cc
+
+pub append-on : (rs ns : List Report) → length rs + length ns ≤ 324 → append ns (reportsOf rs) ≡ reportsOf (rs ++ ns)
+unfolding append each
+append-on rs [] h = ap reportsOf (sym (append-nil rs))
+  where
+    append-nil : (xs : List Report) → xs ++ [] ≡ xs
+    append-nil [] = refl
+    append-nil (x ∷ xs) = ap (λ (l : List Report). x ∷ l) (append-nil xs)
+append-on rs (n ∷ ns) h =
+    ap (each (λ r q. pushed q (r .cell) (r .digit)) ns) (push-on rs n (omega arith))
+    ∙ append-on (rs ++ (n ∷ [])) ns (omega (arith, length-append rs (n ∷ []))) ∙ ap reportsOf (append-assoc rs (n ∷ []) ns)
+
+-- ---- no list is too long
+
+for-length : {A B : Type 0} (n : ℕ) (xs : List A) (f : A → List B) → ((x : A) → length (f x) ≤ n) → length (for xs f) ≤ length xs * n
+unfolding for
+for-length n [] f h = omega arith
+for-length n (x ∷ xs) f h = omega (arith, length-append (f x) (for xs f), h x, for-length n xs f h)
+
+one-report : (t : Bool) (c d : ℕ) → length (reportIf t c d) ≤ 1
+one-report true c d = lit≤ tt
+one-report false c d = lit≤ tt
+
+module _ (g m : List ℕ) where
+  pub naked-few : length (nakedSingles g m) ≤ 81
+  unfolding nakedSingles cells
+  naked-few = for-length 1 cells (λ c. reportIf (isNakedSingle g m c) c (lowest (at m c))) (λ c. one-report (isNakedSingle g m c) c (lowest (at m c)))
+
+  pub hidden-few : length (hiddenSingles g m) ≤ 243
+  unfolding hiddenSingles
+  hidden-few =
+      for-length 9 (upTo 27) (λ u. for (upTo 9) λ d. reportIf (eqb (count (spots g m u d)) 1) (unitCell u (lowest (spots g m u d))) d)
+      (λ u. for-length 1 (upTo 9) (λ d. reportIf (eqb (count (spots g m u d)) 1) (unitCell u (lowest (spots g m u d))) d)
+      (λ d. one-report (eqb (count (spots g m u d)) 1) (unitCell u (lowest (spots g m u d))) d))
+
+  pub singles-few : length (nakedSingles g m ++ hiddenSingles g m) ≤ 324
+  singles-few = omega (arith, length-append (nakedSingles g m) (hiddenSingles g m), naked-few, hidden-few)
+
+  -- the lists alone, and one after the other
+  pub naked-stand : append (nakedSingles g m) (reportsOf []) ≡ reportsOf (nakedSingles g m)
+  naked-stand = append-on [] (nakedSingles g m) (omega (arith, naked-few))
+
+  pub hidden-stand : append (hiddenSingles g m) (reportsOf []) ≡ reportsOf (hiddenSingles g m)
+  hidden-stand = append-on [] (hiddenSingles g m) (omega (arith, hidden-few))
+
+  pub both-stand : append (hiddenSingles g m) (reportsOf (nakedSingles g m)) ≡ reportsOf (nakedSingles g m ++ hiddenSingles g m)
+  both-stand = append-on (nakedSingles g m) (hiddenSingles g m) (omega (arith, naked-few, hidden-few))

@@ -1,0 +1,54 @@
+-- `techniques::singles::hidden_singles` meets its contract. The invariant: the units that are left still make all reports. Assumes nothing.
+use mathlib.Core.Path.{_≡_}
+use mathlib.Core.List.{List}
+use Prim.Native.Nat.{ℕ, _-_, _≤_}
+use native.Mathlib.Omega.{arith}
+use borrow.Author.Needs.{needs}
+use Rattle.steps.specs.Loops.{each, range}
+use Rattle.steps.specs.Singles.{hiddenSingles}
+use Rattle.techniques.specs.declared.singles.Reports.{Reports}
+use Rattle.techniques.specs.Reports.{append}
+use Rattle.techniques.specs.Singles.{hiddenIn}
+use Rattle.techniques.proofs.Loops.{turned, ended}
+use Rattle.techniques.proofs.SinglesFound.{units-loop}
+use Rattle.techniques.proofs.singles.hidden_singles.Statement.{statement}
+use Rattle.techniques.proofs.singles.hidden_singles.Tie as tie
+
+-- one turn of the loop
+abbrev turn : List ℕ → List ℕ → ℕ → Reports → Reports
+turn g m u q = append (hiddenIn g m u) q
+
+abbrev Inv-loop : tie.InvT-loop
+Inv-loop givens masks list₀ unit₀ list unit =
+    (unit ≤ 27) × (each (turn givens masks) (range (27 - unit) unit) list ≡ append (hiddenSingles givens masks) list₀)
+
+abbrev μ-loop : tie.MeasureT-loop
+μ-loop givens masks list₀ unit₀ list unit = 27 - unit
+
+loop-holds : tie.Need-loop-holds Inv-loop μ-loop
+loop-holds c = (omega arith, units-loop (c .args .givens .now) (c .args .masks .now) (c .args .reports))
+
+hidden-in-requires : tie.Need-hidden-in-requires Inv-loop μ-loop
+hidden-in-requires c κs = search needs
+
+add-unit : tie.Need-add-unit Inv-loop μ-loop
+add-unit c = omega arith
+
+loop-less : tie.Need-loop-less Inv-loop μ-loop
+loop-less c = omega arith
+
+loop-again : tie.Need-loop-again Inv-loop μ-loop
+loop-again c =
+    let a = c .before .before .before .args in
+    let l = c .before .before .loop in
+    (omega arith, turned (turn (a .givens .now) (a .masks .now)) 27 (l .unit) (l .list) (omega arith) (c .hidden-in .ensures) (l .inv .1))
+
+returns : tie.Need-returns Inv-loop μ-loop
+returns c =
+    let a = c .before .before .args in
+    ended (turn (a .givens .now) (a .masks .now)) 27 (c .before .loop .unit) (c .before .loop .list) (c .loop-test .left) (c .before .loop .inv .1)
+
+pub hidden-singles-spec : {M : Type 1} → statement M
+hidden-singles-spec =
+    tie.close
+    (tie.spec Inv-loop μ-loop loop-holds hidden-in-requires add-unit loop-less loop-again returns)

@@ -1,0 +1,83 @@
+-- `techniques::singles::naked_singles` meets its contract. The invariant: the cells that are left still make all reports. Assumes nothing.
+use mathlib.Core.Path.{_≡_, _∙_, ap}
+use mathlib.Core.Logic.{⊎-elim}
+use mathlib.Core.List.{List}
+use Prim.Native.Nat.{ℕ, _-_, _≤_}
+use native.Mathlib.Omega.{arith}
+use borrow.Author.Needs.{needs}
+use Rattle.candidates.specs.Masks.{lowest}
+use Rattle.steps.specs.Boards.{at}
+use Rattle.steps.specs.Loops.{each, range}
+use Rattle.steps.specs.Singles.{reportIf, isNakedSingle, nakedSingles}
+use Rattle.techniques.specs.declared.singles.Reports.{Reports}
+use Rattle.techniques.specs.Reports.{append}
+use Rattle.techniques.specs.Singles.{onlyDigit}
+use Rattle.techniques.proofs.Loops.{turned, ended}
+use Rattle.techniques.proofs.SinglesFound.{naked-found, naked-none, naked-loop}
+use Rattle.techniques.proofs.singles.naked_singles.Statement.{statement}
+use Rattle.techniques.proofs.singles.naked_singles.Tie as tie
+
+-- one turn of the loop
+abbrev turn : List ℕ → List ℕ → ℕ → Reports → Reports
+turn g m c q = append (reportIf (isNakedSingle g m c) c (lowest (at m c))) q
+
+abbrev Inv-loop : tie.InvT-loop
+Inv-loop givens masks list₀ cell₀ list cell =
+    (cell ≤ 81) × (each (turn givens masks) (range (81 - cell) cell) list ≡ append (nakedSingles givens masks) list₀)
+
+abbrev μ-loop : tie.MeasureT-loop
+μ-loop givens masks list₀ cell₀ list cell = 81 - cell
+
+loop-holds : tie.Need-loop-holds Inv-loop μ-loop
+loop-holds c = (omega arith, naked-loop (c .args .givens .now) (c .args .masks .now) (c .args .reports))
+
+open-mask-requires : tie.Need-open-mask-requires Inv-loop μ-loop
+open-mask-requires c κs = search needs
+
+only-digit-requires : tie.Need-only-digit-requires Inv-loop μ-loop
+only-digit-requires c κs = search needs
+
+cast-push : tie.Need-cast-push Inv-loop μ-loop
+cast-push c = omega arith
+
+push-requires : tie.Need-push-requires Inv-loop μ-loop
+push-requires c κs = search needs
+
+add-cell : tie.Need-add-cell Inv-loop μ-loop
+add-cell c = omega arith
+
+loop-less : tie.Need-loop-less Inv-loop μ-loop
+loop-less c = omega arith
+
+loop-again : tie.Need-loop-again Inv-loop μ-loop
+loop-again c =
+    let a = c .before .before .before .before .before .args in
+    let l = c .before .before .before .before .loop in
+    let digit = c .before .only-digit .ensures ∙ ap onlyDigit (c .before .before .open-mask .ensures) in (
+      omega arith,
+      turned (turn (a .givens .now) (a .masks .now)) 81 (l .cell) (l .list) (omega arith)
+          (⊎-elim (λ w. w .2 ∙ w .1 .ensures ∙ naked-found (a .givens .now) (a .masks .now) (l .cell) (omega arith) (l .list) digit (w .0 .taken))
+          (λ w. w .1 ∙ naked-none (a .givens .now) (a .masks .now) (l .cell) (omega arith) (l .list) digit (w .0 .left)) (c .if1 .came))
+          (l .inv .1),
+    )
+
+returns : tie.Need-returns Inv-loop μ-loop
+returns c =
+    let a = c .before .before .args in
+    ended (turn (a .givens .now) (a .masks .now)) 81 (c .before .loop .cell) (c .before .loop .list) (c .loop-test .left) (c .before .loop .inv .1)
+
+pub naked-singles-spec : {M : Type 1} → statement M
+naked-singles-spec =
+    tie.close
+    (tie.spec
+    Inv-loop
+    μ-loop
+    loop-holds
+    open-mask-requires
+    only-digit-requires
+    cast-push
+    push-requires
+    add-cell
+    loop-less
+    loop-again
+    returns)
