@@ -1,0 +1,33 @@
+-- Each arm says which case it is.
+use mathlib.Core.Path.{_≡_, sym, ap, _∙_}
+use borrow.Author.Needs.{needs}
+use mir.Facts.{toZ-ofZ}
+use mir.Syntax.{w32}
+use mir.Val.{toZ, ofZ}
+use Rattle.candidates.specs.Sets.{onlyAnswer}
+use Rattle.candidates.specs.declared.SingleCandidate.{SingleCandidate}
+use Rattle.host.specs.Codes.{digitOr0}
+use Rattle.host.proofs.codes.of_only.Statement.{statement}
+use Rattle.host.proofs.codes.of_only.Tie as tie
+
+enum-known-only : tie.Need-enum-known-only
+enum-known-only c = search needs
+
+wide-requires : tie.Need-wide-requires
+wide-requires c κs = search needs
+
+enum-told : tie.Need-enum-told
+enum-told c = search needs
+
+returns : tie.Need-returns
+returns c =
+    let digit = c .before .before .only .given .0 .0 in
+    let back : toZ w32 (ofZ w32 digit) ≡ digit = search needs in
+    toZ-ofZ (record { sfits = c .wide .ok }) ∙ c .wide .ensures ∙ back
+    ∙ sym (ap (λ (x : SingleCandidate). digitOr0 (onlyAnswer x)) (c .before .before .only .given .1))
+
+returns-2 : tie.Need-returns-2
+returns-2 c = sym (ap (λ (x : SingleCandidate). digitOr0 (onlyAnswer x)) (c .enum-told .given .1))
+
+pub of-only-spec : {M : Type 1} → statement M
+of-only-spec = tie.close (tie.spec enum-known-only wide-requires enum-told returns returns-2)

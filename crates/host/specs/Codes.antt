@@ -1,0 +1,37 @@
+-- Answers as numbers, for callers in other languages: four of them, the stop's number (0 where the call answered), what stands beside the stop, the value and the mask.
+use mathlib.Core.Bool.{Bool, cond}
+use mathlib.Core.List.{List, [], _∷_}
+use mathlib.Core.Option.{Option, none, some}
+use Prim.Native.Nat.{ℕ}
+use lib.IntN.{ℤ, pos, negsuc}
+use Rattle.candidates.specs.Answer.{Answer, gives, stop}
+
+abbrev pub four : ℤ → ℤ → ℤ → ℤ → List ℤ
+four stopped beside value mask = stopped ∷ beside ∷ value ∷ mask ∷ []
+
+-- a call that cannot be refused
+abbrev pub given : ℤ → ℕ → List ℤ
+given value mask = four (pos 0) (pos 0) value (pos mask)
+
+abbrev pub refused : ℕ → ℤ → ℕ → List ℤ
+refused n beside mask = four (pos n) beside (pos 0) (pos mask)
+
+-- an answer, by the number of its value, and the mask that the call leaves
+abbrev pub coded : {A : Type 0} → (A → ℤ) → Answer A → ℕ → List ℤ
+coded number (gives a) mask = given (number a) mask
+coded number (stop n z) mask = refused n z mask
+
+abbrev pub testNumber : Bool → ℤ
+testNumber t = cond t (pos 1) (pos 0)
+
+abbrev pub noNumber : Unit {0} → ℤ
+noNumber t = pos 0
+
+-- a digit, or 0 for none
+abbrev pub digitOr0 : Option ℤ → ℤ
+digitOr0 none = pos 0
+digitOr0 (some z) = z
+
+-- a call number that stands for nothing: -1 and the number
+abbrev pub unknown : ℕ → List ℤ
+unknown k = four (negsuc 0) (pos k) (pos 0) (pos 0)

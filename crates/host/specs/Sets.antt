@@ -1,0 +1,43 @@
+-- The calls of the candidate set by number, on a mask and a digit.
+use mathlib.Core.List.{List, [], _∷_}
+use mathlib.Core.Option.{Option, none, some}
+use Prim.Native.Nat.{ℕ}
+use lib.Dec.{eqb}
+use lib.IntN.{ℤ, pos}
+use lib.ListN.{getD}
+use Rattle.candidates.specs.Answer.{Answer, gives, stop}
+use Rattle.candidates.specs.Masks.{nine, count}
+use Rattle.candidates.specs.Sets.{singleOf, containsOf, insertOf, inserted, removed, onlyOf, nextOf}
+use Rattle.host.specs.Codes.{four, given, refused, coded, testNumber, noNumber, digitOr0, unknown}
+
+-- a new set: its mask, or the stop with no mask
+abbrev pub newSet : Answer ℕ → List ℤ
+newSet (gives m) = given (pos 0) m
+newSet (stop n z) = refused n z 0
+
+-- 0 new, 1 full, 2 single, 3 contains, 4 insert, 5 remove, 6 clear, 7 len, 8 is_empty, 9 single_candidate, 10 iter
+abbrev pub setCalls : ℕ → ℤ → List (List ℤ)
+setCalls m z =
+    given (pos 0) 0 ∷
+    given (pos 0) 511 ∷
+    newSet (singleOf z) ∷
+    coded testNumber (containsOf m z) m ∷
+    coded noNumber (insertOf z) (inserted m z) ∷
+    coded testNumber (containsOf m z) (removed m z) ∷
+    given (pos 0) 0 ∷
+    given (pos (count (nine m))) m ∷
+    given (testNumber (eqb (count (nine m)) 0)) m ∷
+    given (digitOr0 (onlyOf m)) m ∷
+    given (pos 0) (nine m) ∷
+    []
+
+unfoldable pub setCall : ℕ → ℕ → ℤ → List ℤ
+setCall k m z = getD (setCalls m z) k (unknown k)
+
+-- `next` on an iterator: the digit, or 0 where it is done, the mask, and beside them the place that it goes on with
+abbrev pub nextCode : ℕ → ℕ → Option (ℤ × ℕ × ℕ) → List ℤ
+nextCode m p none = four (pos 0) (pos p) (pos 0) (pos m)
+nextCode m p (some found) = four (pos 0) (pos (found .2)) (found .0) (pos (found .1))
+
+unfoldable pub nextCall : ℕ → ℕ → List ℤ
+nextCall m p = nextCode m p (nextOf m p)

@@ -1,0 +1,265 @@
+//! Compares the engine, the plain implementation and the Rust original.
+//!
+//!     compare --seed N --seconds S [--lists N]
+//!
+//! Runs until the seconds have passed (or, with --lists, until so many lists were compared). The status is 0 where no difference
+//! was found; the last line says what was compared and how often. A difference is printed with its smallest case.
+
+use std::io::{IsTerminal, Write};
+use std::time::{Duration, Instant};
+
+use sudoku_host::cases::{self, Case};
+use sudoku_host::oracle::{self, SudokuCandidateSet, SudokuSolver};
+use sudoku_host::random::Random;
+use sudoku_host::shrink::shrunk;
+use sudoku_host::sides::{Original, Plain};
+use sudoku_host::{digits, grids, plain, set, verify, SetAnswer, SetCall, Stop};
+
+struct Options {
+    seed: u64,
+    seconds: u64,
+    lists: u64,
+}
+
+#[derive(Default)]
+struct Counts {
+    sets: u64,
+    grids: u64,
+    texts: u64,
+    lists: u64,
+    calls: u64,
+    pairs: u64,
+}
+
+impl std::fmt::Display for Counts {
+    fn fmt(&self, out: &mut std::fmt::Formatter) -> std::fmt::Result {
+        let Counts { sets, grids, texts, lists, calls, pairs } = self;
+        write!(out, "{sets} set calls, {grids} filled grids, {texts} texts, {lists} lists of {calls} ported calls, {pairs} pairs of lists settled")
+    }
+}
+
+fn options() -> Options {
+    let mut found = Options { seed: 1, seconds: 60, lists: u64::MAX };
+    let words: Vec<String> = std::env::args().skip(1).collect();
+    for pair in words.chunks(2) {
+        let number = pair.get(1).and_then(|word| word.parse().ok());
+        match (pair[0].as_str(), number) {
+            ("--seed", Some(number)) => found.seed = number,
+            ("--seconds", Some(number)) => found.seconds = number,
+            ("--lists", Some(number)) => found.lists = number,
+            _ => usage(),
+        }
+    }
+    found
+}
+
+fn usage() -> ! {
+    eprintln!("compare --seed N --seconds S [--lists N]");
+    std::process::exit(2)
+}
+
+fn main() {
+    let options = options();
+    let mut counts = Counts::default();
+    match run(&options, &mut counts) {
+        Ok(()) => println!("compare: seed {}: no difference in {counts}", options.seed),
+        Err(difference) => {
+            println!("{difference}");
+            println!("compare: seed {}: A DIFFERENCE, after {counts}", options.seed);
+            std::process::exit(1);
+        }
+    }
+}
+
+fn run(options: &Options, counts: &mut Counts) -> Result<(), String> {
+    let end = Instant::now() + Duration::from_secs(options.seconds);
+    all_sets(counts)?;
+    published(counts)?;
+    let mut progress = Progress::new();
+    let mut round = 0;
+    while Instant::now() < end && counts.lists < options.lists {
+        let mut random = Random::of_case(options.seed, round);
+        some_grids(&mut random, counts)?;
+        some_texts(&mut random, counts)?;
+        a_list(&cases::ported_case(&mut random), counts)?;
+        if round % 8 == 0 {
+            two_lists(&mut random, counts)?;
+        }
+        round += 1;
+        progress.show(counts);
+    }
+    progress.clear();
+    Ok(())
+}
+
+// ---- the candidate set
+
+fn all_sets(counts: &mut Counts) -> Result<(), String> {
+    for mask in 0..512 {
+        for digit in 1..=9 {
+            for call in [SetCall::Single, SetCall::Contains, SetCall::Insert, SetCall::Remove] {
+                a_set(call, mask, digit, counts)?;
+            }
+        }
+        for call in [SetCall::New, SetCall::Full, SetCall::Clear, SetCall::Len, SetCall::IsEmpty, SetCall::SingleCandidate, SetCall::Iter] {
+            a_set(call, mask, 0, counts)?;
+        }
+        let (ours, theirs) = (digits(mask), original_set(mask).iter().collect::<Vec<_>>());
+        same(ours == theirs, || format!("digits of mask {mask}: engine {ours:?}, original {theirs:?}"))?;
+        counts.sets += 1;
+    }
+    bad_digits(counts)
+}
+
+fn original_set(mask: u16) -> SudokuCandidateSet {
+    let mut set = SudokuCandidateSet::new();
+    set.mask = mask;
+    set
+}
+
+fn a_set(call: SetCall, mask: u16, digit: i32, counts: &mut Counts) -> Result<(), String> {
+    let (ours, theirs) = (set(call, mask, digit), original_answer(call, mask, digit));
+    counts.sets += 1;
+    same(ours == theirs, || format!("{call:?} on mask {mask}, digit {digit}: engine {ours:?}, original {theirs:?}"))
+}
+
+fn original_answer(call: SetCall, mask: u16, digit: i32) -> SetAnswer {
+    let mut set = original_set(mask);
+    let value = match call {
+        SetCall::New => made(&mut set, SudokuCandidateSet::new()),
+        SetCall::Full => made(&mut set, SudokuCandidateSet::full()),
+        SetCall::Single => made(&mut set, SudokuCandidateSet::single(digit)),
+        SetCall::Contains => set.contains(digit) as i64,
+        SetCall::Insert => {
+            set.insert(digit);
+            0
+        }
+        SetCall::Remove => set.remove(digit) as i64,
+        SetCall::Clear => {
+            set.clear();
+            0
+        }
+        SetCall::Len => set.len() as i64,
+        SetCall::IsEmpty => set.is_empty() as i64,
+        SetCall::SingleCandidate => set.single_candidate().unwrap_or(0) as i64,
+        SetCall::Iter => 0,
+    };
+    SetAnswer { answer: Ok(value), mask: set.mask }
+}
+
+fn made(set: &mut SudokuCandidateSet, new: SudokuCandidateSet) -> i64 {
+    *set = new;
+    0
+}
+
+/// Digits outside 1 to 9, where the original asserts: stop 4 with the digit, and the mask as it was.
+fn bad_digits(counts: &mut Counts) -> Result<(), String> {
+    for mask in 0..=u16::MAX {
+        for digit in [0, 10, -1, i32::MIN, i32::MAX] {
+            for (call, left) in [(SetCall::Single, 0), (SetCall::Contains, mask), (SetCall::Insert, mask), (SetCall::Remove, mask)] {
+                let ours = set(call, mask, digit);
+                let stop = SetAnswer { answer: Err(Stop { number: 4, detail: digit as i64 }), mask: left };
+                counts.sets += 1;
+                same(ours == stop, || format!("{call:?} on mask {mask}, digit {digit}: engine {ours:?}"))?;
+            }
+        }
+    }
+    Ok(())
+}
+
+// ---- filled grids and texts
+
+fn some_grids(random: &mut Random, counts: &mut Counts) -> Result<(), String> {
+    for _ in 0..4 {
+        let grid = grids::filled(random);
+        let answers = [verify(&grid), oracle::verify(&grid), plain::verify(&grid)];
+        counts.grids += 1;
+        same(answers.iter().all(|&answer| answer == answers[0]), || format!("filled grid {grid:?}: engine, original, plain {answers:?}"))?;
+    }
+    Ok(())
+}
+
+fn some_texts(random: &mut Random, counts: &mut Counts) -> Result<(), String> {
+    let text = grids::text(random);
+    let Ok(words) = std::str::from_utf8(&text) else { return Ok(()) };
+    let theirs = SudokuSolver::parse_string(words);
+    let ours = plain::read_text(&text);
+    counts.texts += 1;
+    let alike = match (&ours, &theirs) {
+        (Ok(clues), Ok(rows)) => *clues == oracle::flat(rows) && counted(clues) == oracle::opened(clues).clue_count(),
+        (Err(stop), Err(message)) => message.ends_with(&format!(" {}", stop.detail)) && (stop.number == 1) == message.starts_with("Expected"),
+        _ => false,
+    };
+    same(alike, || format!("text {words:?}: plain {ours:?}, original {theirs:?}"))
+}
+
+fn counted(clues: &sudoku_host::Clues) -> usize {
+    clues.iter().filter(|&&clue| clue != 0).count()
+}
+
+// ---- lists of calls
+
+fn published(counts: &mut Counts) -> Result<(), String> {
+    for text in grids::PUBLISHED {
+        for step in sudoku_host::sides::PORTED {
+            let steps = vec![step, 1, 2, 3, 4, 5, step];
+            a_list(&Case { clues: grids::of_text(text), kept: cases::EVERYTHING, steps, others: Vec::new() }, counts)?;
+        }
+    }
+    Ok(())
+}
+
+fn a_list(case: &Case, counts: &mut Counts) -> Result<(), String> {
+    let fault = |case: &Case| cases::fresh_differs(case).or_else(|| cases::differ::<Original, Plain>(case));
+    counts.lists += 1;
+    counts.calls += case.steps.len() as u64;
+    sound(case, "original and plain", &fault)
+}
+
+fn two_lists(random: &mut Random, counts: &mut Counts) -> Result<(), String> {
+    let (case, filling) = cases::sound_case(random);
+    counts.pairs += 1;
+    sound(&case, "demand 3 on plain", &|case| cases::unsound(case, filling.as_ref()))
+}
+
+fn sound(case: &Case, what: &str, fault: &dyn Fn(&Case) -> Option<String>) -> Result<(), String> {
+    if fault(case).is_none() {
+        return Ok(());
+    }
+    let (smallest, shows) = shrunk(case.clone(), fault);
+    Err(format!("{what}: {shows}\n{smallest}"))
+}
+
+fn same(alike: bool, difference: impl Fn() -> String) -> Result<(), String> {
+    if alike {
+        return Ok(());
+    }
+    Err(difference())
+}
+
+// ---- the progress line
+
+struct Progress {
+    shown: Option<Instant>,
+}
+
+impl Progress {
+    fn new() -> Self {
+        Progress { shown: std::io::stderr().is_terminal().then(Instant::now) }
+    }
+
+    fn show(&mut self, counts: &Counts) {
+        let Some(last) = self.shown else { return };
+        if last.elapsed() > Duration::from_millis(500) {
+            self.shown = Some(Instant::now());
+            eprint!("\r\x1b[K{counts}");
+            let _ = std::io::stderr().flush();
+        }
+    }
+
+    fn clear(&self) {
+        if self.shown.is_some() {
+            eprint!("\r\x1b[K");
+        }
+    }
+}

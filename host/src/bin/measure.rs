@@ -1,0 +1,116 @@
+//! Runs one call many times on a fixed mix of boards, for counting instructions.
+//!
+//!     measure SIDE CALL ROUNDS
+//!
+//! SIDE is original, plain or engine; CALL a step number, `verify`, `read` or `set N` written setN. A round is 64 boards. What a
+//! call costs is the difference of two runs, divided by the difference of their calls:
+//!
+//!     valgrind --tool=callgrind --callgrind-out-file=/dev/null target/release/measure original 1 100
+
+use std::hint::black_box;
+
+use sudoku_host::oracle::{self, SudokuCandidateSet, SudokuSolver};
+use sudoku_host::random::Random;
+use sudoku_host::sides::{Original, Plain, Side};
+use sudoku_host::{cases, grids, plain, set, verify, Clues, Masks, SetCall};
+
+const BOARDS: usize = 64;
+
+fn main() {
+    let words: Vec<String> = std::env::args().skip(1).collect();
+    let [side, call, rounds] = &words[..] else { usage() };
+    let Ok(rounds) = rounds.parse::<usize>() else { usage() };
+    let mut random = Random::new(1);
+    match (side.as_str(), call.as_str()) {
+        (_, "verify") => verifying(side, &mut random, rounds),
+        (_, "read") => reading(side, &mut random, rounds),
+        (_, call) if call.starts_with("set") => setting(side, call[3..].parse().unwrap_or_else(|_| usage()), rounds),
+        ("original", step) => stepping::<Original>(&mut random, step, rounds),
+        ("plain", step) => stepping::<Plain>(&mut random, step, rounds),
+        _ => usage(),
+    }
+}
+
+fn usage() -> ! {
+    eprintln!("measure original|plain|engine STEP|verify|read|setN ROUNDS");
+    std::process::exit(2)
+}
+
+/// Puzzles and the boards on the way through them.
+fn boards(random: &mut Random) -> Vec<(Clues, Masks)> {
+    let mixed = (0..BOARDS).map(|_| {
+        let filling = grids::filling(random);
+        let clues = grids::blanked(random, &filling, 20, 45);
+        let case = cases::Case { clues, kept: cases::EVERYTHING, steps: Vec::new(), others: Vec::new() };
+        let mut masks = case.start();
+        for step in [1, 2, 3].into_iter().take(random.below(4)) {
+            masks = plain::step(step, &clues, &masks).unwrap().masks;
+        }
+        (clues, masks)
+    });
+    mixed.collect()
+}
+
+fn stepping<S: Side>(random: &mut Random, step: &str, rounds: usize) {
+    let step: u8 = step.parse().unwrap_or_else(|_| usage());
+    for (clues, masks) in boards(random) {
+        for _ in 0..rounds {
+            let mut side = S::start(&clues, &masks);
+            if step != 255 {
+                black_box(side.step(black_box(step))).ok();
+            }
+            black_box(&side as *const S);
+        }
+    }
+}
+
+fn verifying(side: &str, random: &mut Random, rounds: usize) {
+    let grids: Vec<Clues> = (0..BOARDS).map(|_| grids::filling(random)).collect();
+    let rows: Vec<[[i32; 9]; 9]> = grids.iter().map(oracle::rows).collect();
+    for _ in 0..rounds {
+        for at in 0..BOARDS {
+            black_box(match side {
+                "original" => SudokuSolver::verify_solution(black_box(&rows[at])),
+                "engine" => verify(black_box(&grids[at])),
+                _ => plain::verify(black_box(&grids[at])),
+            });
+        }
+    }
+}
+
+fn reading(side: &str, random: &mut Random, rounds: usize) {
+    let texts: Vec<String> = (0..BOARDS).map(|_| grids::blanked(random, &grids::of_text(grids::GRID_A), 20, 45).map(|clue| clue.to_string()).concat()).collect();
+    for _ in 0..rounds {
+        for text in &texts {
+            match side {
+                "original" => drop(black_box(SudokuSolver::parse_string(black_box(text)))),
+                _ => drop(black_box(plain::read_text(black_box(text.as_bytes())))),
+            }
+        }
+    }
+}
+
+/// 0 insert, 1 remove, 2 contains, 3 len, 4 single_candidate.
+fn setting(side: &str, call: usize, rounds: usize) {
+    let ours = [SetCall::Insert, SetCall::Remove, SetCall::Contains, SetCall::Len, SetCall::SingleCandidate];
+    for round in 0..rounds * BOARDS {
+        let (mask, digit) = ((round % 512) as u16, (round % 9) as i32 + 1);
+        if side == "engine" {
+            black_box(set(ours[call], black_box(mask), black_box(digit)));
+            continue;
+        }
+        let mut theirs = SudokuCandidateSet::new();
+        theirs.mask = black_box(mask);
+        black_box(match call {
+            0 => {
+                theirs.insert(black_box(digit));
+                0
+            }
+            1 => theirs.remove(black_box(digit)) as i32,
+            2 => theirs.contains(black_box(digit)) as i32,
+            3 => theirs.len() as i32,
+            _ => theirs.single_candidate().unwrap_or(0),
+        });
+        black_box(theirs.mask);
+    }
+}

@@ -1,0 +1,637 @@
+//! The engine a second time, written plainly from document 01's words and from nothing else: not from the Rust, not from the
+//! engine or its definitions. Where all three agree on every case, the words were read alike.
+
+use std::sync::LazyLock;
+
+use crate::{Clues, Masks, Stop};
+
+const CELLS: usize = 81;
+
+/// What a board call answers: "What a call does not speak of" is false, empty or 0.
+#[derive(Clone, Debug, PartialEq, Eq)]
+pub struct Outcome {
+    pub flag: bool,
+    pub reports: Vec<(usize, i32)>,
+    pub sweeps: usize,
+    pub removed: usize,
+    pub masks: Masks,
+}
+
+// ---- cells, units, masks
+
+pub fn bit(digit: i32) -> u16 {
+    1 << (digit - 1)
+}
+
+pub fn row(cell: usize) -> usize {
+    cell / 9
+}
+
+pub fn col(cell: usize) -> usize {
+    cell % 9
+}
+
+pub fn block(cell: usize) -> usize {
+    3 * (row(cell) / 3) + col(cell) / 3
+}
+
+static UNITS: LazyLock<[[usize; 9]; 27]> = LazyLock::new(|| std::array::from_fn(unit_cells));
+static PEERS: LazyLock<[Vec<usize>; 81]> = LazyLock::new(|| std::array::from_fn(|cell| (0..CELLS).filter(|&other| see(cell, other)).collect()));
+
+/// The cells of a unit, rising: rows, then columns, then boxes.
+fn unit_cells(unit: usize) -> [usize; 9] {
+    std::array::from_fn(|place| match unit {
+        0..=8 => 9 * unit + place,
+        9..=17 => 9 * place + (unit - 9),
+        _ => {
+            let (down, right) = ((unit - 18) / 3, (unit - 18) % 3);
+            9 * (3 * down + place / 3) + 3 * right + place % 3
+        }
+    })
+}
+
+pub fn unit(number: usize) -> [usize; 9] {
+    UNITS[number]
+}
+
+/// "Two cells see each other if they are peers."
+pub fn see(a: usize, b: usize) -> bool {
+    a != b && (row(a) == row(b) || col(a) == col(b) || block(a) == block(b))
+}
+
+fn peers(cell: usize) -> impl Iterator<Item = usize> {
+    PEERS[cell].iter().copied()
+}
+
+fn candidates(masks: &Masks) -> usize {
+    masks.iter().map(|mask| mask.count_ones() as usize).sum()
+}
+
+// ---- a board
+
+#[derive(Clone)]
+struct Board {
+    clues: Clues,
+    masks: Masks,
+}
+
+impl Board {
+    fn is_open(&self, cell: usize) -> bool {
+        self.clues[cell] == 0
+    }
+
+    fn holds(&self, cell: usize, digit: i32) -> bool {
+        self.masks[cell] & bit(digit) != 0
+    }
+
+    fn open_holds(&self, cell: usize, digit: i32) -> bool {
+        self.is_open(cell) && self.holds(cell, digit)
+    }
+
+    /// "only open cells lose digits"
+    fn lose(&mut self, cell: usize, digits: u16) {
+        if self.is_open(cell) {
+            self.masks[cell] &= !digits;
+        }
+    }
+
+    fn open_holders(&self, cells: &[usize], digit: i32) -> Vec<usize> {
+        cells.iter().copied().filter(|&cell| self.open_holds(cell, digit)).collect()
+    }
+
+    fn all_holders(&self, cells: &[usize], digit: i32) -> Vec<usize> {
+        cells.iter().copied().filter(|&cell| self.holds(cell, digit)).collect()
+    }
+}
+
+/// "an open cell holds d exactly if no peer's clue is d"
+pub fn fresh(clues: &Clues) -> Masks {
+    std::array::from_fn(|cell| {
+        if clues[cell] != 0 {
+            return bit(clues[cell]);
+        }
+        (1..=9).filter(|&digit| peers(cell).all(|peer| clues[peer] != digit)).map(bit).sum()
+    })
+}
+
+fn bad_clue(clues: &Clues) -> Option<Stop> {
+    let cell = clues.iter().position(|clue| !(0..=9).contains(clue))?;
+    Some(Stop { number: 3, detail: cell as i64 })
+}
+
+/// The check of a handed board: stop 3, then stop 9.
+pub fn check(clues: &Clues, masks: &Masks) -> Option<Stop> {
+    if let Some(stop) = bad_clue(clues) {
+        return Some(stop);
+    }
+    let fresh = fresh(clues);
+    let bad = |&cell: &usize| masks[cell] & !fresh[cell] != 0 || clues[cell] != 0 && masks[cell] != bit(clues[cell]);
+    let cell = (0..CELLS).find(bad)?;
+    Some(Stop { number: 9, detail: cell as i64 })
+}
+
+pub fn open(clues: &Clues) -> Result<Masks, Stop> {
+    bad_clue(clues).map_or_else(|| Ok(fresh(clues)), Err)
+}
+
+// ---- the ported passes
+
+impl Board {
+    fn naked_pairs(&mut self) {
+        for cells in (0..27).map(unit) {
+            for first in 0..9 {
+                for second in first + 1..9 {
+                    self.naked_pair(&cells, cells[first], cells[second]);
+                }
+            }
+        }
+    }
+
+    fn naked_pair(&mut self, cells: &[usize; 9], first: usize, second: usize) {
+        let pair = self.masks[first];
+        if !self.is_open(first) || !self.is_open(second) || self.masks[second] != pair || pair.count_ones() != 2 {
+            return;
+        }
+        for &cell in cells {
+            if cell != first && cell != second {
+                self.lose(cell, pair);
+            }
+        }
+    }
+
+    fn box_line(&mut self) {
+        for number in 0..9 {
+            for digit in 1..=9 {
+                let holders = self.open_holders(&unit(18 + number), digit);
+                if holders.len() < 2 {
+                    continue;
+                }
+                self.box_to_line(number, digit, &holders, row, 0);
+                self.box_to_line(number, digit, &holders, col, 9);
+            }
+        }
+    }
+
+    fn box_to_line(&mut self, number: usize, digit: i32, holders: &[usize], line: fn(usize) -> usize, units: usize) {
+        let at = line(holders[0]);
+        if holders.iter().any(|&cell| line(cell) != at) {
+            return;
+        }
+        for cell in unit(units + at) {
+            if block(cell) != number {
+                self.lose(cell, bit(digit));
+            }
+        }
+    }
+
+    fn x_wing(&mut self) {
+        for (lines, across) in [(0, col as fn(usize) -> usize), (9, row)] {
+            for digit in 1..=9 {
+                self.x_wing_of(digit, lines, across);
+            }
+        }
+    }
+
+    /// "list all rows with exactly two open cells holding d .. The list is not renewed between."
+    fn x_wing_of(&mut self, digit: i32, lines: usize, across: fn(usize) -> usize) {
+        let places = |line: usize| self.open_holders(&unit(lines + line), digit).into_iter().map(across).collect::<Vec<_>>();
+        let listed: Vec<(usize, Vec<usize>)> = (0..9).map(|line| (line, places(line))).filter(|(_, held)| held.len() == 2).collect();
+        for (at, (first, held)) in listed.iter().enumerate() {
+            for (second, others) in &listed[at + 1..] {
+                if held == others {
+                    self.x_wing_removes(digit, lines, [*first, *second], held);
+                }
+            }
+        }
+    }
+
+    fn x_wing_removes(&mut self, digit: i32, lines: usize, pair: [usize; 2], held: &[usize]) {
+        for line in (0..9).filter(|line| !pair.contains(line)) {
+            for &place in held {
+                self.lose(unit(lines + line)[place], bit(digit));
+            }
+        }
+    }
+
+    fn naked_singles(&self) -> Vec<(usize, i32)> {
+        let single = |cell: &usize| self.is_open(*cell) && self.masks[*cell].count_ones() == 1;
+        (0..CELLS).filter(single).map(|cell| (cell, self.masks[cell].trailing_zeros() as i32 + 1)).collect()
+    }
+
+    fn hidden_singles(&self) -> Vec<(usize, i32)> {
+        let mut reports = Vec::new();
+        for cells in (0..27).map(unit) {
+            for digit in 1..=9 {
+                if let [cell] = self.open_holders(&cells, digit)[..] {
+                    reports.push((cell, digit));
+                }
+            }
+        }
+        reports
+    }
+}
+
+// ---- the chain pass
+
+impl Board {
+    fn chain_pass(&mut self) {
+        for digit in 1..=9 {
+            let starts: Vec<usize> = (0..CELLS).filter(|&cell| self.open_holds(cell, digit)).collect();
+            for start in starts {
+                if self.enter(digit, &mut Vec::new(), start) {
+                    break;
+                }
+            }
+        }
+    }
+
+    /// Goes on from a cell that the path does not have; yes where a candidate was lost.
+    fn enter(&mut self, digit: i32, path: &mut Vec<usize>, cell: usize) -> bool {
+        path.push(cell);
+        let lost = self.chain_removes(digit, path[0], cell, path.len());
+        if !lost && path.len() < 7 {
+            let weak = path.len() % 2 == 1;
+            let links = if weak { self.weak_links(digit, cell) } else { self.strong_links(digit, cell) };
+            for next in links {
+                if !path.contains(&next) && self.enter(digit, path, next) {
+                    return true;
+                }
+            }
+        }
+        path.pop();
+        lost
+    }
+
+    fn chain_removes(&mut self, digit: i32, start: usize, end: usize, cells: usize) -> bool {
+        if cells < 4 || !see(start, end) {
+            return false;
+        }
+        let seen = |&cell: &usize| self.open_holds(cell, digit) && see(cell, start) && see(cell, end);
+        let Some(cell) = (0..CELLS).find(seen) else { return false };
+        self.lose(cell, bit(digit));
+        true
+    }
+
+    fn weak_links(&self, digit: i32, cell: usize) -> Vec<usize> {
+        peers(cell).filter(|&peer| self.open_holds(peer, digit)).collect()
+    }
+
+    fn strong_links(&self, digit: i32, cell: usize) -> Vec<usize> {
+        let mut links = Vec::new();
+        for number in [row(cell), 9 + col(cell), 18 + block(cell)] {
+            let holders = self.open_holders(&unit(number), digit);
+            if holders.len() == 2 {
+                links.extend(holders.into_iter().filter(|&other| other != cell));
+            }
+        }
+        links
+    }
+}
+
+// ---- the wide passes and settling
+
+impl Board {
+    fn lone(&mut self) {
+        for cell in 0..CELLS {
+            for digit in 1..=9 {
+                if self.masks[cell] & !bit(digit) == 0 {
+                    for peer in peers(cell) {
+                        self.lose(peer, bit(digit));
+                    }
+                }
+            }
+        }
+    }
+
+    fn place(&mut self) {
+        for cells in (0..27).map(unit) {
+            for digit in 1..=9 {
+                for cell in cells {
+                    if cells.iter().all(|&other| other == cell || !self.holds(other, digit)) {
+                        self.lose(cell, !bit(digit));
+                    }
+                }
+            }
+        }
+    }
+
+    fn pair(&mut self) {
+        for cells in (0..27).map(unit) {
+            for first in 0..9 {
+                for second in first + 1..9 {
+                    self.pair_of(&cells, cells[first], cells[second]);
+                }
+            }
+        }
+    }
+
+    fn pair_of(&mut self, cells: &[usize; 9], first: usize, second: usize) {
+        for a in 1..=9 {
+            for b in a + 1..=9 {
+                let both = bit(a) | bit(b);
+                if (self.masks[first] | self.masks[second]) & !both != 0 {
+                    continue;
+                }
+                for &cell in cells {
+                    if cell != first && cell != second {
+                        self.lose(cell, both);
+                    }
+                }
+            }
+        }
+    }
+
+    fn pointing(&mut self) {
+        for number in 0..9 {
+            let inside = unit(18 + number);
+            let lines: Vec<usize> = (0..3).map(|at| row(inside[3 * at])).chain((0..3).map(|at| 9 + col(inside[at]))).collect();
+            for digit in 1..=9 {
+                for &line in &lines {
+                    self.point(&inside, digit, &unit(line));
+                }
+            }
+        }
+    }
+
+    fn point(&mut self, inside: &[usize; 9], digit: i32, line: &[usize; 9]) {
+        if self.all_holders(inside, digit).iter().any(|cell| !line.contains(cell)) {
+            return;
+        }
+        for cell in line {
+            if !inside.contains(cell) {
+                self.lose(*cell, bit(digit));
+            }
+        }
+    }
+
+    fn cross(&mut self) {
+        for (lines, across) in [(0, col as fn(usize) -> usize), (9, row)] {
+            for digit in 1..=9 {
+                for first in 0..9 {
+                    for second in first + 1..9 {
+                        self.cross_of(digit, lines, [first, second], across);
+                    }
+                }
+            }
+        }
+    }
+
+    fn cross_of(&mut self, digit: i32, lines: usize, pair: [usize; 2], across: fn(usize) -> usize) {
+        let inside = pair.map(|line| unit(lines + line));
+        for c1 in 0..9 {
+            for c2 in c1 + 1..9 {
+                let beside = |&cell: &usize| self.holds(cell, digit) && across(cell) != c1 && across(cell) != c2;
+                if inside.iter().flatten().any(|cell| beside(cell)) {
+                    continue;
+                }
+                for line in (0..9).filter(|line| !pair.contains(line)) {
+                    let cells = unit(lines + line);
+                    self.lose(cells[c1], bit(digit));
+                    self.lose(cells[c2], bit(digit));
+                }
+            }
+        }
+    }
+
+    fn sweep(&mut self) {
+        self.lone();
+        self.place();
+        self.pair();
+        self.pointing();
+        self.cross();
+    }
+
+    /// "sweep until one removes nothing", that last one counted.
+    fn settle(&mut self) -> usize {
+        let mut sweeps = 0;
+        loop {
+            let before = self.masks;
+            self.sweep();
+            sweeps += 1;
+            if self.masks == before {
+                return sweeps;
+            }
+        }
+    }
+}
+
+// ---- the calls by number
+
+/// 0 update_candidates, 1 naked pairs, 2 box-line, 3 X-wing, 4 naked singles, 5 hidden singles, 6 apply_advanced_techniques,
+/// 7 Lone, 8 Place, 9 Pair, 10 Pointing, 11 Cross, 12 settling, 13 the chain pass.
+pub fn step(number: u8, clues: &Clues, masks: &Masks) -> Result<Outcome, Stop> {
+    if let Some(stop) = check(clues, masks) {
+        return Err(stop);
+    }
+    let mut board = Board { clues: *clues, masks: *masks };
+    match number {
+        0 => Ok(Outcome { masks: fresh(clues), ..silent(masks) }),
+        1 => Ok(removing(&mut board, Board::naked_pairs)),
+        2 => Ok(removing(&mut board, Board::box_line)),
+        3 => Ok(removing(&mut board, Board::x_wing)),
+        4 => Ok(reporting(masks, board.naked_singles())),
+        5 => Ok(reporting(masks, board.hidden_singles())),
+        6 => Ok(advanced(&mut board)),
+        7 => Ok(removing(&mut board, Board::lone)),
+        8 => Ok(removing(&mut board, Board::place)),
+        9 => Ok(removing(&mut board, Board::pair)),
+        10 => Ok(removing(&mut board, Board::pointing)),
+        11 => Ok(removing(&mut board, Board::cross)),
+        12 => Ok(settling(&mut board)),
+        13 => Ok(removing(&mut board, Board::chain_pass)),
+        _ => Err(Stop { number: -1, detail: number as i64 }),
+    }
+}
+
+fn silent(masks: &Masks) -> Outcome {
+    Outcome { flag: false, reports: Vec::new(), sweeps: 0, removed: 0, masks: *masks }
+}
+
+fn reporting(masks: &Masks, reports: Vec<(usize, i32)>) -> Outcome {
+    Outcome { flag: !reports.is_empty(), reports, ..silent(masks) }
+}
+
+fn removing(board: &mut Board, pass: fn(&mut Board)) -> Outcome {
+    let before = board.masks;
+    pass(board);
+    Outcome { flag: board.masks != before, ..silent(&board.masks) }
+}
+
+fn advanced(board: &mut Board) -> Outcome {
+    let before = board.masks;
+    let mut reports = board.naked_singles();
+    reports.extend(board.hidden_singles());
+    board.naked_pairs();
+    let flag = !reports.is_empty() || board.masks != before;
+    let masks = if flag { fresh(&board.clues) } else { before };
+    Outcome { flag, reports, ..silent(&masks) }
+}
+
+fn settling(board: &mut Board) -> Outcome {
+    let before = candidates(&board.masks);
+    let sweeps = board.settle();
+    Outcome { sweeps, removed: before - candidates(&board.masks), ..silent(&board.masks) }
+}
+
+// ---- verifier, verdict, one cell
+
+pub fn verify(grid: &Clues) -> bool {
+    grid.iter().all(|number| (1..=9).contains(number)) && (0..27).map(unit).all(|cells| (1..=9).all(|digit| cells.iter().any(|&cell| grid[cell] == digit)))
+}
+
+pub fn verdict(clues: &Clues, masks: &Masks) -> Result<&'static str, Stop> {
+    if let Some(stop) = check(clues, masks) {
+        return Err(stop);
+    }
+    if masks.contains(&0) {
+        return Ok("dead");
+    }
+    Ok(if masks.iter().all(|mask| mask.count_ones() == 1) { "finished" } else { "open" })
+}
+
+pub fn one_mask(clues: &Clues, masks: &Masks, cell: usize) -> Result<u16, Stop> {
+    if let Some(stop) = check(clues, masks) {
+        return Err(stop);
+    }
+    masks.get(cell).copied().ok_or(Stop { number: 5, detail: cell as i64 })
+}
+
+// ---- text
+
+pub fn read_text(text: &[u8]) -> Result<Clues, Stop> {
+    if text.len() != CELLS {
+        return Err(Stop { number: 1, detail: text.len() as i64 });
+    }
+    let mut clues = [0; CELLS];
+    for (at, &byte) in text.iter().enumerate() {
+        clues[at] = match byte {
+            b'1'..=b'9' => (byte - b'0') as i32,
+            b'0' | b'.' => 0,
+            _ => return Err(Stop { number: 2, detail: at as i64 }),
+        };
+    }
+    Ok(clues)
+}
+
+pub fn write_text(clues: &Clues, lent: &mut [u8]) -> Result<usize, Stop> {
+    if lent.len() < CELLS {
+        return Err(Stop { number: 6, detail: lent.len() as i64 });
+    }
+    if let Some(stop) = bad_clue(clues) {
+        return Err(stop);
+    }
+    for (cell, &clue) in clues.iter().enumerate() {
+        lent[cell] = if clue == 0 { b'.' } else { b'0' + clue as u8 };
+    }
+    Ok(CELLS)
+}
+
+// ---- record
+
+fn clue_entries(clues: &Clues) -> Vec<[u8; 2]> {
+    (0..CELLS).filter(|&cell| clues[cell] != 0).map(|cell| [cell as u8, clues[cell] as u8]).collect()
+}
+
+/// "what the fresh mask has and the board lacks"
+fn removed_entries(clues: &Clues, masks: &Masks) -> Vec<[u8; 2]> {
+    let fresh = fresh(clues);
+    let lacks = |&(cell, digit): &(usize, i32)| fresh[cell] & !masks[cell] & bit(digit) != 0;
+    let all = (0..CELLS).flat_map(|cell| (1..=9).map(move |digit| (cell, digit)));
+    all.filter(lacks).map(|(cell, digit)| [cell as u8, digit as u8]).collect()
+}
+
+pub fn write_record(clues: &Clues, masks: &Masks, lent: &mut [u8]) -> Result<usize, Stop> {
+    if let Some(stop) = check(clues, masks) {
+        return Err(stop);
+    }
+    let (given, removed) = (clue_entries(clues), removed_entries(clues, masks));
+    let mut record = vec![given.len() as u8];
+    record.extend(given.concat());
+    record.extend((removed.len() as u16).to_le_bytes());
+    record.extend(removed.concat());
+    if lent.len() < record.len() {
+        return Err(Stop { number: 6, detail: lent.len() as i64 });
+    }
+    lent[..record.len()].copy_from_slice(&record);
+    Ok(record.len())
+}
+
+pub fn read_record(record: &[u8]) -> Result<(Clues, Masks), Stop> {
+    let missing = Stop { number: 7, detail: record.len() as i64 };
+    let mut clues = [0; CELLS];
+    let mut at = 1;
+    let mut last = None;
+    for _ in 0..*record.first().ok_or(missing)? {
+        let (cell, digit) = entry(record, at)?;
+        if last.is_some_and(|before| cell <= before) {
+            return Err(Stop { number: 8, detail: at as i64 });
+        }
+        clues[cell] = digit;
+        last = Some(cell);
+        at += 2;
+    }
+    let mut masks = fresh(&clues);
+    let count = record.get(at..at + 2).ok_or(missing)?;
+    let count = count[0] as usize + 256 * count[1] as usize;
+    at += 2;
+    let mut last = None;
+    for _ in 0..count {
+        let (cell, digit) = entry(record, at)?;
+        if last.is_some_and(|before| (cell, digit) <= before) {
+            return Err(Stop { number: 8, detail: at as i64 });
+        }
+        if clues[cell] != 0 || masks[cell] & bit(digit) == 0 {
+            return Err(Stop { number: 9, detail: at as i64 });
+        }
+        masks[cell] &= !bit(digit);
+        last = Some((cell, digit));
+        at += 2;
+    }
+    if at < record.len() {
+        return Err(Stop { number: 7, detail: at as i64 });
+    }
+    Ok((clues, masks))
+}
+
+fn entry(record: &[u8], at: usize) -> Result<(usize, i32), Stop> {
+    let Some(&[cell, digit]) = record.get(at..at + 2) else {
+        return Err(Stop { number: 7, detail: record.len() as i64 });
+    };
+    if cell > 80 || !(1..=9).contains(&digit) {
+        return Err(Stop { number: 8, detail: at as i64 });
+    }
+    Ok((cell as usize, digit as i32))
+}
+
+// ---- the program's card
+
+pub fn card(input: &[u8]) -> String {
+    let input = &input[..input.len().min(4096)];
+    let text = input.strip_suffix(b"\n").unwrap_or(input);
+    match read_text(text) {
+        Ok(clues) => lines(&clues),
+        Err(stop) => format!("refused {} {}\n", stop.number, stop.detail),
+    }
+}
+
+fn lines(clues: &Clues) -> String {
+    let fresh = fresh(clues);
+    let reported = step(6, clues, &fresh).unwrap().reports.len();
+    let settled = step(12, clues, &fresh).unwrap();
+    let given = clues.iter().filter(|&&clue| clue != 0).count();
+    let line: String = settled.masks.iter().map(shown).collect();
+    format!(
+        "clues {given}\nreported {reported}\nsweeps {}\nremoved {}\nverdict {}\nline {line}\n",
+        settled.sweeps,
+        settled.removed,
+        verdict(clues, &settled.masks).unwrap()
+    )
+}
+
+fn shown(mask: &u16) -> char {
+    match mask.count_ones() {
+        0 => '!',
+        1 => char::from(b'1' + mask.trailing_zeros() as u8),
+        _ => '.',
+    }
+}

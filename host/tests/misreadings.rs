@@ -1,0 +1,196 @@
+//! The comparison has teeth: each misreading of document 01 below is found within some thousand cases, and made small.
+
+use sudoku_host::cases::{differ, ported_case, Case};
+use sudoku_host::plain::{self, bit, block, col, row, see, unit, Outcome};
+use sudoku_host::random::Random;
+use sudoku_host::shrink::shrunk;
+use sudoku_host::sides::{Original, Side, CHAIN};
+use sudoku_host::{Clues, Masks, Stop};
+
+/// The plain implementation with one step misread.
+struct Misread<const WHICH: usize> {
+    clues: Clues,
+    masks: Masks,
+}
+
+type Pass = fn(&Clues, &mut Masks);
+
+const MISREADINGS: [(u8, Pass); 5] =
+    [(2, columns_after_all_boxes), (2, one_holder), (3, list_renewed), (1, tested_at_the_units_start), (CHAIN, strong_links_first)];
+
+impl<const WHICH: usize> Side for Misread<WHICH> {
+    fn start(clues: &Clues, masks: &Masks) -> Self {
+        Misread { clues: *clues, masks: *masks }
+    }
+
+    fn step(&mut self, number: u8) -> Result<Outcome, Stop> {
+        let mut outcome = plain::step(number, &self.clues, &self.masks)?;
+        match MISREADINGS.get(WHICH) {
+            Some(&(step, pass)) if step == number => {
+                outcome.masks = self.masks;
+                pass(&self.clues, &mut outcome.masks);
+                outcome.flag = outcome.masks != self.masks;
+            }
+            None if WHICH == 5 && number == 5 => repeats_dropped(&mut outcome),
+            None if WHICH == 6 && number == 6 => self.removals_carried(&mut outcome),
+            _ => {}
+        }
+        self.masks = outcome.masks;
+        Ok(outcome)
+    }
+}
+
+impl<const WHICH: usize> Misread<WHICH> {
+    fn removals_carried(&self, outcome: &mut Outcome) {
+        outcome.masks = plain::step(1, &self.clues, &self.masks).unwrap().masks;
+    }
+}
+
+fn repeats_dropped(outcome: &mut Outcome) {
+    let mut seen = Vec::new();
+    outcome.reports.retain(|report| !seen.contains(report) && { seen.push(*report); true });
+}
+
+fn holders(clues: &Clues, masks: &Masks, cells: &[usize], digit: i32) -> Vec<usize> {
+    cells.iter().copied().filter(|&cell| clues[cell] == 0 && masks[cell] & bit(digit) != 0).collect()
+}
+
+fn lose(clues: &Clues, masks: &mut Masks, cell: usize, digits: u16) {
+    if clues[cell] == 0 {
+        masks[cell] &= !digits;
+    }
+}
+
+fn box_to_line(clues: &Clues, masks: &mut Masks, number: usize, digit: i32, least: usize, line: fn(usize) -> usize, units: usize) {
+    let held = holders(clues, masks, &unit(18 + number), digit);
+    if held.len() < least || held.iter().any(|&cell| line(cell) != line(held[0])) {
+        return;
+    }
+    for cell in unit(units + line(held[0])) {
+        if block(cell) != number {
+            lose(clues, masks, cell, bit(digit));
+        }
+    }
+}
+
+fn columns_after_all_boxes(clues: &Clues, masks: &mut Masks) {
+    for (line, units) in [(row as fn(usize) -> usize, 0), (col, 9)] {
+        for number in 0..9 {
+            (1..=9).for_each(|digit| box_to_line(clues, masks, number, digit, 2, line, units));
+        }
+    }
+}
+
+fn one_holder(clues: &Clues, masks: &mut Masks) {
+    for number in 0..9 {
+        for digit in 1..=9 {
+            box_to_line(clues, masks, number, digit, 1, row, 0);
+            box_to_line(clues, masks, number, digit, 1, col, 9);
+        }
+    }
+}
+
+fn list_renewed(clues: &Clues, masks: &mut Masks) {
+    for (lines, across) in [(0, col as fn(usize) -> usize), (9, row)] {
+        for digit in 1..=9 {
+            for first in 0..9 {
+                for second in first + 1..9 {
+                    let held = [first, second].map(|line| holders(clues, masks, &unit(lines + line), digit).into_iter().map(across).collect::<Vec<_>>());
+                    if held[0].len() == 2 && held[0] == held[1] {
+                        let others = (0..9).filter(|&line| line != first && line != second);
+                        others.for_each(|line| held[0].iter().for_each(|&at| lose(clues, masks, unit(lines + line)[at], bit(digit))));
+                    }
+                }
+            }
+        }
+    }
+}
+
+fn tested_at_the_units_start(clues: &Clues, masks: &mut Masks) {
+    for cells in (0..27).map(unit) {
+        let before = *masks;
+        for first in cells {
+            for second in cells.into_iter().filter(|&second| second > first) {
+                let pair = before[first];
+                if clues[first] == 0 && clues[second] == 0 && before[second] == pair && pair.count_ones() == 2 {
+                    let others = cells.into_iter().filter(|&cell| cell != first && cell != second);
+                    others.for_each(|cell| lose(clues, masks, cell, pair));
+                }
+            }
+        }
+    }
+}
+
+fn strong_links_first(clues: &Clues, masks: &mut Masks) {
+    for digit in 1..=9 {
+        let all: Vec<usize> = (0..81).collect();
+        let starts = holders(clues, masks, &all, digit);
+        starts.into_iter().any(|start| enter(clues, masks, digit, &mut Vec::new(), start));
+    }
+}
+
+fn enter(clues: &Clues, masks: &mut Masks, digit: i32, path: &mut Vec<usize>, cell: usize) -> bool {
+    path.push(cell);
+    let all: Vec<usize> = (0..81).collect();
+    let seen = holders(clues, masks, &all, digit).into_iter().find(|&other| see(other, path[0]) && see(other, cell));
+    if path.len() >= 4 && see(path[0], cell) && seen.is_some() {
+        lose(clues, masks, seen.unwrap(), bit(digit));
+        return true;
+    }
+    let strong = || [row(cell), 9 + col(cell), 18 + block(cell)].map(|number| holders(clues, masks, &unit(number), digit)).into_iter().filter(|held| held.len() == 2).flatten().collect();
+    let weak = || all.iter().copied().filter(|&other| see(cell, other)).filter(|other| holders(clues, masks, &[*other], digit).len() == 1).collect();
+    let links: Vec<usize> = if path.len() % 2 == 1 { strong() } else { weak() };
+    if path.len() < 7 {
+        for next in links {
+            if !path.contains(&next) && enter(clues, masks, digit, path, next) {
+                return true;
+            }
+        }
+    }
+    path.pop();
+    false
+}
+
+/// A case of a seeded run on which the misreading shows, made small: one call, and few clues.
+fn found<const WHICH: usize>(step: u8) {
+    let fault = |case: &Case| differ::<Original, Misread<WHICH>>(case);
+    let case = (0..20_000).map(|at| ported_case(&mut Random::of_case(7, at))).find(|case| fault(case).is_some());
+    let (smallest, shows) = shrunk(case.expect("the misreading is found"), &fault);
+    println!("{smallest}{shows}");
+    assert_eq!(smallest.steps, [step]);
+}
+
+#[test]
+fn box_line_columns_after_all_boxes() {
+    found::<0>(2);
+}
+
+#[test]
+fn box_line_with_one_holder() {
+    found::<1>(2);
+}
+
+#[test]
+fn x_wing_list_renewed() {
+    found::<2>(3);
+}
+
+#[test]
+fn naked_pairs_tested_at_the_units_start() {
+    found::<3>(1);
+}
+
+#[test]
+fn chain_with_strong_links_first() {
+    found::<4>(CHAIN);
+}
+
+#[test]
+fn hidden_reports_without_repeats() {
+    found::<5>(5);
+}
+
+#[test]
+fn pair_removals_carried_through_apply_advanced_techniques() {
+    found::<6>(6);
+}
