@@ -13,6 +13,7 @@ use Rattle.candidates.proofs.Tests.{cond-true}
 use Rattle.grid.specs.Cells.{cells}
 use Rattle.grid.specs.Units.{unitCell}
 use Rattle.steps.specs.Boards.{at}
+use Rattle.steps.specs.Calls.{isSome}
 use Rattle.steps.specs.Loops.{each, for, upTo}
 use Rattle.steps.specs.Ported.{spots}
 use Rattle.steps.specs.Singles.{Report, reportIf, isNakedSingle, nakedSingles, hiddenSingles}
@@ -104,3 +105,9 @@ module _ (g m : List ℕ) where
 
   pub both-stand : append (hiddenSingles g m) (reportsOf (nakedSingles g m)) ≡ reportsOf (nakedSingles g m ++ hiddenSingles g m)
   both-stand = append-on (nakedSingles g m) (hiddenSingles g m) (omega (arith, naked-few, hidden-few))
+
+-- "A report is progress."
+pub some-count : (rs : List Report) → ltb 0 (reportsOf rs .count) ≡ isSome rs
+unfolding reportsOf
+some-count [] = refl
+some-count (r ∷ rs) = lt-ltb 0 (length (r ∷ rs)) (omega arith)

@@ -1,0 +1,38 @@
+-- `techniques::advances` meets its contract. Assumes nothing.
+use mathlib.Core.Path.{_≡_, sym, ap, _∙_}
+use mathlib.Core.Bool.{Bool, _||_}
+use mathlib.Core.List.{List}
+use Prim.Native.Nat.{ℕ}
+use borrow.Author.Needs.{needs}
+use borrow.Author.Tests.{lt-ltb, le-ltb}
+use lib.Dec.{ltb}
+use Rattle.steps.specs.Passes.{changed}
+use Rattle.steps.specs.Ported.{nakedPairs}
+use Rattle.techniques.proofs.advances.Statement.{statement}
+use Rattle.techniques.proofs.advances.Tie as tie
+
+returns : tie.Need-returns
+returns c =
+    let a = c .before .args in
+    sym (ap (λ (t : Bool). t || changed (a .masks) (nakedPairs (a .givens .now) (a .masks))) (lt-ltb 0 (a .count) (c .if1 .taken)))
+
+naked-pairs-requires : tie.Need-naked-pairs-requires
+naked-pairs-requires c κs = search needs
+
+changed-requires : tie.Need-changed-requires
+changed-requires c κs = search needs
+
+returns-2 : tie.Need-returns-2
+returns-2 c =
+    let a = c .before .before .before .before .args in
+    c .changed .ensures ∙ ap (changed (a .masks)) (c .before .naked-pairs .ensures)
+    ∙ sym (ap (λ (t : Bool). t || changed (a .masks) (nakedPairs (a .givens .now) (a .masks))) (le-ltb 0 (a .count) (c .before .before .before .if1 .left)))
+
+pub advances-spec : {M : Type 1} → statement M
+advances-spec =
+    tie.close
+    (tie.spec
+    returns
+    naked-pairs-requires
+    changed-requires
+    returns-2)
