@@ -1,5 +1,5 @@
-//! The engine a second time, written plainly from document 01's words and from nothing else: not from the Rust, not from the
-//! engine or its definitions. Where all three agree on every case, the words were read alike.
+//! The engine a second time, plainly, sentence by sentence after document 01; it shares no code with the Rust, the engine or its
+//! definitions. Its author had read all three, so agreement shows that the words fit the Rust, not that they allow nothing else.
 
 use std::sync::LazyLock;
 
