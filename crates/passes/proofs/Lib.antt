@@ -6,3 +6,9 @@ pub mod Taking
 pub mod HeldPlaces
 pub mod PlaceTurns
 pub mod PointingTurns
+pub mod TwoNumbers
+pub mod Frames
+pub mod Passed
+pub mod FramePasses
+pub mod CellCounts
+pub mod Sweeping

@@ -1,18 +1,23 @@
 -- Masks of the nine digits, or of the nine places of a unit: what they hold, and which digits lie outside one. Assumes nothing.
-use mathlib.Core.Path.{_≡_, refl, sym, ap, _∙_}
+use mathlib.Core.Path.{_≡_, refl, sym, ap, _∙_, subst}
+use mathlib.Core.Logic.{_≢_, inl, inr, ⊎-elim}
 use mathlib.Core.Bool.{Bool, true, false, cond, not, _&&_, _||_}
-use Prim.Native.Nat.{ℕ, _-_, _^_, _<_}
+use Prim.Native.Nat.{ℕ, _+_, _-_, _^_, _<_}
+use native.Mathlib.Decide.{ℕ-discrete, decLt}
 use native.Mathlib.Omega.{arith}
-use borrow.Author.Tests.{lt-ltb, eq-eqb, eqb-true}
+use borrow.Author.Tests.{lt-ltb, eq-eqb, eqb-true, eqb-false}
+use lib.Bits.{bitAnd, and-mask}
 use lib.Dec.{eqb, ltb, ltb→lt}
-use Rattle.candidates.specs.Masks.{has, minus, union, single, Sub}
-use Rattle.candidates.proofs.Counts.{sub-and}
-use Rattle.candidates.proofs.Held.{has-minus, has-union, held-power}
-use Rattle.candidates.proofs.Membership.{bit-all}
-use Rattle.candidates.proofs.Order.{sub-all}
-use Rattle.candidates.proofs.Tests.{below, bool-iff, cond-true, eqb-iff}
+use Rattle.candidates.specs.Masks.{has, minus, union, count, single, lowest, tail, Sub}
+use Rattle.candidates.proofs.Counts.{count-none, count-pos, count-sub, count-proper, sub-and, bit-except}
+use Rattle.candidates.proofs.FewDigits.{two-count, tail-count, tail-small}
+use Rattle.candidates.proofs.Held.{has-minus, has-union, held-power, held-union, held-both}
+use Rattle.candidates.proofs.Membership.{bit-all, bit-and, bit-union, bit-minus, ext}
+use Rattle.candidates.proofs.Order.{sub-refl, sub-le, sub-all, minus-sub, and-sub, sub-of-minus, minus-of-sub, union-sub}
+use Rattle.candidates.proofs.Tests.{below, by-test, bool-iff, cond-true, eqb-iff, both, both-left, both-right}
 use Rattle.grid.specs.Units.{unitCell}
 use Rattle.grid.proofs.Units.{same-place}
+use Rattle.passes.specs.Twos.{reachOf}
 
 pub single-is : (d : ℕ) → d < 9 → single d ≡ 2 ^ d
 single-is d h = cond-true (ltb d 16) (2 ^ d) 0 (lt-ltb d 16 (omega arith))
@@ -45,3 +50,100 @@ cond-not false x y = refl
 -- a place of a unit, by its cell
 pub has-place : (u i j : ℕ) → u < 27 → i < 9 → j < 9 → has (single i) j ≡ eqb (unitCell u j) (unitCell u i)
 has-place u i j h l n = ap (λ (x : ℕ). has x j) (single-is i l) ∙ has-power i j ∙ eqb-iff j i (unitCell u j) (unitCell u i) (ap (unitCell u)) (same-place u j i h n l)
+
+-- ---- two digits
+
+pub both-is : (a b : ℕ) → a < 9 → b < 9 → union (single a) (single b) ≡ union (2 ^ a) (2 ^ b)
+both-is a b h l = ap (λ (x : ℕ). union x (single b)) (single-is a h) ∙ ap (union (2 ^ a)) (single-is b l)
+
+pub both-sub : (a b : ℕ) → a < 9 → b < 9 → Sub (union (2 ^ a) (2 ^ b)) 511
+both-sub a b h l = subst (λ (x : ℕ). Sub x 511) (both-is a b h l) (union-sub (single-sub a h) (single-sub b l))
+
+pub has-two : (a b d : ℕ) → a < 9 → b < 9 → has (union (single a) (single b)) d ≡ (eqb d a || eqb d b)
+has-two a b d h l = ap (λ (x : ℕ). has x d) (both-is a b h l) ∙ has-both a b d
+
+-- two places of a unit, by their cells
+pub has-places : (u i j k : ℕ) → u < 27 → i < 9 → j < 9 → k < 9 → has (union (single i) (single j)) k ≡ (eqb (unitCell u k) (unitCell u i) || eqb (unitCell u k) (unitCell u j))
+has-places u i j k h l n o =
+    has-union (single i) (single j) k ∙ ap (λ (t : Bool). t || has (single j) k) (has-place u i k h l o) ∙ ap (λ (t : Bool). eqb (unitCell u k) (unitCell u i) || t) (has-place u j k h n o)
+
+count-both : (a b : ℕ) → a ≢ b → count (union (2 ^ a) (2 ^ b)) ≡ 2
+count-both a b n = two-count (record { apart = n; held = λ d. (held-both a b d, λ w. held-union (2 ^ a) (2 ^ b) d .1 (⊎-elim (λ e. inl (held-power a d .1 e)) (λ e. inr (held-power b d .1 e)) w)) })
+
+-- ---- what lies in the nine digits
+
+pub nine-small : (x : ℕ) → x < 2 ^ 9 → bitAnd x 511 ≡ x
+nine-small x h = and-mask x 9 ∙ omega arith
+
+pub nine-lt : (x : ℕ) → bitAnd x 511 < 2 ^ 16
+nine-lt x = omega (arith, sub-le (and-sub x 511))
+
+-- no digit of x outside k, as a step has it and as code has it
+pub outside-test : (x : ℕ) {k : ℕ} → Sub k 511 → eqb (bitAnd x (511 - k)) 0 ≡ eqb (minus (bitAnd x 511) k) 0
+outside-test x {k} p =
+    ap (λ (y : ℕ). eqb y 0)
+    (ext (bitAnd x (511 - k)) (minus (bitAnd x 511) k) (λ d. omega (arith, bit-and x (511 - k) d, bit-except d p, bit-minus (bitAnd x 511) k d, bit-and x 511 d)))
+
+-- nor of y
+pub outside-both : (x y k : ℕ) → (eqb (minus (bitAnd x 511) k) 0 && eqb (minus (bitAnd y 511) k) 0) ≡ eqb (minus (bitAnd (union x y) 511) k) 0
+outside-both x y k = bool-iff (eqb (minus (bitAnd x 511) k) 0 && eqb (minus (bitAnd y 511) k) 0) (eqb (minus (bitAnd (union x y) 511) k) 0) down up
+  where
+    part : (z : ℕ) → eqb (minus z k) 0 ≡ true → Sub z k
+    part z t = sub-of-minus z k (eqb-true (minus z k) 0 t)
+
+    down : (eqb (minus (bitAnd x 511) k) 0 && eqb (minus (bitAnd y 511) k) 0) ≡ true → eqb (minus (bitAnd (union x y) 511) k) 0 ≡ true
+    down t =
+        let p = part (bitAnd x 511) (both-left (eqb (minus (bitAnd x 511) k) 0) (eqb (minus (bitAnd y 511) k) 0) t) in
+        let q = part (bitAnd y 511) (both-right (eqb (minus (bitAnd x 511) k) 0) (eqb (minus (bitAnd y 511) k) 0) t) in
+        eq-eqb (minus (bitAnd (union x y) 511) k) 0
+        (minus-of-sub (record { at = λ d. omega (arith, bit-and (union x y) 511 d, bit-union x y d, bit-and x 511 d, bit-and y 511 d, p .at d, q .at d) }))
+
+    up : eqb (minus (bitAnd (union x y) 511) k) 0 ≡ true → (eqb (minus (bitAnd x 511) k) 0 && eqb (minus (bitAnd y 511) k) 0) ≡ true
+    up t =
+        let p = part (bitAnd (union x y) 511) t in
+        both (eq-eqb (minus (bitAnd x 511) k) 0 (minus-of-sub (record { at = λ d. omega (arith, bit-and (union x y) 511 d, bit-union x y d, bit-and x 511 d, p .at d) })))
+        (eq-eqb (minus (bitAnd y 511) k) 0 (minus-of-sub (record { at = λ d. omega (arith, bit-and (union x y) 511 d, bit-union x y d, bit-and y 511 d, p .at d) })))
+
+-- ---- what two digits that hold k are part of
+
+pub reach-covers : (k a b : ℕ) → k < 2 ^ 16 → a < b → b < 9 → Sub k (union (2 ^ a) (2 ^ b)) → Sub (union (2 ^ a) (2 ^ b)) (reachOf k)
+unfolding reachOf
+reach-covers k a b small h l p =
+    by-test (λ (x : ℕ). Sub (union (2 ^ a) (2 ^ b)) x) (eqb (count (tail k)) 0) 511 (cond (eqb (count (tail (tail k))) 0) k 0)
+    (λ t. both-sub a b (omega arith) l)
+    (λ t. by-test (λ (x : ℕ). Sub (union (2 ^ a) (2 ^ b)) x) (eqb (count (tail (tail k))) 0) k 0 (λ s. two t s) (λ s. more t s))
+  where
+    apart : a ≢ b
+    apart e = absurd (omega arith)
+
+    some : 0 < count (tail k) → 0 < count k
+    some t = go (decLt 0 k)
+      where
+        go : Dec (0 < k) → 0 < count k
+        go (yes q) = count-pos k q
+        go (no q) =
+            let e : k ≡ 0 = omega arith in
+            absurd (omega (arith, count-sub (minus-sub k (single (lowest k))), ap count e, count-none))
+
+    pos : eqb (count (tail k)) 0 ≡ false → 0 < count (tail k)
+    pos t = omega (arith, eqb-false (count (tail k)) 0 t)
+
+    -- one more than in its tail's tail
+    counted : (t : eqb (count (tail k)) 0 ≡ false) → count (tail (tail k)) + 2 ≡ count k
+    counted t =
+        let q = tail-count k small (some (pos t)) in
+        let r = tail-count (tail k) (tail-small k small (some (pos t))) (pos t) in
+        omega arith
+
+    two : eqb (count (tail k)) 0 ≡ false → eqb (count (tail (tail k))) 0 ≡ true → Sub (union (2 ^ a) (2 ^ b)) k
+    two t s = subst (λ (x : ℕ). Sub (union (2 ^ a) (2 ^ b)) x) (sym same) (sub-refl (union (2 ^ a) (2 ^ b)))
+      where
+        same : k ≡ union (2 ^ a) (2 ^ b)
+        same = go (ℕ-discrete k (union (2 ^ a) (2 ^ b)))
+          where
+            go : Dec (k ≡ union (2 ^ a) (2 ^ b)) → k ≡ union (2 ^ a) (2 ^ b)
+            go (yes e) = e
+            go (no n) = absurd (omega (arith, count-proper p n, count-both a b apart, counted t, eqb-true (count (tail (tail k))) 0 s))
+
+    more : eqb (count (tail k)) 0 ≡ false → eqb (count (tail (tail k))) 0 ≡ false → Sub (union (2 ^ a) (2 ^ b)) 0
+    more t s = absurd (omega (arith, count-sub p, count-both a b apart, counted t, eqb-false (count (tail (tail k))) 0 s))

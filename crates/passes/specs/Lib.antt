@@ -1,2 +1,4 @@
 pub mod Turns
+pub mod Twos
+pub mod Counts
 pub mod Kinds

@@ -22,8 +22,20 @@ place-requires c κs = search needs
 enum-told-3 : tie.Need-enum-told-3
 enum-told-3 c = search needs
 
+pair-requires : tie.Need-pair-requires
+pair-requires c κs = search needs
+
+enum-told-4 : tie.Need-enum-told-4
+enum-told-4 c = search needs
+
 pointing-requires : tie.Need-pointing-requires
 pointing-requires c κs = search needs
+
+enum-told-5 : tie.Need-enum-told-5
+enum-told-5 c = search needs
+
+cross-requires : tie.Need-cross-requires
+cross-requires c κs = search needs
 
 returns : tie.Need-returns
 returns c =
@@ -41,7 +53,19 @@ returns-3 : tie.Need-returns-3
 returns-3 c =
     let told = c .before .before in
     let a = told .before .before .args in
-    c .pointing .ensures ∙ ap (λ (t : Pass). pass (a .givens .now) (kindOf t) (a .masks .now)) (sym (told .enum-told3 .given .1))
+    c .pair .ensures ∙ ap (λ (t : Pass). pass (a .givens .now) (kindOf t) (a .masks .now)) (sym (told .enum-told3 .given .1))
+
+returns-4 : tie.Need-returns-4
+returns-4 c =
+    let told = c .before .before in
+    let a = told .before .before .args in
+    c .pointing .ensures ∙ ap (λ (t : Pass). pass (a .givens .now) (kindOf t) (a .masks .now)) (sym (told .enum-told4 .given .1))
+
+returns-5 : tie.Need-returns-5
+returns-5 c =
+    let told = c .before .before in
+    let a = told .before .before .args in
+    c .cross .ensures ∙ ap (λ (t : Pass). pass (a .givens .now) (kindOf t) (a .masks .now)) (sym (told .enum-told5 .given .1))
 
 pub run-pass-spec : {M : Type 1} → statement M
 run-pass-spec =
@@ -52,7 +76,13 @@ run-pass-spec =
     enum-told-2
     place-requires
     enum-told-3
+    pair-requires
+    enum-told-4
     pointing-requires
+    enum-told-5
+    cross-requires
     returns
     returns-2
-    returns-3)
+    returns-3
+    returns-4
+    returns-5)

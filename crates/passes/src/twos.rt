@@ -1,0 +1,281 @@
+// Pair and Cross, which are one search. A frame has nine lines of nine places each. Where two of its lines hold nothing outside two places, the other lines lose those.
+ghost use mathlib.Core.Path.{_≡_};
+ghost use Prim.Native.Nat.{_<_};
+ghost use lib.Bits.{bitAnd};
+ghost use lib.Dec.{eqb};
+ghost use Rattle.steps.specs.Boards.{at};
+ghost use Rattle.passes.specs.Twos.{firstOf, secondOf, Framed, lineMasks, heldLines, joined, othersOf, reachOf, twoLose, twoTurn, linesTurned, frameTaken};
+use candidates::masks;
+use cells::lose_places;
+use cells::places_of;
+use cells::unit_masks;
+
+// What the lines and places of a search are.
+pub enum Frame {
+    // The cells of a unit, and their digits: Pair.
+    Unit(usize),
+    // Nine rows or columns from the first one, 0 or 9, and in each the places that hold a digit: Cross.
+    Lines(usize, usize),
+}
+
+// Two different numbers 0 to 8, the first rising and then the second.
+const FIRSTS: [u8; 36] = [
+    0,
+    0,
+    0,
+    0,
+    0,
+    0,
+    0,
+    0,
+    1,
+    1,
+    1,
+    1,
+    1,
+    1,
+    1,
+    2,
+    2,
+    2,
+    2,
+    2,
+    2,
+    3,
+    3,
+    3,
+    3,
+    3,
+    4,
+    4,
+    4,
+    4,
+    5,
+    5,
+    5,
+    6,
+    6,
+    7,
+];
+
+const SECONDS: [u8; 36] = [
+    1,
+    2,
+    3,
+    4,
+    5,
+    6,
+    7,
+    8,
+    2,
+    3,
+    4,
+    5,
+    6,
+    7,
+    8,
+    3,
+    4,
+    5,
+    6,
+    7,
+    8,
+    4,
+    5,
+    6,
+    7,
+    8,
+    5,
+    6,
+    7,
+    8,
+    6,
+    7,
+    8,
+    7,
+    8,
+    8,
+];
+
+fn first_of(pair: usize) -> usize
+    requires { ⌜ pair < 36 ⌝ }
+    ensures { λ r. ⌜ r ≡ firstOf pair ⌝ }
+{
+    FIRSTS[pair] as usize
+}
+
+fn second_of(pair: usize) -> usize
+    requires { ⌜ pair < 36 ⌝ }
+    ensures { λ r. ⌜ r ≡ secondOf pair ⌝ }
+{
+    SECONDS[pair] as usize
+}
+
+// The places that hold the digit in the nine units from the first one; of open cells alone.
+fn held_lines(givens: &[u8; 81], masks: &[u16; 81], first: usize, digit: usize) -> [u16; 9]
+    requires { ⌜ first < 27 ⌝ }
+    ensures { λ r. ⌜ r ≡ heldLines (now (givens .entry)) (now (masks .entry)) first digit ⌝ }
+{
+    let mut nine = [0u16; 9];
+    let mut line: usize = 0;
+    while line < 9 {
+        let unit = unit_masks(givens, masks, first + line);
+        nine[line] = places_of(&unit, digit);
+        line += 1;
+    }
+    nine
+}
+
+// What each line holds; of open cells alone.
+fn line_masks(givens: &[u8; 81], masks: &[u16; 81], frame: Frame) -> [u16; 9]
+    requires { ⌜ Framed frame ⌝ }
+    ensures { λ r. ⌜ r ≡ lineMasks (now (givens .entry)) (now (masks .entry)) frame ⌝ }
+{
+    match frame {
+        Frame::Unit(unit) => unit_masks(givens, masks, unit),
+        Frame::Lines(first, digit) => held_lines(givens, masks, first, digit),
+    }
+}
+
+fn join_all(nine: &[u16; 9]) -> u16
+    ensures { λ r. ⌜ r ≡ joined (now (nine .entry)) ⌝ }
+{
+    let mut mask: u16 = 0;
+    let mut line: usize = 0;
+    while line < 9 {
+        mask = masks::join(mask, nine[line]);
+        line += 1;
+    }
+    mask
+}
+
+// What the other lines hold.
+fn others(nine: &[u16; 9], i: usize, j: usize) -> u16
+    requires { ⌜ (i < 9) × (j < 9) ⌝ }
+    ensures { λ r. ⌜ r ≡ othersOf (now (nine .entry)) i j ⌝ }
+{
+    let mut rest = *nine;
+    rest[i] = 0;
+    rest[j] = 0;
+    join_all(&rest)
+}
+
+// All places that the other lines can lose to two lines that hold these: none of more than two, those two, or any.
+fn reach(held: u16) -> u16
+    ensures { λ r. ⌜ r ≡ reachOf held ⌝ }
+{
+    let rest = masks::lose_lowest(held);
+    if masks::is_none(rest) {
+        return 511;
+    }
+    if masks::is_none(masks::lose_lowest(rest)) {
+        return held;
+    }
+    0
+}
+
+// Whether no instance of two lines loses anything: `held` is what they hold, and `nine` what the open cells of each line hold.
+fn idle(nine: &[u16; 9], i: usize, j: usize, held: u16) -> bool
+    requires { ⌜ (i < 9) × (j < 9) ⌝ }
+    ensures { λ r. ⌜ r ≡ eqb (bitAnd (othersOf (now (nine .entry)) i j) (reachOf held)) 0 ⌝ }
+{
+    let lost = reach(held);
+    if lost == 0 {
+        return true;
+    }
+    masks::is_none(masks::meet(others(nine, i, j), lost))
+}
+
+// The other lines lose the places a and b.
+fn lose_two(
+    givens: &[u8; 81],
+    masks: &mut [u16; 81],
+    frame: Frame,
+    i: usize,
+    j: usize,
+    a: usize,
+    b: usize,
+)
+    requires { ⌜ Framed frame × (i < 9) × (j < 9) × (a < 9) × (b < 9) ⌝ }
+    ensures { λ _. ⌜ now (masks .exit) ≡ twoLose (now (givens .entry)) frame i j a b (now (masks .entry)) ⌝ }
+{
+    let others = masks::lose(511, masks::join(masks::digit_mask(i), masks::digit_mask(j)));
+    match frame {
+        Frame::Unit(unit) => {
+            let lost = masks::join(masks::digit_mask(a), masks::digit_mask(b));
+            lose_places(givens, masks, unit, others, lost);
+        }
+        Frame::Lines(first, digit) => {
+            let lost = masks::digit_mask(digit);
+            lose_places(givens, masks, 9 - first + a, others, lost);
+            lose_places(givens, masks, 9 - first + b, others, lost);
+        }
+    }
+}
+
+// One instance, where `held` is what the two lines hold.
+fn two_at(
+    givens: &[u8; 81],
+    masks: &mut [u16; 81],
+    frame: Frame,
+    i: usize,
+    j: usize,
+    held: u16,
+    a: usize,
+    b: usize,
+)
+    requires { ⌜ Framed frame × (i < 9) × (j < 9) × (a < 9) × (b < 9) ⌝ }
+    ensures { λ _. ⌜ now (masks .exit) ≡ twoTurn (now (givens .entry)) frame i j held a b (now (masks .entry)) ⌝ }
+{
+    if masks::is_none(masks::lose(
+        held,
+        masks::join(masks::digit_mask(a), masks::digit_mask(b)),
+    )) {
+        lose_two(givens, masks, frame, i, j, a, b);
+    }
+}
+
+// The instances of two lines. None of them changes what the two hold.
+fn two_lines(givens: &[u8; 81], masks: &mut [u16; 81], frame: Frame, i: usize, j: usize, held: u16)
+    requires { ⌜ Framed frame × (i < 9) × (j < 9) ⌝ }
+    ensures { λ _. ⌜ now (masks .exit) ≡ linesTurned (now (givens .entry)) frame i j held (now (masks .entry)) ⌝ }
+{
+    let mut pair: usize = 0;
+    while pair < 36 {
+        two_at(
+            givens,
+            masks,
+            frame,
+            i,
+            j,
+            held,
+            first_of(pair),
+            second_of(pair),
+        );
+        pair += 1;
+    }
+}
+
+// The instances of a frame, two lines after two lines. Those of two lines are passed over together where none of them loses anything.
+pub fn two_frame(givens: &[u8; 81], masks: &mut [u16; 81], frame: Frame)
+    requires { ⌜ Framed frame ⌝ }
+    ensures { λ _. ⌜ now (masks .exit) ≡ frameTaken (now (givens .entry)) frame (now (masks .entry)) ⌝ }
+{
+    let none = [0u8; 81];
+    let mut every = line_masks(&none, masks, frame);
+    let mut opens = line_masks(givens, masks, frame);
+    let mut pair: usize = 0;
+    while pair < 36 {
+        let i = first_of(pair);
+        let j = second_of(pair);
+        let held = masks::meet(masks::join(every[i], every[j]), 511);
+        if !idle(&opens, i, j, held) {
+            two_lines(givens, masks, frame, i, j, held);
+            let every_now = line_masks(&none, masks, frame);
+            let opens_now = line_masks(givens, masks, frame);
+            every = every_now;
+            opens = opens_now;
+        }
+        pair += 1;
+    }
+}
