@@ -1,7 +1,7 @@
 -- A sweep changes the 81 cells alone, so that comparing and counting those is comparing and counting all. Assumes nothing.
 use mathlib.Core.Path.{_≡_, refl, sym, ap, _∙_, subst}
-use mathlib.Core.Logic.{⊎-elim, _≢_}
-use mathlib.Core.Bool.{Bool, true, false, cond}
+use mathlib.Core.Logic.{⊎-elim}
+use mathlib.Core.Bool.{true}
 use mathlib.Core.List.{List, [], _∷_, _++_, List·Memᴰ, List·Memᴰ·not-nil, List·Memᴰ·append-cases, List·Memᴰ·eq-of-singleton}
 use Prim.Native.Nat.{ℕ, zero, suc, _+_, _-_, _≤_, _<_}
 use native.Mathlib.Nat.{add-zero}
@@ -9,20 +9,19 @@ use native.Mathlib.Decide.{decLt}
 use native.Mathlib.Omega.{arith}
 use borrow.Author.Tests.{eqb-true, eq-eqb}
 use lib.Dec.{eqb}
-use lib.ListN.{length, getD, drop, length-drop, List·getD-eq-default}
+use lib.ListN.{length, drop, length-drop, List·getD-eq-default}
 use lib.Seq.{ext-getD, getD-drop, drop-nil}
 use Rattle.candidates.specs.Masks.{count}
 use Rattle.candidates.proofs.Counts.{count-none}
 use Rattle.candidates.proofs.Tests.{by-test, bool-iff}
-use Rattle.grid.specs.Cells.{peers}
-use Rattle.grid.specs.Units.{units, unit, unitCell}
+use Rattle.grid.specs.Units.{units, unit}
 use Rattle.grid.proofs.Cells.{peer-sees}
 use Rattle.grid.proofs.Lists.{all-range, range-all}
 use Rattle.grid.proofs.Units.{cell-below, mem-member, member-below}
 use Rattle.steps.specs.Boards.{at, isOpen, total, sameMasks}
 use Rattle.steps.specs.Instances.{lone, place, pointing, lineOf, stepOf}
 use Rattle.steps.specs.Loops.{each, range, upTo}
-use Rattle.steps.specs.Passes.{Kind, Lone, Place, Pair, Pointing, Cross, kinds, pass, sweep, instanceTaken, Sweeps, settleIn, removedBy}
+use Rattle.steps.specs.Passes.{Kind, Lone, Place, Pair, Pointing, Cross, kinds, pass, sweep, instanceTaken, removedBy}
 use Rattle.steps.specs.Steps.{Step, applies, loseAt, loseAll, take}
 use Rattle.steps.proofs.Loops.{each-keeps, in-upTo}
 use Rattle.steps.proofs.Masks.{same-refl, same-eq}

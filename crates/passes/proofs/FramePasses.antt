@@ -1,10 +1,10 @@
 -- Pair and Cross are loops over frames. Assumes nothing.
 use mathlib.Core.Path.{_≡_, refl, sym, ap, _∙_}
-use mathlib.Core.List.{List, [], _∷_, _++_}
+use mathlib.Core.List.{List, [], _∷_}
 use Prim.Native.Nat.{ℕ}
 use native.Mathlib.Nat.{zero-add}
 use Rattle.steps.specs.Boards.{isOpen}
-use Rattle.steps.specs.Instances.{Instance, pair, cross, exchanged, crossStep, stepOf, pairs, crosses}
+use Rattle.steps.specs.Instances.{Instance, pair, cross, exchanged, stepOf, pairs, crosses}
 use Rattle.steps.specs.Loops.{each, for, upTo, above}
 use Rattle.steps.specs.Passes.{Pair, Cross, instances, instanceTaken, pass}
 use Rattle.steps.specs.Steps.{Step, take}

@@ -3,12 +3,12 @@ use mathlib.Core.Path.{_≡_, refl, sym, ap, _∙_, subst}
 use mathlib.Core.Logic.{_⊎_, inl, inr, ⊎-elim}
 use mathlib.Core.Bool.{Bool, true, false, cond, not, _&&_, _||_}
 use mathlib.Core.List.{List, [], _∷_, _++_}
-use Prim.Native.Nat.{ℕ, _+_, _-_, _^_, _≤_, _<_}
+use Prim.Native.Nat.{ℕ, _+_, _-_, _≤_, _<_}
 use native.Mathlib.Nat.{zero-add}
 use native.Mathlib.Omega.{arith}
 use borrow.Author.Tests.{eq-eqb}
 use lib.Bits.{bitAnd}
-use lib.Dec.{eqb, eqb→eq, eqb-refl}
+use lib.Dec.{eqb, eqb→eq}
 use Rattle.candidates.specs.Masks.{has, minus, union, single}
 use Rattle.candidates.proofs.Tests.{below-both, by-test}
 use Rattle.grid.specs.Cells.{row, col}
@@ -16,7 +16,7 @@ use Rattle.grid.specs.Units.{units, unit, unitCell, inUnit}
 use Rattle.grid.proofs.Units.{in-row, in-col, cell-in}
 use Rattle.steps.specs.Boards.{at, isOpen}
 use Rattle.steps.specs.Instances.{only, both, except, pairStep, crossStep}
-use Rattle.steps.specs.Loops.{each, all, upTo}
+use Rattle.steps.specs.Loops.{all, upTo}
 use Rattle.steps.specs.Steps.{lacks, applies, loseAt, loseAll, take}
 use Rattle.steps.proofs.Loops.{each-append, in-upTo}
 use Rattle.cells.specs.Places.{losePlaces}

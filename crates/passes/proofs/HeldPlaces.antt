@@ -1,28 +1,28 @@
 -- The places of a unit that hold a digit: how code finds them, and what a step's condition says of them. Assumes nothing.
 use mathlib.Core.Path.{_≡_, refl, sym, ap, _∙_, subst}
 use mathlib.Core.Bool.{Bool, true, false, cond, _&&_, true≢false}
-use mathlib.Core.List.{List, List·Memᴰ}
+use mathlib.Core.List.{List}
 use Prim.Native.Nat.{ℕ, zero, suc, _+_, _^_, _<_}
 use native.Mathlib.Nat.{zero-add}
 use native.Mathlib.Omega.{arith}
 use borrow.Author.Tests.{lt-ltb, eq-eqb, eqb-true, eqb-false}
 use lib.Bits.{bitAnd, and-zero-r}
-use lib.Dec.{eqb, ltb}
-use lib.ListN.{getD, replicate, getD-replicate}
-use Rattle.candidates.specs.Masks.{bit, has, minus, gather, Sub}
-use Rattle.candidates.proofs.Held.{Held, none-held, held-ext, held-below, held-minus, held-power}
+use lib.Dec.{eqb}
+use lib.ListN.{replicate, getD-replicate}
+use Rattle.candidates.specs.Masks.{bit, has, minus, gather}
+use Rattle.candidates.proofs.Held.{Held, none-held, held-ext, held-below, held-minus}
 use Rattle.candidates.proofs.Membership.{bit-and, bit-power, bit-none, gather-lt, bit-gather}
-use Rattle.candidates.proofs.Order.{and-only, sub-of-minus}
-use Rattle.candidates.proofs.Tests.{bool-iff, by-test, cond-true}
+use Rattle.candidates.proofs.Order.{and-only}
+use Rattle.candidates.proofs.Tests.{bool-iff, cond-true}
 use Rattle.grid.specs.Units.{unit, unitCell}
 use Rattle.grid.proofs.Lists.{at-range}
 use Rattle.grid.proofs.Units.{cell-below, mem-member, member-mem, at-place}
 use Rattle.steps.specs.Boards.{at, isOpen}
 use Rattle.steps.specs.Instances.{only}
-use Rattle.steps.specs.Loops.{all, upTo}
+use Rattle.steps.specs.Loops.{all}
 use Rattle.steps.specs.Steps.{lacks}
 use Rattle.steps.proofs.Loops.{all-member, member-all}
-use Rattle.cells.specs.Places.{maskAt, openAt, openMask, unitMasks, placesOf}
+use Rattle.cells.specs.Places.{maskAt, openMask, unitMasks, placesOf}
 use Rattle.passes.specs.Turns.{heldPlaces}
 use Rattle.passes.proofs.Taking.{mask-at}
 

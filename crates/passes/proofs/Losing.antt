@@ -7,9 +7,8 @@ use Prim.Native.Nat.{ℕ, _<_}
 use native.Mathlib.Nat.{zero-add}
 use native.Mathlib.Omega.{arith}
 use borrow.Author.Tests.{lt-ltb}
-use lib.Bits.{bitAnd, and-zero-r}
+use lib.Bits.{and-zero-r}
 use lib.Dec.{ltb}
-use lib.ListN.{length, getD}
 use lib.Seq.{ext-getD}
 use Rattle.candidates.specs.Masks.{has}
 use Rattle.candidates.proofs.Held.{none-held, held-ext}
@@ -18,7 +17,7 @@ use Rattle.grid.specs.Units.{unit, unitCell}
 use Rattle.grid.proofs.Lists.{at-range}
 use Rattle.grid.proofs.Units.{unit-length, cell-below}
 use Rattle.steps.specs.Boards.{at}
-use Rattle.steps.specs.Loops.{each, upTo}
+use Rattle.steps.specs.Loops.{upTo}
 use Rattle.steps.specs.Steps.{loseAt, loseAll}
 use Rattle.steps.proofs.Loops.{in-upTo}
 use Rattle.steps.proofs.Losses.{Lost, lost-digits, lost-when, without-same}

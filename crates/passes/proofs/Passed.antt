@@ -1,19 +1,19 @@
 -- Two lines of a frame are passed over: no step of theirs loses anything. Assumes nothing.
 use mathlib.Core.Path.{_≡_, refl, sym, ap, _∙_, subst}
 use mathlib.Core.Logic.{_≢_, _⊎_, inl, inr, ⊎-elim}
-use mathlib.Core.Bool.{Bool, true, false, cond, _||_, true≢false}
-use mathlib.Core.List.{List, [], _∷_, _++_, List·Memᴰ, List·Memᴰ·append-cases}
-use Prim.Native.Nat.{ℕ, zero, suc, _+_, _-_, _^_, _<_, min}
+use mathlib.Core.Bool.{Bool, true, false, cond, _||_}
+use mathlib.Core.List.{List, _++_, List·Memᴰ·append-cases}
+use Prim.Native.Nat.{ℕ, zero, suc, _+_, _-_, _^_, _<_}
 use native.Mathlib.Nat.{zero-add}
 use native.Mathlib.Decide.{ℕ-discrete}
 use native.Mathlib.Omega.{arith}
 use borrow.Author.Tests.{eqb-true, eqb-false, eq-eqb}
 use lib.Bits.{bitAnd, and-zero-r}
 use lib.Dec.{eqb}
-use lib.ListN.{getD, set, replicate}
+use lib.ListN.{set, replicate}
 use lib.Seq.{getD-set-other}
 use Rattle.candidates.specs.Masks.{bit, has, minus, union, Sub}
-use Rattle.candidates.proofs.Held.{Held, none-held, held-power}
+use Rattle.candidates.proofs.Held.{Held, none-held}
 use Rattle.candidates.proofs.Membership.{bit-and, bit-none, ext}
 use Rattle.candidates.proofs.Order.{sub-refl, sub-trans, union-left, union-right, apart-sub, and-only, sub-of-minus}
 use Rattle.candidates.proofs.Tests.{by-test, cond-true}
@@ -27,7 +27,6 @@ use Rattle.steps.specs.Steps.{loseAll, take}
 use Rattle.steps.proofs.Loops.{in-upTo}
 use Rattle.steps.proofs.Steps.{all-none}
 use Rattle.cells.specs.Places.{unitMasks, placesOf}
-use Rattle.passes.specs.Turns.{heldPlaces}
 use Rattle.passes.specs.Twos.{firstOf, secondOf, Framed, frameStep, lineHeld, twoHeld, heldLines, lineMasks, joined, othersOf, reachOf, twoLose, twoTurn, linesTurned, linesTaken}
 use Rattle.passes.specs.declared.twos.Frame.{Frame}
 use Rattle.passes.specs.declared.twos.Frame.the-variants.{Unit, Lines}

@@ -1,16 +1,16 @@
 -- The peers of a cell lose digits: the others of its row, its column and its box do. Assumes nothing.
 use mathlib.Core.Path.{_≡_, refl, sym, ap, _∙_}
-use mathlib.Core.Logic.{_⊎_, _↔_, _≢_, inl, inr, ⊎-elim}
+use mathlib.Core.Logic.{_↔_, _≢_, ⊎-elim}
 use mathlib.Core.Bool.{Bool, true, false, cond, not, _||_, true≢false}
 use mathlib.Core.List.{List, _++_, List·Memᴰ, List·Memᴰ·append-cases, Memᴰ·append-left, Memᴰ·append-right}
 use Prim.Native.Nat.{ℕ, _+_, _*_, _%_, _<_}
 use native.Mathlib.Omega.{arith}
-use borrow.Author.Tests.{eq-eqb, eqb-true, eqb-false, ne-eqb}
+use borrow.Author.Tests.{eq-eqb, eqb-false, ne-eqb}
 use lib.Dec.{eqb, eqb→eq}
 use Rattle.candidates.specs.Masks.{has, minus, single}
 use Rattle.candidates.proofs.Held.{Held}
 use Rattle.candidates.proofs.Tests.{below, both-right, eqb-sym}
-use Rattle.grid.specs.Cells.{row, col, box, aligned, sees, peers}
+use Rattle.grid.specs.Cells.{row, col, box, aligned, peers}
 use Rattle.grid.specs.Units.{units, unit, unitCell, inUnit, Member}
 use Rattle.grid.proofs.Cells.{row-below, col-below, box-below, share-sees, sees-differ, peer-sees, sees-peer}
 use Rattle.grid.proofs.Units.{in-row, in-col, in-box, in-member, member-in, member-below, member-mem, mem-member}

@@ -1,6 +1,6 @@
 -- Place: an instance by the places that hold its digit, which none of the unit's instances of that digit change. Assumes nothing.
-use mathlib.Core.Path.{_≡_, refl, sym, ap, _∙_}
-use mathlib.Core.Bool.{Bool, true, false, cond}
+use mathlib.Core.Path.{_≡_, refl, ap, _∙_}
+use mathlib.Core.Bool.{Bool, false, cond}
 use mathlib.Core.List.{List, [], _∷_}
 use Prim.Native.Nat.{ℕ, _<_}
 use lib.Dec.{eqb, eqb→eq}
@@ -8,10 +8,10 @@ use Rattle.candidates.specs.Masks.{bit, has, minus, single}
 use Rattle.candidates.proofs.Tests.{below, by-test}
 use Rattle.grid.specs.Units.{unitCell}
 use Rattle.steps.specs.Boards.{at, isOpen}
-use Rattle.steps.specs.Instances.{only, except, place, placeStep, stepOf, places}
+use Rattle.steps.specs.Instances.{only, except, place, stepOf, places}
 use Rattle.steps.specs.Loops.{each, for, upTo}
 use Rattle.steps.specs.Passes.{Place, instances, instanceTaken, pass}
-use Rattle.steps.specs.Steps.{applies, loseAt, take}
+use Rattle.steps.specs.Steps.{loseAt, take}
 use Rattle.steps.proofs.Loops.{in-upTo}
 use Rattle.passes.specs.Turns.{heldPlaces, placeTurn, placeDigit, placeUnit}
 use Rattle.passes.proofs.Losing.{kept-digit}

@@ -1,6 +1,6 @@
 -- Pointing: an instance by the places of the box that hold its digit, which none of the box's instances of that digit change. Assumes nothing.
 use mathlib.Core.Path.{_≡_, refl, sym, ap, _∙_}
-use mathlib.Core.Bool.{Bool, true, false, cond, not}
+use mathlib.Core.Bool.{Bool, cond, not}
 use mathlib.Core.List.{List, [], _∷_}
 use Prim.Native.Nat.{ℕ, _+_, _<_}
 use native.Mathlib.Omega.{arith}
@@ -13,7 +13,7 @@ use Rattle.steps.specs.Boards.{at, isOpen}
 use Rattle.steps.specs.Instances.{only, lineOf, pointing, lockedStep, stepOf, pointings}
 use Rattle.steps.specs.Loops.{each, for, upTo}
 use Rattle.steps.specs.Passes.{Pointing, instances, instanceTaken, pass}
-use Rattle.steps.specs.Steps.{applies, loseAll, take}
+use Rattle.steps.specs.Steps.{loseAll, take}
 use Rattle.steps.proofs.Loops.{in-upTo}
 use Rattle.cells.specs.Places.{losePlaces}
 use Rattle.passes.specs.Turns.{heldPlaces, sharedPlaces, boxLine, thirdOf, lockedTurn, pointingTurn, pointingDigit, pointingBox}

@@ -1,10 +1,9 @@
 -- Settling, sweep by sweep, and what it removes from the 81 cells. Assumes nothing.
-use mathlib.Core.Path.{_≡_, refl, sym, ap, _∙_, subst}
-use mathlib.Core.Bool.{Bool, true, false, cond}
+use mathlib.Core.Path.{_≡_, refl, ap, _∙_}
+use mathlib.Core.Bool.{true, false}
 use mathlib.Core.List.{List}
 use Prim.Native.Nat.{ℕ, zero, suc, _+_, _-_, _≤_, _<_}
 use native.Mathlib.Omega.{arith}
-use lib.ListN.{length}
 use Rattle.candidates.proofs.Tests.{cond-true, cond-false, by-test}
 use Rattle.steps.specs.Boards.{at, sameMasks}
 use Rattle.steps.specs.Passes.{sweep, Sweeps, settleIn, removedBy}

@@ -1,7 +1,7 @@
 -- Pair and Cross as one search: a frame has nine lines of nine places each. Two lines that hold nothing outside two places take those from the other lines.
 use mathlib.Core.Path.{_≡_}
 use mathlib.Core.Logic.{_⊎_}
-use mathlib.Core.Bool.{Bool, cond}
+use mathlib.Core.Bool.{cond}
 use mathlib.Core.List.{List, [], _∷_, map}
 use Prim.Native.Nat.{ℕ, _+_, _-_, _<_}
 use lib.Bits.{bitAnd}

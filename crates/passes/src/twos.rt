@@ -4,7 +4,7 @@ ghost use Prim.Native.Nat.{_<_};
 ghost use lib.Bits.{bitAnd};
 ghost use lib.Dec.{eqb};
 ghost use Rattle.steps.specs.Boards.{at};
-ghost use Rattle.passes.specs.Twos.{firstOf, secondOf, Framed, lineMasks, heldLines, joined, othersOf, reachOf, twoLose, twoTurn, linesTurned, frameTaken};
+ghost use Rattle.passes.specs.Twos.{Framed, lineMasks, heldLines, joined, othersOf, reachOf, twoLose, twoTurn, linesTurned, frameTaken};
 use candidates::masks;
 use cells::lose_places;
 use cells::places_of;
@@ -97,18 +97,18 @@ const SECONDS: [u8; 36] = [
     8,
 ];
 
-fn first_of(pair: usize) -> usize
-    requires { ⌜ pair < 36 ⌝ }
-    ensures { λ r. ⌜ r ≡ firstOf pair ⌝ }
+fn wide(number: u8) -> usize
+    ensures { λ r. ⌜ r ≡ number ⌝ }
 {
-    FIRSTS[pair] as usize
+    number as usize
 }
 
-fn second_of(pair: usize) -> usize
+// A number of a table that the caller has copied out: a constant is not to be indexed inside a loop.
+fn entry(table: &[u8; 36], pair: usize) -> usize
     requires { ⌜ pair < 36 ⌝ }
-    ensures { λ r. ⌜ r ≡ secondOf pair ⌝ }
+    ensures { λ r. ⌜ r ≡ at (now (table .entry)) pair ⌝ }
 {
-    SECONDS[pair] as usize
+    wide(table[pair])
 }
 
 // The places that hold the digit in the nine units from the first one; of open cells alone.
@@ -240,6 +240,8 @@ fn two_lines(givens: &[u8; 81], masks: &mut [u16; 81], frame: Frame, i: usize, j
     requires { ⌜ Framed frame × (i < 9) × (j < 9) ⌝ }
     ensures { λ _. ⌜ now (masks .exit) ≡ linesTurned (now (givens .entry)) frame i j held (now (masks .entry)) ⌝ }
 {
+    let firsts = FIRSTS;
+    let seconds = SECONDS;
     let mut pair: usize = 0;
     while pair < 36 {
         two_at(
@@ -249,8 +251,8 @@ fn two_lines(givens: &[u8; 81], masks: &mut [u16; 81], frame: Frame, i: usize, j
             i,
             j,
             held,
-            first_of(pair),
-            second_of(pair),
+            entry(&firsts, pair),
+            entry(&seconds, pair),
         );
         pair += 1;
     }
@@ -264,10 +266,12 @@ pub fn two_frame(givens: &[u8; 81], masks: &mut [u16; 81], frame: Frame)
     let none = [0u8; 81];
     let mut every = line_masks(&none, masks, frame);
     let mut opens = line_masks(givens, masks, frame);
+    let firsts = FIRSTS;
+    let seconds = SECONDS;
     let mut pair: usize = 0;
     while pair < 36 {
-        let i = first_of(pair);
-        let j = second_of(pair);
+        let i = entry(&firsts, pair);
+        let j = entry(&seconds, pair);
         let held = masks::meet(masks::join(every[i], every[j]), 511);
         if !idle(&opens, i, j, held) {
             two_lines(givens, masks, frame, i, j, held);

@@ -1,5 +1,5 @@
 -- `passes::cross` meets its contract. Assumes nothing.
-use mathlib.Core.Path.{_≡_, refl, sym, ap, _∙_}
+use mathlib.Core.Path.{refl, sym, ap, _∙_}
 use mathlib.Core.Logic.{inl, inr}
 use Rattle.passes.specs.Twos.{crossLines}
 use Rattle.passes.proofs.FramePasses.{cross-pass}

@@ -1,10 +1,8 @@
 -- `passes::sweep` meets its contract. Assumes nothing.
-use mathlib.Core.Path.{_≡_, ap, _∙_}
-use mathlib.Core.List.{List}
-use Prim.Native.Nat.{ℕ}
+use mathlib.Core.Path.{ap, _∙_}
 use borrow.Author.Needs.{needs}
 use Rattle.steps.specs.Loops.{each}
-use Rattle.steps.specs.Passes.{Kind, Place, Pair, Pointing, Cross, pass, sweep}
+use Rattle.steps.specs.Passes.{Place, Pair, Pointing, Cross, pass, sweep}
 use Rattle.passes.proofs.sweep.Statement.{statement}
 use Rattle.passes.proofs.sweep.Tie as tie
 

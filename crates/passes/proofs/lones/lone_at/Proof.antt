@@ -1,12 +1,9 @@
 -- `passes::lones::lone_at` meets its contract. Assumes nothing.
-use mathlib.Core.Path.{_≡_, refl, sym, ap, _∙_}
-use mathlib.Core.Bool.{Bool}
-use mathlib.Core.List.{List}
+use mathlib.Core.Path.{_≡_, sym, ap, _∙_}
 use Prim.Native.Nat.{ℕ}
 use borrow.Author.Needs.{needs}
-use lib.Bits.{bitAnd}
 use lib.Dec.{eqb}
-use Rattle.candidates.specs.Masks.{minus, count}
+use Rattle.candidates.specs.Masks.{count}
 use Rattle.passes.specs.Turns.{peersLose}
 use Rattle.passes.proofs.Taking.{loneTest, lone-taken, lone-left}
 use Rattle.passes.proofs.lones.lone_at.Statement.{statement}

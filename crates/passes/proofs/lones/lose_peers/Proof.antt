@@ -1,11 +1,6 @@
 -- `passes::lones::lose_peers` meets its contract. Assumes nothing.
-use mathlib.Core.Path.{_≡_, refl, sym, ap, _∙_}
-use mathlib.Core.List.{List}
-use Prim.Native.Nat.{ℕ, _+_, _*_, _%_}
 use native.Mathlib.Omega.{arith}
 use borrow.Author.Needs.{needs}
-use Rattle.grid.specs.Cells.{row, col, box}
-use Rattle.passes.specs.Turns.{othersLose}
 use Rattle.passes.proofs.Peers.{unit-by-unit}
 use Rattle.passes.proofs.lones.lose_peers.Statement.{statement}
 use Rattle.passes.proofs.lones.lose_peers.Tie as tie

@@ -1,11 +1,9 @@
 -- `passes::places::place_at` meets its contract. Assumes nothing.
 use mathlib.Core.Path.{_≡_, sym, ap, _∙_}
-use mathlib.Core.Bool.{Bool}
-use mathlib.Core.List.{List}
 use Prim.Native.Nat.{ℕ}
 use borrow.Author.Needs.{needs}
 use lib.Dec.{eqb}
-use Rattle.candidates.specs.Masks.{minus, count, single}
+use Rattle.candidates.specs.Masks.{minus, single}
 use Rattle.candidates.proofs.Counts.{test-none}
 use Rattle.candidates.proofs.Tests.{cond-true, cond-false}
 use Rattle.grid.specs.Units.{unitCell}

@@ -1,9 +1,9 @@
 -- `passes::pointings::pointing_at` meets its contract. Assumes nothing.
-use mathlib.Core.Path.{_≡_, sym, ap, _∙_, subst}
+use mathlib.Core.Path.{sym, ap, _∙_, subst}
 use Prim.Native.Nat.{ℕ, _<_}
 use borrow.Author.Needs.{needs}
 use Rattle.steps.specs.Instances.{lineOf}
-use Rattle.passes.specs.Turns.{boxLine, thirdOf, lockedTurn, pointingTurn}
+use Rattle.passes.specs.Turns.{boxLine, lockedTurn, pointingTurn}
 use Rattle.passes.proofs.PointingTurns.{third-below}
 use Rattle.passes.proofs.pointings.pointing_at.Statement.{statement}
 use Rattle.passes.proofs.pointings.pointing_at.Tie as tie

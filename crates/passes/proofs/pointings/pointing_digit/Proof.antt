@@ -1,6 +1,6 @@
 -- `passes::pointings::pointing_digit` meets its contract. The invariant: the lines that are left still make the whole, with the places that held the digit at the start. Assumes nothing.
 use mathlib.Core.Path.{_≡_, sym, ap, _∙_}
-use Prim.Native.Nat.{ℕ, _+_, _-_, _≤_}
+use Prim.Native.Nat.{ℕ, _-_, _≤_}
 use native.Mathlib.Omega.{arith}
 use Rattle.steps.specs.Loops.{each, range, upTo}
 use Rattle.passes.specs.Turns.{pointingTurn, pointingDigit}

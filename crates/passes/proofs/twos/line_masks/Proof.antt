@@ -1,11 +1,8 @@
 -- `passes::twos::line_masks` meets its contract. Assumes nothing.
-use mathlib.Core.Path.{_≡_, sym, ap, _∙_, subst}
-use mathlib.Core.List.{List}
-use Prim.Native.Nat.{ℕ, _<_, _≤_}
+use mathlib.Core.Path.{sym, ap, _∙_, subst}
 use native.Mathlib.Omega.{arith}
 use borrow.Author.Needs.{needs}
 use Rattle.passes.specs.Twos.{Framed, lineMasks}
-use Rattle.passes.specs.declared.twos.Frame.{Frame}
 use Rattle.passes.proofs.Frames.{first-le}
 use Rattle.passes.proofs.twos.line_masks.Statement.{statement}
 use Rattle.passes.proofs.twos.line_masks.Tie as tie

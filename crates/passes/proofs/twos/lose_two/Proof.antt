@@ -1,6 +1,5 @@
 -- `passes::twos::lose_two` meets its contract. Assumes nothing.
 use mathlib.Core.Path.{_≡_, sym, ap, _∙_, subst}
-use mathlib.Core.List.{List}
 use Prim.Native.Nat.{ℕ, _+_, _-_}
 use borrow.Author.Needs.{needs}
 use Rattle.candidates.specs.Masks.{minus, union, single}

@@ -1,5 +1,4 @@
 -- `passes::twos::others` meets its contract. Assumes nothing.
-use mathlib.Core.Path.{_≡_}
 use borrow.Author.Needs.{needs}
 use Rattle.passes.specs.Twos.{othersOf}
 use Rattle.passes.proofs.twos.others.Statement.{statement}

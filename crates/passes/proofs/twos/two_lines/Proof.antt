@@ -16,26 +16,27 @@ turn : List ℕ → Frame → ℕ → ℕ → ℕ → ℕ → List ℕ → List 
 turn g F i j held q m = twoTurn g F i j held (firstOf q) (secondOf q) m
 
 abbrev Inv-loop : tie.InvT-loop
-Inv-loop givens masks₀ frame i j held pair₀ masks pair = (pair ≤ 36) × (each (turn givens frame i j held) (range (36 - pair) pair) masks ≡ linesTurned givens frame i j held masks₀)
+Inv-loop givens masks₀ frame i j held firsts seconds pair₀ masks pair = (pair ≤ 36) × (each (turn givens frame i j held) (range (36 - pair) pair) masks ≡ linesTurned givens frame i j held masks₀)
 
 abbrev μ-loop : tie.MeasureT-loop
-μ-loop givens masks₀ frame i j held pair₀ masks pair = 36 - pair
+μ-loop givens masks₀ frame i j held firsts seconds pair₀ masks pair = 36 - pair
 
 loop-holds : tie.Need-loop-holds Inv-loop μ-loop
 unfolding linesTurned turn
 loop-holds c = (omega arith, refl)
 
-first-of-requires : tie.Need-first-of-requires Inv-loop μ-loop
-first-of-requires c κs = omega arith
+entry-requires : tie.Need-entry-requires Inv-loop μ-loop
+entry-requires c κs = omega arith
 
-second-of-requires : tie.Need-second-of-requires Inv-loop μ-loop
-second-of-requires c κs = omega arith
+entry-requires-2 : tie.Need-entry-requires-2 Inv-loop μ-loop
+entry-requires-2 c κs = omega arith
 
 two-at-requires : tie.Need-two-at-requires Inv-loop μ-loop
+unfolding firstOf secondOf
 two-at-requires c κs =
-    let start = c .before .before .before .before .before in
-    let q = c .before .before .before .before .loop .pair in
-    (start .pre .0, start .pre .1, start .pre .2, subst (λ (x : ℕ). x < 9) (sym (c .before .first-of .ensures)) (first-below q (omega arith)), subst (λ (x : ℕ). x < 9) (sym (c .second-of .ensures)) (second-below q (omega arith)))
+    let start = c .before .before .before .before .before .before .before in
+    let q = c .before .before .before .before .before .before .loop .pair in
+    (start .pre .0, start .pre .1, start .pre .2, subst (λ (x : ℕ). x < 9) (sym (c .before .before .entry .ensures)) (first-below q (omega arith)), subst (λ (x : ℕ). x < 9) (sym (c .entry2 .ensures)) (second-below q (omega arith)))
 
 add-pair : tie.Need-add-pair Inv-loop μ-loop
 add-pair c = omega arith
@@ -44,14 +45,14 @@ loop-less : tie.Need-loop-less Inv-loop μ-loop
 loop-less c = omega arith
 
 loop-again : tie.Need-loop-again Inv-loop μ-loop
-unfolding turn
+unfolding turn firstOf secondOf
 loop-again c =
-    let l = c .before .before .before .before .before .loop in
-    let a = c .before .before .before .before .before .before .args in (
+    let l = c .before .before .before .before .before .before .before .loop in
+    let a = c .before .before .before .before .before .before .before .before .args in (
       omega arith,
       turn-done (turn (a .givens .now) (a .frame) (a .i) (a .j) (a .held)) 36 (l .pair) (omega arith)
-          (c .two-at .ensures ∙ ap (λ (x : ℕ). twoTurn (a .givens .now) (a .frame) (a .i) (a .j) (a .held) x (c .before .second-of .result) (l .masks)) (c .before .before .first-of .ensures)
-          ∙ ap (λ (x : ℕ). twoTurn (a .givens .now) (a .frame) (a .i) (a .j) (a .held) (firstOf (l .pair)) x (l .masks)) (c .before .second-of .ensures)) (l .inv .1),
+          (c .two-at .ensures ∙ ap (λ (x : ℕ). twoTurn (a .givens .now) (a .frame) (a .i) (a .j) (a .held) x (c .before .entry2 .result) (l .masks)) (c .before .before .before .entry .ensures)
+          ∙ ap (λ (x : ℕ). twoTurn (a .givens .now) (a .frame) (a .i) (a .j) (a .held) (firstOf (l .pair)) x (l .masks)) (c .before .entry2 .ensures)) (l .inv .1),
     )
 
 returns : tie.Need-returns Inv-loop μ-loop
@@ -66,8 +67,8 @@ two-lines-spec =
     Inv-loop
     μ-loop
     loop-holds
-    first-of-requires
-    second-of-requires
+    entry-requires
+    entry-requires-2
     two-at-requires
     add-pair
     loop-less
