@@ -163,5 +163,5 @@ demand3 =
     record {
       taken = never-refused;
       lists = lists-end;
-      settling = λ b lc lm t. let w = admits b lc lm t in settles (givensOf (b .clues)) (b .masks) (clues-givens (b .clues)) (w .1);
+      settling = λ b a. let w = admits b (a .clues) (a .masks) (a .taken) in settles (givensOf (b .clues)) (b .masks) (clues-givens (b .clues)) (w .1);
     }

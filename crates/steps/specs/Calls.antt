@@ -1,11 +1,12 @@
 -- The board calls: the check of a handed board, each call's whole answer and the board that it leaves, and a list of calls run one after the other.
+use mathlib.Core.Path.{_≡_}
 use mathlib.Core.Bool.{Bool, true, false, cond, not, _&&_, _||_}
 use mathlib.Core.List.{List, [], _∷_, _++_}
 use mathlib.Core.Option.{Option, none, some}
 use Prim.Native.Nat.{ℕ}
 use lib.Dec.{eqb, leb}
 use lib.IntN.{ℤ, pos, negsuc}
-use lib.ListN.{getD}
+use lib.ListN.{length, getD}
 use Rattle.candidates.specs.Answer.{Answer, gives, stop}
 use Rattle.candidates.specs.Masks.{minus}
 use Rattle.grid.specs.Cells.{cells}
@@ -40,6 +41,12 @@ unfoldable pub refusal : Board → Option (ℕ × ℕ)
 refusal b =
     firstStop 3 (first (λ c. badClue (getD (b .clues) c (pos 0))) cells)
     (firstStop 9 (first (badMask (givensOf (b .clues)) (b .masks)) cells) none)
+
+-- "any board that no listed stop refuses": 81 clues and 81 masks, with neither stop 3 nor stop 9
+pub record Admitted (b : Board) : Type 0 where
+  pub clues : length (b .clues) ≡ 81
+  pub masks : length (b .masks) ≡ 81
+  pub taken : refusal b ≡ none
 
 -- ---- the calls
 

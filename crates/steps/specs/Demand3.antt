@@ -9,7 +9,7 @@ use lib.IntN.{ℤ, pos}
 use lib.ListN.{length, getD}
 use Rattle.grid.specs.Fillings.{numberAt, verified}
 use Rattle.steps.specs.Boards.{Board, givensOf, Under, total}
-use Rattle.steps.specs.Calls.{Call, withoutChain, badClue, refusal, opened, run}
+use Rattle.steps.specs.Calls.{Call, withoutChain, badClue, refusal, Admitted, opened, run}
 use Rattle.steps.specs.Fillings.{KeepsClues, InMasks}
 use Rattle.steps.specs.Singles.{nakedSingles, hiddenSingles}
 use Rattle.steps.specs.Passes.{Settled, sweep, swept, settle, removedBy}
@@ -52,7 +52,7 @@ pub record Demand3 : Type 0 where
   -- "on these boards stops 3 and 9 never occur": after any list, the chain pass too, the next call is not refused
   pub taken : (clues : List ℤ) → Clues clues → (ks : List Call) → refusal (run ks (opened clues)) ≡ none
   pub lists : (clues : List ℤ) → Clues clues → (ks ls : List Call) → withoutChain ks ≡ true → withoutChain ls ≡ true → Ends clues ks ls
-  pub settling : (b : Board) → length (b .clues) ≡ 81 → length (b .masks) ≡ 81 → refusal b ≡ none → Settles (givensOf (b .clues)) (b .masks)
+  pub settling : (b : Board) → Admitted b → Settles (givensOf (b .clues)) (b .masks)
 
 -- Beyond demand 3: a single reported on a board that a list reaches is the cell's digit in every correct filling that keeps the clues.
 pub record SinglesHold : Type 0 where
