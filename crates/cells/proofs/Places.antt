@@ -102,7 +102,7 @@ pub unit-mask : (g m : List ℕ) (u i : ℕ) → i < 9 → at (unitMasks g m u) 
 unfolding unitMasks
 unit-mask g m u i h = at-range (λ i. openMask g m (unitCell u i)) 0 9 0 i h ∙ ap (λ (j : ℕ). openMask g m (unitCell u j)) (zero-add i)
 
-map-same : {A B : Type 0} (f g : A → B) (xs : List A) → ((x : A) → List·Memᴰ x xs → f x ≡ g x) → map f xs ≡ map g xs
+pub map-same : {A B : Type 0} (f g : A → B) (xs : List A) → ((x : A) → List·Memᴰ x xs → f x ≡ g x) → map f xs ≡ map g xs
 map-same f g [] h = refl
 map-same f g (x ∷ xs) h =
     let p = h x (List·Memᴰ·head refl) in

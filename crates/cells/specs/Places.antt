@@ -1,7 +1,7 @@
 -- The cells of a unit by their places 0 to 8: which of them hold a digit, and losing digits at some of them.
 use mathlib.Core.Bool.{Bool, cond, _&&_}
 use mathlib.Core.List.{List, map}
-use Prim.Native.Nat.{ℕ}
+use Prim.Native.Nat.{ℕ, _+_, _*_, _/_, _%_}
 use lib.Dec.{ltb}
 use Rattle.candidates.specs.Masks.{has, gather}
 use Rattle.grid.specs.Units.{unitCell}
@@ -23,12 +23,20 @@ loseIn free c k m = cond (ltb c 81) (loseAt free c k m) m
 unfoldable pub losePlaces : (ℕ → Bool) → ℕ → ℕ → ℕ → List ℕ → List ℕ
 losePlaces free u places k m = each (λ i m. cond (has places i) (loseIn free (unitCell u i) k m) m) (upTo 9) m
 
--- the masks of a unit's open cells, by place; 0 for the others. Where nothing is given every cell counts as open.
+-- the masks of a unit's open cells, by place; 0 for the others
 abbrev pub openMask : List ℕ → List ℕ → ℕ → ℕ
 openMask g m c = cond (openAt g c) (maskAt m c) 0
 
 unfoldable pub unitMasks : List ℕ → List ℕ → ℕ → List ℕ
 unitMasks g m u = map (λ i. openMask g m (unitCell u i)) (upTo 9)
+
+-- the masks of a unit's cells, clue cells too
+unfoldable pub allMasks : List ℕ → ℕ → List ℕ
+allMasks m u = map (λ i. maskAt m (unitCell u i)) (upTo 9)
+
+-- nine masks from one cell on, three and three
+unfoldable pub spacedMasks : List ℕ → ℕ → ℕ → ℕ → List ℕ
+spacedMasks m start across down = map (λ i. at m (start + across * (i % 3) + down * (i / 3))) (upTo 9)
 
 -- the places of nine masks that hold d
 unfoldable pub placesOf : List ℕ → ℕ → ℕ

@@ -1,9 +1,10 @@
 // The givens and masks of a board as lent arrays: reading cells, and losing digits in place. The passes are loops over these.
 // Every function is total: a number above 80 is no cell, has no candidate and is not open.
 ghost use mathlib.Core.Path.{_≡_};
+ghost use Prim.Native.Nat.{_+_, _*_, _<_};
 ghost use Rattle.steps.specs.Boards.{isOpen, total};
 ghost use Rattle.steps.specs.Passes.{changed};
-ghost use Rattle.cells.specs.Places.{maskAt, openAt, loseIn, losePlaces, openMask, unitMasks, placesOf};
+ghost use Rattle.cells.specs.Places.{maskAt, openAt, loseIn, losePlaces, openMask, unitMasks, spacedMasks, allMasks, placesOf};
 use candidates::masks;
 use grid::unit_cells;
 
@@ -60,7 +61,7 @@ pub fn open_mask(givens: &[u8; 81], masks: &[u16; 81], cell: usize) -> u16
     0
 }
 
-// The masks of the unit's open cells, by place; 0 for the others. A pass that reads clue cells too lends givens that are all 0.
+// The masks of the unit's open cells, by place; 0 for the others.
 pub fn unit_masks(givens: &[u8; 81], masks: &[u16; 81], unit: usize) -> [u16; 9]
     ensures { λ r. ⌜ r ≡ unitMasks (now (givens .entry)) (now (masks .entry)) unit ⌝ }
 {
@@ -72,6 +73,37 @@ pub fn unit_masks(givens: &[u8; 81], masks: &[u16; 81], unit: usize) -> [u16; 9]
         place += 1;
     }
     nine
+}
+
+// Nine masks, three and three: `across` from one to the next of three, `down` from three to three.
+fn spaced(masks: &[u16; 81], start: usize, across: usize, down: usize) -> [u16; 9]
+    requires { ⌜ start + across * 2 + down * 2 < 81 ⌝ }
+    ensures { λ r. ⌜ r ≡ spacedMasks (now (masks .entry)) start across down ⌝ }
+{
+    let mut nine = [0u16; 9];
+    let mut place: usize = 0;
+    while place < 9 {
+        nine[place] = masks[start + across * (place % 3) + down * (place / 3)];
+        place += 1;
+    }
+    nine
+}
+
+// The masks of the unit's cells, clue cells too, by place. Their numbers are worked out, which is quicker than a copy from the table.
+pub fn all_masks(masks: &[u16; 81], unit: usize) -> [u16; 9]
+    ensures { λ r. ⌜ r ≡ allMasks (now (masks .entry)) unit ⌝ }
+{
+    if unit < 9 {
+        return spaced(masks, 9 * unit, 1, 3);
+    }
+    if unit < 18 {
+        return spaced(masks, unit - 9, 9, 27);
+    }
+    if unit < 27 {
+        let block = unit - 18;
+        return spaced(masks, 27 * (block / 3) + 3 * (block % 3), 1, 9);
+    }
+    [0; 9]
 }
 
 // The places that hold the digit.

@@ -1,8 +1,8 @@
 -- `cells::lose_at` meets its contract. Only an open cell of the grid is written. Assumes nothing.
-use mathlib.Core.Path.{_≡_, sym, ap, _∙_}
+use mathlib.Core.Path.{sym, ap, _∙_}
 use borrow.Author.Needs.{needs}
 use borrow.Author.Tests.{lt-ltb, le-ltb, eq-eqb, ne-eqb}
-use lib.Dec.{eqb, ltb}
+use lib.Dec.{ltb}
 use lib.ListN.{set}
 use Rattle.candidates.specs.Masks.{minus}
 use Rattle.candidates.proofs.Tests.{cond-true, cond-false}

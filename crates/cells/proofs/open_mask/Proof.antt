@@ -1,5 +1,5 @@
 -- `cells::open_mask` meets its contract. A cell that is not open has no mask here. Assumes nothing.
-use mathlib.Core.Path.{_≡_, sym, _∙_}
+use mathlib.Core.Path.{sym, _∙_}
 use borrow.Author.Needs.{needs}
 use Rattle.candidates.proofs.Tests.{cond-true, cond-false}
 use Rattle.cells.specs.Places.{maskAt, openAt}

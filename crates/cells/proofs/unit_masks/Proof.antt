@@ -4,7 +4,7 @@ use mathlib.Core.List.{List, []}
 use Prim.Native.Nat.{ℕ, _+_, _-_, _≤_}
 use native.Mathlib.Omega.{arith}
 use borrow.Author.Needs.{needs}
-use lib.ListN.{getD, set, replicate}
+use lib.ListN.{set, replicate}
 use Rattle.grid.specs.Units.{unitCell}
 use Rattle.grid.proofs.Lists.{each-on, each-end, each-set}
 use Rattle.grid.proofs.Units.{array-cell}
