@@ -1,10 +1,10 @@
 -- The check of a handed board as the code makes it: a mask beside the fresh one, and the first cells of stops 3 and 9. Assumes nothing.
 use mathlib.Core.Path.{_≡_, refl, sym, ap, _∙_}
-use mathlib.Core.Bool.{Bool, true, false, not, _&&_}
+use mathlib.Core.Bool.{Bool, true, false, not, _&&_, _||_}
 use mathlib.Core.List.{List}
 use mathlib.Core.Option.{Option, none, some}
 use Prim.Native.Nat.{ℕ}
-use borrow.Author.Tests.{eq-eqb, ne-eqb, eqb-true}
+use borrow.Author.Tests.{eq-eqb, ne-eqb}
 use lib.Dec.{eqb}
 use lib.IntN.{ℤ, pos}
 use Rattle.candidates.specs.Answer.{gives, stop}
@@ -28,19 +28,20 @@ module _ (x f d : ℕ) where
       go true = refl
       go false = refl
 
-  pub clue-misfit : (d ≡ 0 → ⊥) → not (eqb x f) ≡ misfitOf x f d
-  clue-misfit n = rw (ne-eqb d 0 n) (go (eqb x f) refl)
+  pub same-misfit : x ≡ f → false ≡ misfitOf x f d
+  same-misfit e =
+      rw (eq-eqb (minus x f) 0 (rw e (minus-of-sub (sub-refl f))), eq-eqb x f e) (go (eqb d 0))
     where
-      none : x ≡ f → minus x f ≡ 0
-      none e = rw e (minus-of-sub (sub-refl f))
+      go : (t : Bool) → false ≡ not (true && (t || true))
+      go true = refl
+      go false = refl
 
-      go : (t : Bool) → eqb x f ≡ t → not t ≡ not (eqb (minus x f) 0 && t)
-      go true e = rw (eq-eqb (minus x f) 0 (none (eqb-true x f e)))
-      go false e = last (eqb (minus x f) 0)
-        where
-          last : (t : Bool) → true ≡ not (t && false)
-          last true = refl
-          last false = refl
+  pub clue-misfit : (d ≡ 0 → ⊥) → (x ≡ f → ⊥) → true ≡ misfitOf x f d
+  clue-misfit n m = rw (ne-eqb d 0 n, ne-eqb x f m) (go (eqb (minus x f) 0))
+    where
+      go : (t : Bool) → true ≡ not (t && false)
+      go true = refl
+      go false = refl
 
 -- ---- the two searches
 

@@ -1,7 +1,7 @@
 -- A search of the numbers below n for the first that passes a test: what is left of it at i. Tests that agree on every cell. Assumes nothing.
 use mathlib.Core.Path.{_≡_, refl, sym, ap, _∙_}
 use mathlib.Core.Bool.{Bool, true, false, cond, _&&_}
-use mathlib.Core.List.{List, [], _∷_, List·Memᴰ, List·Memᴰ·head, List·Memᴰ·tail}
+use mathlib.Core.List.{List, [], _∷_, map, List·Memᴰ, List·Memᴰ·head, List·Memᴰ·tail}
 use mathlib.Core.Option.{Option, none, some}
 use Prim.Native.Nat.{ℕ, _+_, _-_, _≤_, _<_}
 use Rattle.candidates.proofs.Tests.{cond-true, cond-false}
@@ -45,3 +45,12 @@ all-same f g (x ∷ xs) h =
 pub all-cells : (f g : ℕ → Bool) → ((c : ℕ) → c < 81 → f c ≡ g c) → all f cells ≡ all g cells
 unfolding cells
 all-cells f g h = all-same f g cells (λ c k. h c (mem-range 81 0 c k .1))
+
+pub map-cells : {A : Type 0} (f g : ℕ → A) → ((c : ℕ) → c < 81 → f c ≡ g c) → map f cells ≡ map g cells
+unfolding cells
+map-cells {A} f g h = go cells (λ c k. h c (mem-range 81 0 c k .1))
+  where
+    go : (xs : List ℕ) → ((x : ℕ) → List·Memᴰ x xs → f x ≡ g x) → map f xs ≡ map g xs
+    go [] h = refl
+    go (x ∷ xs) h =
+        ap (λ (y : A). y ∷ map f xs) (h x (List·Memᴰ·head refl)) ∙ ap (λ (ys : List A). g x ∷ ys) (go xs (λ y k. h y (List·Memᴰ·tail k)))

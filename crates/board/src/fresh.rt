@@ -1,8 +1,10 @@
-// Fresh masks: "an open cell holds d exactly if no peer's clue is d". The digits that the units of a cell are given are
-// gathered once for each unit; an open cell adds none of its own.
+// Fresh masks: "an open cell holds d exactly if no peer's clue is d". Each given digit joins the sets of its row, its column
+// and its box; an open cell then lacks what its three sets hold, since it adds none of its own. Row by row, so that no cell's
+// row and column are worked out anew.
 ghost use mathlib.Core.Path.{_≡_};
+ghost use Prim.Native.Nat.{_<_};
 ghost use Rattle.steps.specs.Boards.{fresh};
-ghost use Rattle.board.specs.Fresh.{digitMask, givenMasks, unitSet, unitSets, seen, freshMask};
+ghost use Rattle.board.specs.Fresh.{digitMask, joinAt, boxUnit, joinUnits, joinRow, unitSets, seen, freshMask, freshRow};
 use candidates::masks;
 
 // The mask of a given digit; none for an open cell.
@@ -15,56 +17,66 @@ pub fn given_mask(digit: u8) -> u16
     masks::digit_mask(digit as usize - 1)
 }
 
-fn given_masks(givens: &[u8; 81]) -> [u16; 81]
-    ensures { λ r. ⌜ r ≡ givenMasks (now (givens .entry)) ⌝ }
+// A mask joins the set of a unit.
+fn join_at(sets: &mut [u16; 27], unit: usize, mask: u16)
+    requires { ⌜ unit < 27 ⌝ }
+    ensures { λ _. ⌜ now (sets .exit) ≡ joinAt unit mask (now (sets .entry)) ⌝ }
 {
-    let mut masks = [0u16; 81];
-    let mut cell: usize = 0;
-    while cell < 81 {
-        masks[cell] = given_mask(givens[cell]);
-        cell += 1;
-    }
-    masks
+    sets[unit] = masks::join(sets[unit], mask);
 }
 
-// The digits of a unit's cells; none past the table.
-fn unit_set(masks: &[u16; 81], unit: usize) -> u16
-    ensures { λ r. ⌜ r ≡ unitSet (now (masks .entry)) unit ⌝ }
+// The number of the box as a unit.
+fn box_unit(row: usize, col: usize) -> usize
+    requires { ⌜ (row < 9) × (col < 9) ⌝ }
+    ensures { λ r. ⌜ r ≡ boxUnit row col ⌝ }
 {
-    if 27 <= unit {
-        return 0;
-    }
-    let cells = grid::unit_cells(unit);
-    let mut set: u16 = 0;
-    let mut place: usize = 0;
-    while place < 9 {
-        set = masks::join(set, masks[cells[place] as usize]);
-        place += 1;
-    }
-    set
+    18 + (3 * (row / 3) + col / 3)
 }
 
-fn unit_sets(masks: &[u16; 81]) -> [u16; 27]
-    ensures { λ r. ⌜ r ≡ unitSets (now (masks .entry)) ⌝ }
+fn join_units(sets: &mut [u16; 27], row: usize, col: usize, mask: u16)
+    requires { ⌜ (row < 9) × (col < 9) ⌝ }
+    ensures { λ _. ⌜ now (sets .exit) ≡ joinUnits row col mask (now (sets .entry)) ⌝ }
+{
+    join_at(sets, row, mask);
+    join_at(sets, 9 + col, mask);
+    join_at(sets, box_unit(row, col), mask);
+}
+
+// The cells of a row join the digits that they are given.
+fn join_row(givens: &[u8; 81], sets: &mut [u16; 27], row: usize)
+    requires { ⌜ row < 9 ⌝ }
+    ensures { λ _. ⌜ now (sets .exit) ≡ joinRow (now (givens .entry)) row (now (sets .entry)) ⌝ }
+{
+    let mut col: usize = 0;
+    while col < 9 {
+        let digit = givens[9 * row + col];
+        if digit != 0 {
+            join_units(sets, row, col, given_mask(digit));
+        }
+        col += 1;
+    }
+}
+
+// The digits that each unit is given.
+fn unit_sets(givens: &[u8; 81]) -> [u16; 27]
+    ensures { λ r. ⌜ r ≡ unitSets (now (givens .entry)) ⌝ }
 {
     let mut sets = [0u16; 27];
-    let mut unit: usize = 0;
-    while unit < 27 {
-        sets[unit] = unit_set(masks, unit);
-        unit += 1;
+    let mut row: usize = 0;
+    while row < 9 {
+        join_row(givens, &mut sets, row);
+        row += 1;
     }
     sets
 }
 
 // The digits that the row, the column and the box of a cell are given.
-fn seen_digits(sets: &[u16; 27], cell: usize) -> u16
-    ensures { λ r. ⌜ r ≡ seen (now (sets .entry)) cell ⌝ }
+fn seen_digits(sets: &[u16; 27], row: usize, col: usize) -> u16
+    requires { ⌜ (row < 9) × (col < 9) ⌝ }
+    ensures { λ r. ⌜ r ≡ seen (now (sets .entry)) row col ⌝ }
 {
-    if 81 <= cell {
-        return 0;
-    }
-    let lines = masks::join(sets[grid::row_of(cell)], sets[9 + grid::col_of(cell)]);
-    masks::join(lines, sets[18 + grid::box_of(cell)])
+    let lines = masks::join(sets[row], sets[9 + col]);
+    masks::join(lines, sets[box_unit(row, col)])
 }
 
 // The fresh mask of a cell with the given digit that sees these digits.
@@ -75,21 +87,33 @@ fn fresh_mask(digit: u8, seen: u16) -> u16
         return given_mask(digit);
     }
     if seen < 512 {
-        return 511 - seen;
+        return masks::lose(511, seen);
     }
     0
+}
+
+fn fresh_row(givens: &[u8; 81], sets: &[u16; 27], masks: &mut [u16; 81], row: usize)
+    requires { ⌜ row < 9 ⌝ }
+    ensures { λ _. ⌜ now (masks .exit) ≡ freshRow (now (givens .entry)) (now (sets .entry)) row (now (masks .entry)) ⌝ }
+{
+    let mut col: usize = 0;
+    while col < 9 {
+        let cell = 9 * row + col;
+        masks[cell] = fresh_mask(givens[cell], seen_digits(sets, row, col));
+        col += 1;
+    }
 }
 
 // The fresh masks of any givens.
 pub fn fresh_masks(givens: &[u8; 81]) -> [u16; 81]
     ensures { λ r. ⌜ r ≡ fresh (now (givens .entry)) ⌝ }
 {
-    let sets = unit_sets(&given_masks(givens));
+    let sets = unit_sets(givens);
     let mut masks = [0u16; 81];
-    let mut cell: usize = 0;
-    while cell < 81 {
-        masks[cell] = fresh_mask(givens[cell], seen_digits(&sets, cell));
-        cell += 1;
+    let mut row: usize = 0;
+    while row < 9 {
+        fresh_row(givens, &sets, &mut masks, row);
+        row += 1;
     }
     masks
 }

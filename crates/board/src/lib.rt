@@ -7,7 +7,7 @@ ghost use Rattle.steps.specs.Boards.{givensOf};
 ghost use Rattle.steps.specs.Calls.{refusal, checked, updateCandidates, answer, left};
 ghost use Rattle.board.specs.Answers.{beside, foundCell, passes, refusalOf};
 ghost use Rattle.board.specs.Answers.{cellMaskAnswer, countingAnswer, openingAnswer, verdictAnswer};
-ghost use Rattle.board.specs.Boards.{boardOf, clueCount, firstMisfit, handed, maskOr5, misfitOf, noBoard, noClues, noMasks, openOf, stops, thenAnswer, verdictOf};
+ghost use Rattle.board.specs.Boards.{boardOf, clueCount, firstBadClue, firstMisfit, handed, maskOr5, misfitOf, noBoard, noClues, noMasks, openOf, stops, thenAnswer, verdictOf};
 use candidates::masks;
 
 pub mod clues;
@@ -118,10 +118,13 @@ pub enum Writing {
 fn misfits(mask: u16, fresh: u16, given: u8) -> bool
     ensures { λ r. ⌜ r ≡ misfitOf mask fresh given ⌝ }
 {
+    if mask == fresh {
+        return false;
+    }
     if given == 0 {
         return masks::lose(mask, fresh) != 0;
     }
-    mask != fresh
+    true
 }
 
 // The first cell of stop 9, beside the fresh masks.
@@ -151,16 +154,25 @@ fn first_stop(clue: Found, mask: Found) -> Checked
     }
 }
 
+// The check beside the givens and the fresh masks of the clues.
+fn check_beside(
+    clues: &[i32; 81],
+    givens: &[u8; 81],
+    fresh: &[u16; 81],
+    masks: &[u16; 81],
+) -> Checked
+    ensures { λ r. ⌜ refusalOf r ≡ stops (firstBadClue (now (clues .entry))) (firstMisfit (now (givens .entry)) (now (fresh .entry)) (now (masks .entry))) ⌝ }
+{
+    first_stop(clues::first_bad(clues), first_misfit(givens, fresh, masks))
+}
+
 // The check of a handed board: stop 3, then stop 9, each with its first cell.
 pub fn check(clues: &[i32; 81], masks: &[u16; 81]) -> Checked
     ensures { λ r. ⌜ refusalOf r ≡ refusal (handed (now (clues .entry)) (now (masks .entry))) ⌝ }
 {
     let givens = clues::givens_of(clues);
     let fresh = fresh::fresh_masks(&givens);
-    first_stop(
-        clues::first_bad(clues),
-        first_misfit(&givens, &fresh, masks),
-    )
+    check_beside(clues, &givens, &fresh, masks)
 }
 
 // Whether the check of a handed board refused nothing.
@@ -175,7 +187,7 @@ pub fn is_good(checked: Checked) -> bool
 }
 
 // How many cells have a clue.
-fn count_clues(givens: &[u8; 81]) -> usize
+pub fn count_clues(givens: &[u8; 81]) -> usize
     ensures { λ r. ⌜ r ≡ clueCount (now (givens .entry)) cells ⌝ }
 {
     let mut count: usize = 0;
@@ -228,14 +240,15 @@ impl Board {
     {
         let clues = self.clues;
         let masks = self.masks;
-        let answer = check(&clues, &masks);
+        let givens = clues::givens_of(&clues);
+        let fresh = fresh::fresh_masks(&givens);
+        let answer = check_beside(&clues, &givens, &fresh, &masks);
         if !is_good(answer) {
             return Updated {
                 answer,
                 board: Board { clues, masks },
             };
         }
-        let fresh = fresh::fresh_masks(&clues::givens_of(&clues));
         Updated {
             answer,
             board: Board {

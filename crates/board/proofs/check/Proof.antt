@@ -11,31 +11,15 @@ givens-of-requires c κs = search needs
 fresh-masks-requires : tie.Need-fresh-masks-requires
 fresh-masks-requires c κs = search needs
 
-first-bad-requires : tie.Need-first-bad-requires
-first-bad-requires c κs = search needs
-
-first-misfit-requires : tie.Need-first-misfit-requires
-first-misfit-requires c κs = search needs
-
-first-stop-requires : tie.Need-first-stop-requires
-first-stop-requires c κs = search needs
+check-beside-requires : tie.Need-check-beside-requires
+check-beside-requires c κs = search needs
 
 returns : tie.Need-returns
 returns c =
-    let m = c .before in
-    let b = m .before .before .before in
-    let f = b .before in
+    let f = c .before .before .before in
     let g = f .before .before in
-    c .first-stop .ensures ∙ rw (b .first-bad .ensures, m .first-misfit .ensures)
-    (checks (g .before .args .clues .now) (g .before .args .masks .now) (g .givens-of .ensures) (f .fresh-masks .ensures))
+    let a = g .before .args in
+    c .check-beside .ensures ∙ checks (a .clues .now) (a .masks .now) (g .givens-of .ensures) (f .fresh-masks .ensures)
 
 pub check-spec : {M : Type 1} → statement M
-check-spec =
-    tie.close
-    (tie.spec
-    givens-of-requires
-    fresh-masks-requires
-    first-bad-requires
-    first-misfit-requires
-    first-stop-requires
-    returns)
+check-spec = tie.close (tie.spec givens-of-requires fresh-masks-requires check-beside-requires returns)
