@@ -1,7 +1,7 @@
 -- The published cases hold of the definitions. Assumes nothing.
 use Rattle.cases.specs.Cases.{Cases}
 use Rattle.cases.proofs.P1.{p1-holds}
-use Rattle.cases.proofs.P4to6.{p4-holds, p5-holds, p6-holds}
+use Rattle.cases.proofs.P2to6.{p2-holds, p3-holds, p4-holds, p5-holds, p6-holds}
 use Rattle.cases.proofs.P7.{p7-holds}
 use Rattle.cases.proofs.P8.{p8-holds, p9-holds}
 use Rattle.cases.proofs.P10.{p10-holds}
@@ -11,6 +11,8 @@ pub cases : Cases
 cases =
     record {
       one = p1-holds;
+      two = p2-holds;
+      three = p3-holds;
       four = p4-holds;
       five = p5-holds;
       six = p6-holds;

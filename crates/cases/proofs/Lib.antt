@@ -2,7 +2,7 @@ pub mod Laws
 pub mod Idle
 pub mod Conflict
 pub mod P1
-pub mod P4to6
+pub mod P2to6
 pub mod P7
 pub mod P8
 pub mod P10

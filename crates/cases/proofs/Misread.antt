@@ -32,7 +32,7 @@ use Rattle.cases.specs.Grids.{gridOf, gridA, p5}
 use Rattle.cases.proofs.Conflict.{withFive, settled-below}
 use Rattle.cases.proofs.Idle.{cross-idle}
 use Rattle.cases.proofs.Laws.{Values}
-use Rattle.cases.proofs.P4to6.{p6-holds}
+use Rattle.cases.proofs.P2to6.{p6-holds}
 
 -- ---- "Counting open cells alone in Place: a clue d leaves no open holder, and a cell loses its true digit."
 

@@ -1,6 +1,7 @@
 -- P1, the empty grid. Assumes nothing.
 use mathlib.Core.Path.{_≡_, refl, ap, _∙_}
-use mathlib.Core.List.{List}
+use mathlib.Core.Bool.{false}
+use mathlib.Core.List.{List, [], _∷_}
 use Prim.Native.Nat.{ℕ}
 use lib.Count.{onesIn, ones}
 use lib.ListN.{replicate}
@@ -9,13 +10,17 @@ use Rattle.grid.specs.Cells.{cells, peers}
 use Rattle.grid.specs.Lists.{each}
 use Rattle.grid.specs.Units.{units, unit}
 use Rattle.steps.specs.Boards.{givensOf, fresh, taken, total}
-use Rattle.steps.specs.Calls.{Outcome, settling, outcome}
+use Rattle.steps.specs.Calls.{Outcome, nakedSinglesCall, hiddenSinglesCall, advancedCall, settling, outcome, opened}
 use Rattle.steps.specs.Chains.{firstSome, weakLinks, strongLinks, enter, chainEnd, chainDigit, chains}
 use Rattle.steps.specs.Instances.{stepOf, lones, places, pointings}
-use Rattle.steps.specs.Loops.{for}
+use Rattle.steps.specs.Loops.{for, first}
 use Rattle.steps.specs.Passes.{Kind, Lone, Place, Pair, Pointing, Cross, instances, pass, settle, Sweeps, removedBy}
 use Rattle.steps.specs.Ported.{spots, nakedPairAt, nakedPairs, boxLineAt, boxLines, xWingAt, xWingDigit, xWings}
+use Rattle.steps.specs.Singles.{nakedSingles, hiddenSingles}
 use Rattle.steps.specs.Steps.{take}
+use Rattle.board.specs.Texts.{parseOf}
+use Rattle.record.specs.Records.{recordOf, clueSets, lacking}
+use Rattle.record.specs.Sections.{sectionBytes, candidates}
 use Rattle.cases.specs.Grids.{gridOf, p1}
 use Rattle.cases.specs.Cases.{Case1}
 use Rattle.cases.proofs.Idle.{pair-idle, cross-idle}
@@ -76,6 +81,20 @@ wide-pass Pair = pair
 wide-pass Pointing = pointing
 wide-pass Cross = cross
 
+-- ---- singles
+
+nothing-naked : outcome nakedSinglesCall g m .flag ≡ false
+unfolding g m outcome nakedSingles ones for cells
+nothing-naked = refl
+
+nothing-hidden : outcome hiddenSinglesCall g m .flag ≡ false
+unfolding g m outcome hiddenSingles spots gather ones for unit units
+nothing-hidden = refl
+
+no-progress : outcome advancedCall g m .flag ≡ false
+unfolding g m outcome nakedSingles hiddenSingles nakedPairs nakedPairAt spots gather ones each for cells unit units
+no-progress = refl
+
 -- ---- settling
 
 settles : settle g m ≡ record { sweeps = 1; left = m }
@@ -85,14 +104,25 @@ none-removed : removedBy m m ≡ 0
 unfolding total ones m
 none-removed = refl
 
+-- ---- the record
+
+no-bytes : recordOf (opened p1) ≡ 0 ∷ 0 ∷ 0 ∷ []
+unfolding recordOf opened sectionBytes clueSets lacking candidates p1 gridOf for givensOf fresh taken each cells peers
+no-bytes = refl
+
 pub p1-holds : Case1
-unfolding m outcome
+unfolding m outcome parseOf first cells p1 gridOf for
 p1-holds =
     record {
+      read = refl;
       masks = fresh-value values;
       passes = all-idle values naked-pairs box-lines x-wings chain-pass wide-pass;
+      naked = ap (λ (o : Outcome). o .flag) (call-value values nakedSinglesCall) ∙ nothing-naked;
+      hidden = ap (λ (o : Outcome). o .flag) (call-value values hiddenSinglesCall) ∙ nothing-hidden;
+      advanced = ap (λ (o : Outcome). o .flag) (call-value values advancedCall) ∙ no-progress;
       sweeps = ap (λ (o : Outcome). o .sweeps) (call-value values settling) ∙ ap (λ (s : Sweeps). s .sweeps) settles;
       removed =
           ap (λ (o : Outcome). o .removed) (call-value values settling)
           ∙ ap (λ (s : Sweeps). removedBy m (s .left)) settles ∙ none-removed;
+      bytes = no-bytes;
     }

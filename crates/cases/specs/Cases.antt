@@ -1,18 +1,21 @@
 -- The published cases P1 to P11, each of document 01's sentences as an equation about the definitions; proofs/Cases.antt shows them all.
--- P2 and P3 are the text reader's and P1's record the record writer's: their cases come with the text and the record.
 use mathlib.Core.Path.{_≡_}
 use mathlib.Core.Bool.{true, false}
-use mathlib.Core.List.{List, [], _∷_, map}
+use mathlib.Core.List.{List, [], _∷_, _++_, map}
 use mathlib.Core.Option.{none, some}
 use Prim.Native.Nat.{ℕ, _≤_, _<_}
 use lib.IntN.{ℤ, pos, negsuc}
-use lib.ListN.{replicate, set}
+use lib.ListN.{length, replicate, set}
+use Rattle.candidates.specs.Answer.{gives, stop}
 use Rattle.candidates.specs.Masks.{has}
 use Rattle.grid.specs.Fillings.{verified}
 use Rattle.steps.specs.Boards.{at, givensOf, fresh}
 use Rattle.steps.specs.Calls.{Call, Outcome, nakedPairsCall, boxLineCall, xWingCall, nakedSinglesCall, hiddenSinglesCall, advancedCall, wide, settling, chainCall, outcome, refusal, opened}
 use Rattle.steps.specs.Passes.{Kind, removedBy}
 use Rattle.steps.specs.Singles.{Report}
+use Rattle.board.specs.Boards.{openOf}
+use Rattle.board.specs.Texts.{parseOf}
+use Rattle.record.specs.Records.{recordOf}
 use Rattle.cases.specs.Grids.{gridA, p1, p4Low, p4High, p5, exchanged, p7, p8, p10, p11}
 
 -- the fresh masks of a grid
@@ -36,15 +39,30 @@ pub record AllIdle (clues : List ℤ) : Type 0 where
   pub chain : Idle chainCall clues
   pub wides : (k : Kind) → Idle (wide k) clues
 
--- "P1 81 dots: masks 511; all ported and wide passes false; settling 1 sweep, 0 removed"
+-- "P1 81 dots: masks 511; all ported and wide passes false; settling 1 sweep, 0 removed; record 00 00 00"
 pub record Case1 : Type 0 where
+  pub read : parseOf (replicate 81 46) ≡ gives p1
   pub masks : freshMasks p1 ≡ replicate 81 511
   pub passes : AllIdle p1
+  pub naked : onFresh nakedSinglesCall p1 .flag ≡ false
+  pub hidden : onFresh hiddenSinglesCall p1 .flag ≡ false
+  pub advanced : onFresh advancedCall p1 .flag ≡ false
   pub sweeps : onFresh settling p1 .sweeps ≡ 1
   pub removed : onFresh settling p1 .removed ≡ 0
+  pub bytes : recordOf (opened p1) ≡ 0 ∷ 0 ∷ 0 ∷ []
 
--- "P4 clue -1 at cell 0: 3, 0. Clue 10 at cell 80: 3, 80." Whatever the masks: the clues are checked first.
+-- "P2 80 bytes: 1, 80."
+pub record Case2 : Type 0 where
+  pub short : (text : List ℕ) → length text ≡ 80 → parseOf text ≡ stop 1 (pos 80)
+
+-- "P3 `a` as last of 81: 2, 80." The others are dots.
+pub record Case3 : Type 0 where
+  pub last : parseOf (replicate 80 46 ++ 97 ∷ []) ≡ stop 2 (pos 80)
+
+-- "P4 clue -1 at cell 0: 3, 0. Clue 10 at cell 80: 3, 80." The opener's, and of a board that is handed in, whatever its masks: the clues are checked first.
 pub record Case4 : Type 0 where
+  pub opensLow : openOf p4Low ≡ stop 3 (pos 0)
+  pub opensHigh : openOf p4High ≡ stop 3 (pos 80)
   pub low : (m : List ℕ) → refusal (record { clues = p4Low; masks = m }) ≡ some (3, 0)
   pub high : (m : List ℕ) → refusal (record { clues = p4High; masks = m }) ≡ some (3, 80)
 
@@ -102,6 +120,8 @@ pub record Case11 : Type 0 where
 -- The cases as a group.
 pub record Cases : Type 0 where
   pub one : Case1
+  pub two : Case2
+  pub three : Case3
   pub four : Case4
   pub five : Case5
   pub six : Case6

@@ -1,0 +1,157 @@
+-- One entry of a section: which bytes are well formed, and what stands at an offset. Assumes nothing.
+use mathlib.Core.Path.{_≡_, refl, sym, ap, _∙_}
+use mathlib.Core.Bool.{Bool, true, false, cond, _&&_}
+use mathlib.Core.List.{List}
+use Prim.Native.Nat.{ℕ, _+_, _-_, _*_, _≤_, _<_}
+use native.Mathlib.Omega.{arith}
+use borrow.Author.Tests.{le-leb, lt-leb, leb-true, lt-ltb}
+use lib.Dec.{leb, ltb, lit≤}
+use lib.IntN.{ℤ, pos}
+use lib.ListN.{length, getD}
+use Rattle.candidates.specs.Answer.{Answer, gives, stop}
+use Rattle.candidates.specs.Masks.{has}
+use Rattle.candidates.proofs.Tests.{both-left, both-right, cond-true, cond-false}
+use Rattle.steps.specs.Boards.{at, isOpen}
+use Rattle.cells.specs.Places.{maskAt, openMask}
+use Rattle.record.specs.declared.sections.Section.{Section}
+use Rattle.record.specs.declared.sections.Section.the-variants.{Clues, Removed}
+use Rattle.record.specs.Sections.{width, outside, numberAt, named, wellFormed, entryOf, entryAt}
+
+-- ---- well-formed bytes
+
+pub record Formed (low c d : ℕ) : Type 0 where
+  pub cell : c ≤ 80
+  pub some : 1 ≤ d
+  pub digit : d ≤ 9
+  pub rises : low ≤ named c d
+
+module _ (low c d : ℕ) where
+  pub cell-above : 80 < c → false ≡ wellFormed low c d
+  cell-above h = rw (lt-leb c 80 h)
+
+  module _ (h : c ≤ 80) where
+    pub digit-none : d < 1 → false ≡ wellFormed low c d
+    digit-none l = rw (le-leb c 80 h, lt-leb 1 d l)
+
+    module _ (l : 1 ≤ d) where
+      pub digit-above : 9 < d → false ≡ wellFormed low c d
+      digit-above m = rw (le-leb c 80 h, le-leb 1 d l, lt-leb d 9 m)
+
+      pub rising : d ≤ 9 → leb low (named c d) ≡ wellFormed low c d
+      rising m = rw (le-leb c 80 h, le-leb 1 d l, le-leb d 9 m)
+
+  pub formed : wellFormed low c d ≡ true → Formed low c d
+  formed t =
+      let abc = both-left (leb c 80 && leb 1 d && leb d 9) (leb low (named c d)) t in
+      let ab = both-left (leb c 80 && leb 1 d) (leb d 9) abc in
+      record {
+        cell = leb-true c 80 (both-left (leb c 80) (leb 1 d) ab);
+        some = leb-true 1 d (both-right (leb c 80) (leb 1 d) ab);
+        digit = leb-true d 9 (both-right (leb c 80 && leb 1 d) (leb d 9) abc);
+        rises = leb-true low (named c d) (both-right (leb c 80 && leb 1 d && leb d 9) (leb low (named c d)) t);
+      }
+
+  pub well : Formed low c d → wellFormed low c d ≡ true
+  well f = sym (rising (f .cell) (f .some) (f .digit)) ∙ le-leb low (named c d) (f .rises)
+
+-- the mask of a cell, as the code reads it
+pub cell-mask : (free : List ℕ) {low c d : ℕ} → Formed low c d → maskAt free c ≡ at free c
+cell-mask free {low} {c} {d} f = cond-true (ltb c 81) (at free c) 0 (lt-ltb c 81 (omega (arith, f .cell)))
+
+-- the mask of an open cell, as the code reads it
+pub open-cell : (g m : List ℕ) (c : ℕ) → c < 81 → openMask g m c ≡ cond (isOpen g c) (at m c) 0
+open-cell g m c h = rw (lt-ltb c 81 h)
+
+-- ---- a count
+
+module _ (bs : List ℕ) (i : ℕ) {k : Section} {b : ℕ} (p : b ≡ getD bs i 0) where
+  pub number-one : k ≡ Clues → b ≡ numberAt (width k) bs i
+  number-one e =
+      let z : b ≡ getD bs i 0 + 256 * 0 = omega arith in
+      z ∙ ap (λ (k : Section). numberAt (width k) bs i) (sym e)
+
+  pub number-two : {d : ℕ} → d ≡ getD bs (i + 1) 0 → k ≡ Removed → b + 256 * d ≡ numberAt (width k) bs i
+  number-two {d} q e =
+      let z : b + 256 * d ≡ getD bs i 0 + 256 * (getD bs (i + 1) 0 + 256 * 0) = omega arith in
+      z ∙ ap (λ (k : Section). numberAt (width k) bs i) (sym e)
+
+pub width-some : (k : Section) → 1 ≤ width k
+width-some Clues = lit≤ tt
+width-some Removed = lit≤ tt
+
+pub width-most : (k : Section) → width k ≤ 2
+width-most Clues = lit≤ tt
+width-most Removed = lit≤ tt
+
+-- ---- an answer that gives
+
+pub stop-gives : {A : Type 0} {a : A} {n : ℕ} {z : ℤ} → _≡_ {A = Answer A} (stop n z) (gives a) → ⊥
+stop-gives q = let w : _≡_ {A = ℕ} 0 1 = cc in omega arith
+
+pub gives-same : {A : Type 0} {a b : A} → _≡_ {A = Answer A} (gives a) (gives b) → a ≡ b
+gives-same q = cc
+
+-- ---- an entry at an offset
+
+module _ (k : Section) (free bs : List ℕ) (low i : ℕ) where
+  whole : Answer ℕ
+  whole = entryOf k free low i (getD bs i 0) (getD bs (i + 1) 0)
+
+  pub entry-missing : length bs < i + 2 → stop 7 (pos (length bs)) ≡ entryAt k free bs low i
+  unfolding entryAt whole
+  entry-missing h = sym (cond-false (leb (i + 2) (length bs)) whole (stop 7 (pos (length bs))) (lt-leb (i + 2) (length bs) h))
+
+  module _ (h : i + 2 ≤ length bs) {c d : ℕ} (p : c ≡ getD bs i 0) (q : d ≡ getD bs (i + 1) 0) where
+    pub entry-whole : entryOf k free low i c d ≡ entryAt k free bs low i
+    unfolding entryAt whole
+    entry-whole =
+        ap (λ (x : ℕ). entryOf k free low i x d) p ∙ ap (λ (x : ℕ). entryOf k free low i (getD bs i 0) x) q
+        ∙ sym (cond-true (leb (i + 2) (length bs)) whole (stop 7 (pos (length bs))) (le-leb (i + 2) (length bs) h))
+
+    free-entry : Answer ℕ
+    free-entry = cond (has (at free c) (d - 1)) (gives (named c d)) (stop (outside k) (pos i))
+
+    pub entry-bad : wellFormed low c d ≡ false → stop 8 (pos i) ≡ entryAt k free bs low i
+    unfolding free-entry
+    entry-bad t = sym (cond-false (wellFormed low c d) free-entry (stop 8 (pos i)) t) ∙ entry-whole
+
+    module _ (t : wellFormed low c d ≡ true) where
+      tested : free-entry ≡ entryAt k free bs low i
+      unfolding free-entry
+      tested = sym (cond-true (wellFormed low c d) free-entry (stop 8 (pos i)) t) ∙ entry-whole
+
+      pub entry-outside : has (at free c) (d - 1) ≡ false → stop (outside k) (pos i) ≡ entryAt k free bs low i
+      unfolding free-entry
+      entry-outside u = sym (cond-false (has (at free c) (d - 1)) (gives (named c d)) (stop (outside k) (pos i)) u) ∙ tested
+
+      pub entry-named : has (at free c) (d - 1) ≡ true → gives (named c d) ≡ entryAt k free bs low i
+      unfolding free-entry
+      entry-named u = sym (cond-true (has (at free c) (d - 1)) (gives (named c d)) (stop (outside k) (pos i)) u) ∙ tested
+
+  -- an entry that is read
+  pub record Named (e : ℕ) : Type 0 where
+    pub within : i + 2 ≤ length bs
+    pub bytes : Formed low (getD bs i 0) (getD bs (i + 1) 0)
+    pub is : e ≡ named (getD bs i 0) (getD bs (i + 1) 0)
+    pub held : has (at free (getD bs i 0)) (getD bs (i + 1) 0 - 1) ≡ true
+
+  pub named-entry : (e : ℕ) → entryAt k free bs low i ≡ gives e → Named e
+  unfolding entryAt
+  named-entry e t = go (leb (i + 2) (length bs)) refl (wellFormed low (getD bs i 0) (getD bs (i + 1) 0)) refl (has (at free (getD bs i 0)) (getD bs (i + 1) 0 - 1)) refl t
+    where
+      go : (x : Bool) → leb (i + 2) (length bs) ≡ x → (y : Bool) → wellFormed low (getD bs i 0) (getD bs (i + 1) 0) ≡ y
+          → (z : Bool) → has (at free (getD bs i 0)) (getD bs (i + 1) 0 - 1) ≡ z
+          → cond x (cond y (cond z (gives (named (getD bs i 0) (getD bs (i + 1) 0))) (stop (outside k) (pos i))) (stop 8 (pos i))) (stop 7 (pos (length bs))) ≡ gives e → Named e
+      go true x true y true z t =
+          record {
+            within = leb-true (i + 2) (length bs) x;
+            bytes = formed low (getD bs i 0) (getD bs (i + 1) 0) y;
+            is = sym (gives-same t);
+            held = z;
+          }
+      go true x true y false z t = absurd (stop-gives t)
+      go true x false y z z′ t = absurd (stop-gives t)
+      go false x y y′ z z′ t = absurd (stop-gives t)
+
+  pub named-small : {e : ℕ} → Named e → e < 729
+  named-small n = omega (arith, n .is, n .bytes .cell, n .bytes .some, n .bytes .digit)

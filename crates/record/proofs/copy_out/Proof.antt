@@ -1,0 +1,33 @@
+-- `record::copy_out` meets its contract. Assumes nothing.
+use mathlib.Core.Path.{ap, _∙_}
+use Prim.Native.Nat.{ℕ}
+use lib.ListN.{length}
+use Rattle.candidates.specs.Answer.{Answer}
+use Rattle.record.specs.Records.{written}
+use Rattle.record.specs.Sections.{leading}
+use Rattle.record.proofs.Writing.{write-short, write-whole}
+use borrow.Author.Needs.{needs}
+use native.Mathlib.Omega.{arith}
+use Rattle.record.proofs.copy_out.Statement.{statement}
+use Rattle.record.proofs.copy_out.Tie as tie
+
+returns : tie.Need-returns
+returns c =
+    let a = c .before .before .args in
+    let e = write-short (a .count) (length (a .out .now)) (c .if1 .taken) in
+    (e, ap (λ (w : Answer ℕ). written w (leading (a .count) (a .bytes .now)) (a .out .now)) e)
+
+copy-requires : tie.Need-copy-requires
+copy-requires c κs = search needs
+
+same-length : tie.Need-same-length
+same-length c = search needs
+
+returns-2 : tie.Need-returns-2
+returns-2 c =
+    let a = c .before .before .before .before .before .before .args in
+    let e = write-whole (a .count) (length (a .out .now)) (omega arith) in
+    (e, c .before .before .copy .ensures ∙ ap (λ (w : Answer ℕ). written w (leading (a .count) (a .bytes .now)) (a .out .now)) e)
+
+pub copy-out-spec : {M : Type 1} → statement M
+copy-out-spec = tie.close (tie.spec returns copy-requires same-length returns-2)

@@ -1,0 +1,51 @@
+-- `record::sections::put_count` meets its contract. Assumes nothing.
+use Rattle.record.proofs.Writing.{count-one, count-two}
+use borrow.Author.Needs.{needs}
+use native.Mathlib.Omega.{arith}
+use Rattle.record.proofs.sections.put_count.Statement.{statement}
+use Rattle.record.proofs.sections.put_count.Tie as tie
+
+cast-bytes : tie.Need-cast-bytes
+cast-bytes c = search needs
+
+element-write-bytes : tie.Need-element-write-bytes
+element-write-bytes c = search needs
+
+enum-told : tie.Need-enum-told
+enum-told c = search needs
+
+enum-told-2 : tie.Need-enum-told-2
+enum-told-2 c = search needs
+
+cast-bytes-2 : tie.Need-cast-bytes-2
+cast-bytes-2 c = search needs
+
+add-bytes : tie.Need-add-bytes
+add-bytes c = search needs
+
+element-write-bytes-2 : tie.Need-element-write-bytes-2
+element-write-bytes-2 c = search needs
+
+returns : tie.Need-returns
+returns c =
+    let a = c .before .before .args in
+    count-one (a .bytes .now) (a .start) (a .count) (c .enum-told .given .1)
+
+returns-2 : tie.Need-returns-2
+returns-2 c =
+    let a = c .before .before .args in
+    count-two (a .bytes .now) (a .start) (a .count) (omega arith) (c .enum-told2 .given .1)
+
+pub put-count-spec : {M : Type 1} → statement M
+put-count-spec =
+    tie.close
+    (tie.spec
+    cast-bytes
+    element-write-bytes
+    enum-told
+    enum-told-2
+    cast-bytes-2
+    add-bytes
+    element-write-bytes-2
+    returns
+    returns-2)

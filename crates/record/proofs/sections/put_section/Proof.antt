@@ -1,0 +1,57 @@
+-- `record::sections::put_section` meets its contract. Assumes nothing.
+use mathlib.Core.Path.{_≡_, ap, _∙_}
+use mathlib.Core.List.{List}
+use Prim.Native.Nat.{ℕ, _+_, _-_, _/_}
+use lib.ListN.{length}
+use Rattle.record.specs.Sections.{width, candidates, entryBytes, lowFirst, stored}
+use Rattle.record.proofs.Entries.{width-most}
+use Rattle.record.proofs.Writing.{candidates-few, section-length, section-put}
+use borrow.Author.Needs.{needs}
+use native.Mathlib.Omega.{arith}
+use Rattle.record.proofs.sections.put_section.Statement.{statement}
+use Rattle.record.proofs.sections.put_section.Tie as tie
+
+count-width-requires : tie.Need-count-width-requires
+count-width-requires c κs = search needs
+
+add-first : tie.Need-add-first
+add-first c = omega (arith, c .before .pre, c .count-width .ensures, width-most (c .before .args .section))
+
+put-entries-requires : tie.Need-put-entries-requires
+put-entries-requires c κs = omega (arith, c .before .before .pre, c .before .count-width .ensures, width-most (c .before .before .args .section))
+
+sub-put-count : tie.Need-sub-put-count
+sub-put-count c = search needs
+
+put-count-requires : tie.Need-put-count-requires
+put-count-requires c κs =
+    let s = c .before .before .before .before in
+    (omega (arith, s .pre), omega (arith, c .before .put-entries .ensures .1, candidates-few (s .args .sets .now)))
+
+returns : tie.Need-returns
+returns c =
+    let e = c .before .before in
+    let w = e .before .before in
+    let a = w .before .args in
+    let s = a .sets .now in
+    let n = (e .put-entries .result - (a .start + w .count-width .result)) / 2 in
+    let p = e .put-entries .ensures .1 in
+    let q = w .count-width .ensures in
+    let m : n ≡ length (candidates s) = omega arith in (
+      c .put-count .ensures
+          ∙ ap (λ (l : List ℕ). stored l (a .start) (lowFirst (width (a .section)) n))
+          (e .put-entries .ensures .0 ∙ ap (λ (i : ℕ). stored (a .bytes .now) (a .start + i) (entryBytes (candidates s))) q)
+          ∙ section-put (a .section) s (a .bytes .now) (a .start) n m,
+      omega (arith, section-length (a .section) s),
+    )
+
+pub put-section-spec : {M : Type 1} → statement M
+put-section-spec =
+    tie.close
+    (tie.spec
+    count-width-requires
+    add-first
+    put-entries-requires
+    sub-put-count
+    put-count-requires
+    returns)

@@ -1,0 +1,92 @@
+-- `record::sections::read_entries` meets its contract. Assumes nothing.
+use mathlib.Core.Path.{_≡_, refl, sym, ap, _∙_}
+use Rattle.record.specs.Answers.{readingAnswer}
+use mathlib.Core.List.{List}
+use Prim.Native.Nat.{ℕ, _+_, _-_}
+use Rattle.candidates.specs.Answer.{gives}
+use Rattle.record.specs.Sections.{after, entryAt, readEntries}
+use Rattle.record.proofs.Entries.{Named, named-entry, named-small}
+use Rattle.record.proofs.SectionsRead.{read-on, read-end, read-stop}
+use borrow.Author.Needs.{needs}
+use native.Mathlib.Omega.{arith}
+use Rattle.record.proofs.sections.read_entries.Statement.{statement}
+use Rattle.record.proofs.sections.read_entries.Tie as tie
+
+abbrev Inv-loop : tie.InvT-loop
+Inv-loop section free bytes count start sets₀ left₀ low₀ at₀ sets left low at = readEntries section free bytes left low at sets ≡ readEntries section free bytes count 0 start sets₀
+
+abbrev μ-loop : tie.MeasureT-loop
+μ-loop section free bytes count start sets₀ left₀ low₀ at₀ sets left low at = left
+
+-- the entry that was read
+is-read : (c : tie.After-entry Inv-loop μ-loop) → entryAt (c .before .before .before .before .before .before .args .section) (c .before .before .before .before .before .before .args .free .now) (c .before .before .before .before .before .before .args .bytes .now) (c .before .before .before .before .loop .low) (c .before .before .before .before .loop .at) ≡ gives (c .entry .given .0 .0)
+is-read c = sym (c .before .before .entry-at .ensures) ∙ ap readingAnswer (c .entry .given .1)
+
+is-named : (c : tie.After-entry Inv-loop μ-loop) → Named (c .before .before .before .before .before .before .args .section) (c .before .before .before .before .before .before .args .free .now) (c .before .before .before .before .before .before .args .bytes .now) (c .before .before .before .before .loop .low) (c .before .before .before .before .loop .at) (c .entry .given .0 .0)
+is-named c = named-entry _ _ _ _ _ (c .entry .given .0 .0) (is-read c)
+
+loop-holds : tie.Need-loop-holds Inv-loop μ-loop
+loop-holds c = refl
+
+entry-at-requires : tie.Need-entry-at-requires Inv-loop μ-loop
+entry-at-requires c κs = search needs
+
+enum-known-entry : tie.Need-enum-known-entry Inv-loop μ-loop
+enum-known-entry c = search needs
+
+returns : tie.Need-returns Inv-loop μ-loop
+returns c =
+    let e = c .before in
+    let l = e .before .before in
+    let a = l .before .before .args in
+    read-stop (a .section) (a .free .now) (a .bytes .now) (l .loop .left) (l .loop .low) (l .loop .at) (l .loop .sets) (e .entry-at .result) (e .before .loop-test .taken) (e .entry-at .ensures) (c .match .keys2)
+    ∙ l .loop .inv
+
+add-requires : tie.Need-add-requires Inv-loop μ-loop
+add-requires c κs = named-small _ _ _ _ _ (is-named (c .before .before))
+
+next-low-requires : tie.Need-next-low-requires Inv-loop μ-loop
+next-low-requires c κs = named-small _ _ _ _ _ (is-named (c .before .before .before))
+
+add-at : tie.Need-add-at Inv-loop μ-loop
+add-at c = omega (arith, is-named (c .before .before .before .before) .within)
+
+sub-left : tie.Need-sub-left Inv-loop μ-loop
+sub-left c = omega arith
+
+loop-less : tie.Need-loop-less Inv-loop μ-loop
+loop-less c = omega arith
+
+loop-again : tie.Need-loop-again Inv-loop μ-loop
+loop-again c =
+    let e = c .before .before .before .before in
+    let l = e .before .before .before .before in
+    let a = l .before .before .args in
+    let candidate = e .entry .given .0 .0 in
+    ap (λ (x : ℕ). readEntries (a .section) (a .free .now) (a .bytes .now) (l .loop .left - 1) x (l .loop .at + 2) (c .before .add .last .0)) (c .next-low .ensures)
+    ∙ ap (λ (x : List ℕ). readEntries (a .section) (a .free .now) (a .bytes .now) (l .loop .left - 1) (after (a .section) candidate) (l .loop .at + 2) x) (c .before .add .ensures)
+    ∙ sym (read-on (a .section) (a .free .now) (a .bytes .now) (l .loop .left) (l .loop .low) (l .loop .at) (l .loop .sets) (omega arith) (is-read e)) ∙ l .loop .inv
+
+returns-2 : tie.Need-returns-2 Inv-loop μ-loop
+returns-2 c =
+    let l = c .before in
+    let a = l .before .before .args in
+    read-end (a .section) (a .free .now) (a .bytes .now) (l .loop .left) (l .loop .low) (l .loop .at) (l .loop .sets) (c .loop-test .left) ∙ l .loop .inv
+
+pub read-entries-spec : {M : Type 1} → statement M
+read-entries-spec =
+    tie.close
+    (tie.spec
+    Inv-loop
+    μ-loop
+    loop-holds
+    entry-at-requires
+    enum-known-entry
+    returns
+    add-requires
+    next-low-requires
+    add-at
+    sub-left
+    loop-less
+    loop-again
+    returns-2)

@@ -1,0 +1,64 @@
+-- `record::sets::clue_sets` meets its contract. Assumes nothing.
+use mathlib.Core.Path.{_≡_, refl}
+use Prim.Native.Nat.{_-_}
+use lib.ListN.{replicate}
+use Rattle.grid.specs.Cells.{cells}
+use Rattle.board.proofs.Fills.{filled, fill-start, fill-on, fill-end}
+use Rattle.steps.specs.Boards.{givenMask}
+use Rattle.record.specs.Records.{clueSets}
+use borrow.Author.Needs.{needs}
+use native.Mathlib.Omega.{arith}
+use Rattle.record.proofs.sets.clue_sets.Statement.{statement}
+use Rattle.record.proofs.sets.clue_sets.Tie as tie
+
+abbrev Inv-loop : tie.InvT-loop
+Inv-loop givens sets₀ cell₀ sets cell = filled (givenMask givens) 81 cell sets ≡ clueSets givens
+
+abbrev μ-loop : tie.MeasureT-loop
+μ-loop givens sets₀ cell₀ sets cell = 81 - cell
+
+loop-holds : tie.Need-loop-holds Inv-loop μ-loop
+unfolding clueSets cells
+loop-holds c = fill-start _ 81 (replicate 81 0) refl
+
+element-copy-out-given-mask : tie.Need-element-copy-out-given-mask Inv-loop μ-loop
+element-copy-out-given-mask c = omega arith
+
+given-mask-requires : tie.Need-given-mask-requires Inv-loop μ-loop
+given-mask-requires c κs = search needs
+
+mul-sets : tie.Need-mul-sets Inv-loop μ-loop
+mul-sets c = omega arith
+
+array-write-sets : tie.Need-array-write-sets Inv-loop μ-loop
+array-write-sets c = omega arith
+
+add-cell : tie.Need-add-cell Inv-loop μ-loop
+add-cell c = omega arith
+
+loop-less : tie.Need-loop-less Inv-loop μ-loop
+loop-less c = omega arith
+
+loop-again : tie.Need-loop-again Inv-loop μ-loop
+loop-again c =
+    let l = c .before .before .before in
+    fill-on _ 81 (l .loop .cell) (l .loop .sets) (l .loop .inv) (omega arith) (c .given-mask .ensures)
+
+returns : tie.Need-returns Inv-loop μ-loop
+returns c = fill-end _ 81 (c .before .loop .cell) (c .before .loop .sets) (c .before .loop .inv) (c .loop-test .left)
+
+pub clue-sets-spec : {M : Type 1} → statement M
+clue-sets-spec =
+    tie.close
+    (tie.spec
+    Inv-loop
+    μ-loop
+    loop-holds
+    element-copy-out-given-mask
+    given-mask-requires
+    mul-sets
+    array-write-sets
+    add-cell
+    loop-less
+    loop-again
+    returns)

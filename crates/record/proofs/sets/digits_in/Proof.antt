@@ -1,0 +1,64 @@
+-- `record::sets::digits_in` meets its contract. Assumes nothing.
+use mathlib.Core.Path.{_≡_, refl}
+use Prim.Native.Nat.{_-_}
+use lib.ListN.{replicate}
+use Rattle.grid.specs.Cells.{cells}
+use Rattle.board.proofs.Fills.{filled, fill-start, fill-on, fill-end}
+use Rattle.steps.specs.Boards.{at}
+use Rattle.record.specs.Records.{digitIn, digitsIn}
+use borrow.Author.Needs.{needs}
+use native.Mathlib.Omega.{arith}
+use Rattle.record.proofs.sets.digits_in.Statement.{statement}
+use Rattle.record.proofs.sets.digits_in.Tie as tie
+
+abbrev Inv-loop : tie.InvT-loop
+Inv-loop sets digits₀ cell₀ digits cell = filled (λ c. digitIn (at sets c)) 81 cell digits ≡ digitsIn sets
+
+abbrev μ-loop : tie.MeasureT-loop
+μ-loop sets digits₀ cell₀ digits cell = 81 - cell
+
+loop-holds : tie.Need-loop-holds Inv-loop μ-loop
+unfolding digitsIn cells
+loop-holds c = fill-start _ 81 (replicate 81 0) refl
+
+mul-digit-in : tie.Need-mul-digit-in Inv-loop μ-loop
+mul-digit-in c = omega arith
+
+element-copy-out-digit-in : tie.Need-element-copy-out-digit-in Inv-loop μ-loop
+element-copy-out-digit-in c = omega arith
+
+digit-in-requires : tie.Need-digit-in-requires Inv-loop μ-loop
+digit-in-requires c κs = search needs
+
+array-write-digits : tie.Need-array-write-digits Inv-loop μ-loop
+array-write-digits c = omega arith
+
+add-cell : tie.Need-add-cell Inv-loop μ-loop
+add-cell c = omega arith
+
+loop-less : tie.Need-loop-less Inv-loop μ-loop
+loop-less c = omega arith
+
+loop-again : tie.Need-loop-again Inv-loop μ-loop
+loop-again c =
+    let l = c .before .before .before in
+    fill-on _ 81 (l .loop .cell) (l .loop .digits) (l .loop .inv) (omega arith) (c .digit-in .ensures)
+
+returns : tie.Need-returns Inv-loop μ-loop
+returns c = fill-end _ 81 (c .before .loop .cell) (c .before .loop .digits) (c .before .loop .inv) (c .loop-test .left)
+
+pub digits-in-spec : {M : Type 1} → statement M
+digits-in-spec =
+    tie.close
+    (tie.spec
+    Inv-loop
+    μ-loop
+    loop-holds
+    mul-digit-in
+    element-copy-out-digit-in
+    digit-in-requires
+    array-write-digits
+    add-cell
+    loop-less
+    loop-again
+    returns)

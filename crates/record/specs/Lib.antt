@@ -1,0 +1,4 @@
+pub mod Sections
+pub mod Records
+pub mod Answers
+pub mod Laws
