@@ -1,10 +1,14 @@
 -- The paper's stop numbers and details for each case of an answer that says whether there was progress.
+use mathlib.Core.Path.{_≡_}
 use mathlib.Core.Bool.{Bool}
 use mathlib.Core.List.{List, []}
 use lib.IntN.{pos}
 use Rattle.candidates.specs.Answer.{Answer, gives, stop}
-use Rattle.steps.specs.Calls.{Outcome}
+use Rattle.steps.specs.Boards as S
+use Rattle.steps.specs.Calls.{Call, Outcome, answer, left}
 use Rattle.steps.specs.Singles.{Report}
+use Rattle.board.specs.Boards.{boardOf}
+use Rattle.progress.specs.declared.Eliminated.{Eliminated}
 use Rattle.progress.specs.declared.Progress.{Progress}
 use Rattle.progress.specs.declared.Progress.the-variants as progress
 
@@ -22,3 +26,7 @@ flagOf (stop n z) = stop n z
 abbrev pub reportsIn : Answer Outcome → List Report
 reportsIn (gives o) = o .reports
 reportsIn (stop n z) = []
+
+-- what an elimination hands back is what the call answers on the board: its progress or its stop, and the board it leaves
+abbrev pub Eliminates : Call → S.Board → Eliminated → Type 0
+Eliminates k b r = (progressAnswer (r .answer) ≡ flagOf (answer k b)) × (boardOf (r .board) ≡ left b (answer k b))

@@ -2,19 +2,16 @@
 use mathlib.Core.Path.{_≡_, refl, sym, ap, _∙_}
 use mathlib.Core.Bool.{Bool, true, false, cond, _&&_}
 use mathlib.Core.List.{List, [], _∷_, List·Memᴰ, List·Memᴰ·head, List·Memᴰ·tail}
-use mathlib.Core.Option.{none, some}
-use Prim.Native.Nat.{ℕ, _+_, _≤_, _<_}
+use Prim.Native.Nat.{ℕ, _+_, _<_}
 use native.Mathlib.Omega.{arith}
-use borrow.Author.Tests.{eqb-true, ne-eqb}
+use borrow.Author.Tests.{eqb-true}
 use lib.Dec.{eqb}
-use lib.IntN.{ℤ, pos}
-use Rattle.candidates.specs.Masks.{nine, has, count, lowest, gather}
-use Rattle.candidates.specs.Sets.{onlyOf}
-use Rattle.candidates.proofs.Counts.{count-none, lowest-le}
+use Rattle.candidates.specs.Masks.{has, count, lowest, gather}
+use Rattle.candidates.proofs.Counts.{count-none}
 use Rattle.candidates.proofs.FewDigits.{count-one}
 use Rattle.candidates.proofs.Held.{held-below}
 use Rattle.candidates.proofs.Membership.{gather-lt}
-use Rattle.candidates.proofs.Tests.{by-test, cond-true, cond-false}
+use Rattle.candidates.proofs.Tests.{cond-true, cond-false}
 use Rattle.grid.specs.Cells.{cells}
 use Rattle.grid.specs.Units.{unitCell}
 use Rattle.steps.specs.Boards.{at, isOpen}
@@ -28,37 +25,6 @@ use Rattle.techniques.specs.declared.singles.Reports.{Reports}
 use Rattle.techniques.specs.Reports.{pushed, append}
 use Rattle.techniques.specs.Singles.{onlyDigit, hiddenAt, hiddenIn}
 use Rattle.techniques.proofs.ReportLists.{append-one}
-
--- ---- the digit of a mask with one
-
-pub only-small : (m : ℕ) → onlyDigit m ≤ 17
-unfolding onlyDigit
-only-small m = by-test (λ (n : ℕ). n ≤ 17) (eqb (count m) 1) (lowest m + 1) 0 (λ t. omega (arith, lowest-le m)) (λ t. omega arith)
-
--- what `single_candidate` answers for a mask of the nine digits
-pub only-is : (m : ℕ) → m < 512 → onlyOf m ≡ cond (eqb (onlyDigit m) 0) none (some (pos (onlyDigit m)))
-unfolding onlyDigit
-only-is m h =
-    let e : nine m ≡ m = omega arith in
-    ap (λ (x : ℕ). cond (eqb (count x) 1) (some (pos (lowest x + 1))) none) e ∙ go (eqb (count m) 1)
-  where
-    go : (t : Bool) → cond t (some (pos (lowest m + 1))) none ≡ cond (eqb (cond t (lowest m + 1) 0) 0) none (some (pos (cond t (lowest m + 1) 0)))
-    go true = sym (ap (λ (t : Bool). cond t none (some (pos (lowest m + 1)))) (ne-eqb (lowest m + 1) 0 (λ e. absurd (omega arith))))
-    go false = refl
-
-pub only-some : (m : ℕ) (z : ℤ) → m < 512 → some z ≡ onlyOf m → z ≡ pos (onlyDigit m)
-only-some m z h e = go (eqb (onlyDigit m) 0) (e ∙ only-is m h)
-  where
-    go : (t : Bool) → some z ≡ cond t none (some (pos (onlyDigit m))) → z ≡ pos (onlyDigit m)
-    go true q = cc
-    go false q = cc
-
-pub only-none : (m : ℕ) → m < 512 → none ≡ onlyOf m → 0 ≡ onlyDigit m
-only-none m h e = go (eqb (onlyDigit m) 0) refl (e ∙ only-is m h)
-  where
-    go : (t : Bool) → eqb (onlyDigit m) 0 ≡ t → none ≡ cond t none (some (pos (onlyDigit m))) → 0 ≡ onlyDigit m
-    go true q p = sym (eqb-true (onlyDigit m) 0 q)
-    go false q p = cc
 
 -- ---- naked singles
 

@@ -3,14 +3,14 @@
 ghost use mathlib.Core.Path.{_≡_};
 ghost use mathlib.Core.Bool.{cond, _||_};
 ghost use lib.Dec.{ltb};
-ghost use Rattle.steps.specs.Calls.{answer, left, nakedPairsCall, boxLineCall, xWingCall, nakedSinglesCall, hiddenSinglesCall, advancedCall};
+ghost use Rattle.steps.specs.Calls.{nakedPairsCall, boxLineCall, xWingCall, nakedSinglesCall, hiddenSinglesCall, advancedCall};
 ghost use Rattle.steps.specs.Boards.{fresh};
 ghost use Rattle.steps.specs.Passes.{changed};
 ghost use Rattle.steps.specs.Ported.{nakedPairs};
 ghost use Rattle.board.specs.Boards.{boardOf};
-ghost use Rattle.progress.specs.Answers.{progressAnswer, flagOf, reportsIn};
+ghost use Rattle.progress.specs.Answers.{Eliminates};
 ghost use Rattle.techniques.specs.Reports.{reportsOf};
-ghost use Rattle.techniques.specs.Techniques.{callOf, masksLeft, searchCall, reported};
+ghost use Rattle.techniques.specs.Techniques.{callOf, masksLeft, searchCall, reported, Finds};
 use board::Board;
 use board::check;
 use board::clues::givens_of;
@@ -46,7 +46,7 @@ fn eliminate(technique: Technique, givens: &[u8; 81], masks: &mut [u16; 81])
 }
 
 fn apply(technique: Technique, board: Board) -> Eliminated
-    ensures { λ r. ⌜ (progressAnswer (r .answer) ≡ flagOf (answer (callOf technique) (boardOf board))) × (boardOf (r .board) ≡ left (boardOf board) (answer (callOf technique) (boardOf board))) ⌝ }
+    ensures { λ r. ⌜ Eliminates (callOf technique) (boardOf board) r ⌝ }
 {
     let clues = board.clues;
     let before = board.masks;
@@ -59,19 +59,19 @@ fn apply(technique: Technique, board: Board) -> Eliminated
 }
 
 pub fn apply_naked_pairs(board: Board) -> Eliminated
-    ensures { λ r. ⌜ (progressAnswer (r .answer) ≡ flagOf (answer nakedPairsCall (boardOf board))) × (boardOf (r .board) ≡ left (boardOf board) (answer nakedPairsCall (boardOf board))) ⌝ }
+    ensures { λ r. ⌜ Eliminates nakedPairsCall (boardOf board) r ⌝ }
 {
     apply(Technique::NakedPairs, board)
 }
 
 pub fn apply_box_line_reduction(board: Board) -> Eliminated
-    ensures { λ r. ⌜ (progressAnswer (r .answer) ≡ flagOf (answer boxLineCall (boardOf board))) × (boardOf (r .board) ≡ left (boardOf board) (answer boxLineCall (boardOf board))) ⌝ }
+    ensures { λ r. ⌜ Eliminates boxLineCall (boardOf board) r ⌝ }
 {
     apply(Technique::BoxLine, board)
 }
 
 pub fn apply_x_wing(board: Board) -> Eliminated
-    ensures { λ r. ⌜ (progressAnswer (r .answer) ≡ flagOf (answer xWingCall (boardOf board))) × (boardOf (r .board) ≡ left (boardOf board) (answer xWingCall (boardOf board))) ⌝ }
+    ensures { λ r. ⌜ Eliminates xWingCall (boardOf board) r ⌝ }
 {
     apply(Technique::XWing, board)
 }
@@ -98,7 +98,7 @@ fn find(search: Search, givens: &[u8; 81], masks: &[u16; 81]) -> Reports
 }
 
 fn report(search: Search, board: Board) -> Reported
-    ensures { λ r. ⌜ (progressAnswer (r .answer) ≡ flagOf (answer (searchCall search) (boardOf board))) × (boardOf (r .board) ≡ left (boardOf board) (answer (searchCall search) (boardOf board))) × (r .reports ≡ reportsOf (reportsIn (answer (searchCall search) (boardOf board)))) ⌝ }
+    ensures { λ r. ⌜ Finds (searchCall search) (boardOf board) r ⌝ }
 {
     let clues = board.clues;
     let masks = board.masks;
@@ -119,13 +119,13 @@ fn report(search: Search, board: Board) -> Reported
 }
 
 pub fn apply_naked_singles(board: Board) -> Reported
-    ensures { λ r. ⌜ (progressAnswer (r .answer) ≡ flagOf (answer nakedSinglesCall (boardOf board))) × (boardOf (r .board) ≡ left (boardOf board) (answer nakedSinglesCall (boardOf board))) × (r .reports ≡ reportsOf (reportsIn (answer nakedSinglesCall (boardOf board)))) ⌝ }
+    ensures { λ r. ⌜ Finds nakedSinglesCall (boardOf board) r ⌝ }
 {
     report(Search::Naked, board)
 }
 
 pub fn apply_hidden_singles(board: Board) -> Reported
-    ensures { λ r. ⌜ (progressAnswer (r .answer) ≡ flagOf (answer hiddenSinglesCall (boardOf board))) × (boardOf (r .board) ≡ left (boardOf board) (answer hiddenSinglesCall (boardOf board))) × (r .reports ≡ reportsOf (reportsIn (answer hiddenSinglesCall (boardOf board)))) ⌝ }
+    ensures { λ r. ⌜ Finds hiddenSinglesCall (boardOf board) r ⌝ }
 {
     report(Search::Hidden, board)
 }
@@ -153,7 +153,7 @@ fn renewed(made: bool, givens: &[u8; 81], masks: [u16; 81]) -> [u16; 81]
 
 // Naked singles, hidden singles, naked pairs; with any progress the masks become fresh again.
 pub fn apply_advanced_techniques(board: Board) -> Reported
-    ensures { λ r. ⌜ (progressAnswer (r .answer) ≡ flagOf (answer advancedCall (boardOf board))) × (boardOf (r .board) ≡ left (boardOf board) (answer advancedCall (boardOf board))) × (r .reports ≡ reportsOf (reportsIn (answer advancedCall (boardOf board)))) ⌝ }
+    ensures { λ r. ⌜ Finds advancedCall (boardOf board) r ⌝ }
 {
     let clues = board.clues;
     let before = board.masks;

@@ -4,8 +4,6 @@ ghost use mathlib.Core.List.{[], _++_};
 ghost use Rattle.steps.specs.Singles.{nakedSingles, hiddenSingles};
 ghost use Rattle.techniques.specs.Reports.{reportsOf, pushed, append};
 ghost use Rattle.techniques.specs.Singles.{onlyDigit, hiddenIn};
-use candidates::SingleCandidate;
-use candidates::SudokuCandidateSet;
 use candidates::masks;
 use cells::open_mask;
 use cells::places_of;
@@ -44,17 +42,10 @@ impl Reports {
     }
 }
 
-// The digit of a mask that holds just one, else 0. A mask with a bit above the nine is none of a board that was checked.
+// The digit of a mask that holds just one, else 0.
 fn only_digit(mask: u16) -> u8
     ensures { λ r. ⌜ r ≡ onlyDigit mask ⌝ }
 {
-    if mask < 512 {
-        let set = SudokuCandidateSet { mask: mask };
-        let SingleCandidate::Digit(digit) = set.single_candidate() else {
-            return 0;
-        };
-        return digit as u8;
-    }
     if masks::is_one(mask) {
         return (masks::lowest_digit(mask) + 1) as u8;
     }
