@@ -1,51 +1,27 @@
 -- The places of a unit that hold a digit: how code finds them, and what a step's condition says of them. Assumes nothing.
 use mathlib.Core.Path.{_≡_, refl, sym, ap, _∙_, subst}
-use mathlib.Core.Bool.{Bool, true, false, cond, _&&_, true≢false}
+use mathlib.Core.Bool.{Bool, true, false, cond, true≢false}
 use mathlib.Core.List.{List}
 use Prim.Native.Nat.{ℕ, zero, suc, _+_, _^_, _<_}
-use native.Mathlib.Nat.{zero-add}
 use native.Mathlib.Omega.{arith}
-use borrow.Author.Tests.{lt-ltb, eq-eqb, eqb-true, eqb-false}
+use borrow.Author.Tests.{eq-eqb, eqb-true, eqb-false}
 use lib.Bits.{bitAnd, and-zero-r}
 use lib.Dec.{eqb}
-use lib.ListN.{replicate, getD-replicate}
 use Rattle.candidates.specs.Masks.{bit, has, minus, gather}
 use Rattle.candidates.proofs.Held.{Held, none-held, held-ext, held-below, held-minus}
 use Rattle.candidates.proofs.Membership.{bit-and, bit-power, bit-none, gather-lt, bit-gather}
 use Rattle.candidates.proofs.Order.{and-only}
-use Rattle.candidates.proofs.Tests.{bool-iff, cond-true}
+use Rattle.candidates.proofs.Tests.{bool-iff}
 use Rattle.grid.specs.Units.{unit, unitCell}
-use Rattle.grid.proofs.Lists.{at-range}
-use Rattle.grid.proofs.Units.{cell-below, mem-member, member-mem, at-place}
-use Rattle.steps.specs.Boards.{at, isOpen}
+use Rattle.grid.proofs.Units.{mem-member, member-mem, at-place}
+use Rattle.steps.specs.Boards.{at}
 use Rattle.steps.specs.Instances.{only}
 use Rattle.steps.specs.Loops.{all}
 use Rattle.steps.specs.Steps.{lacks}
 use Rattle.steps.proofs.Loops.{all-member, member-all}
-use Rattle.cells.specs.Places.{maskAt, openMask, unitMasks, placesOf}
+use Rattle.cells.specs.Places.{allMasks, placesOf}
+use Rattle.cells.proofs.Threes.{all-mask}
 use Rattle.passes.specs.Turns.{heldPlaces}
-use Rattle.passes.proofs.Taking.{mask-at}
-
--- ---- the masks of a unit
-
--- where nothing is given
-pub none-given : (c : ℕ) → c < 81 → isOpen (replicate 81 0) c ≡ true
-none-given c h = ap (λ (x : ℕ). eqb x 0) (getD-replicate 81 c 0 0 h)
-
-module _ (g m : List ℕ) (u i : ℕ) (h : u < 27) (l : i < 9) where
-  unit-mask : at (unitMasks g m u) i ≡ openMask g m (unitCell u i)
-  unfolding unitMasks
-  unit-mask = at-range (λ j. openMask g m (unitCell u j)) 0 9 0 i l ∙ ap (λ (j : ℕ). openMask g m (unitCell u j)) (zero-add i)
-
-  pub unit-mask-is : at (unitMasks g m u) i ≡ cond (isOpen g (unitCell u i)) (at m (unitCell u i)) 0
-  unit-mask-is =
-      unit-mask ∙ ap (λ (t : Bool). cond (t && isOpen g (unitCell u i)) (maskAt m (unitCell u i)) 0) (lt-ltb (unitCell u i) 81 (cell-below u i h l))
-      ∙ ap (λ (x : ℕ). cond (isOpen g (unitCell u i)) x 0) (mask-at m (unitCell u i) (cell-below u i h l))
-
-pub unit-mask-none : (m : List ℕ) (u i : ℕ) → u < 27 → i < 9 → at (unitMasks (replicate 81 0) m u) i ≡ at m (unitCell u i)
-unit-mask-none m u i h l =
-    unit-mask-is (replicate 81 0) m u i h l
-    ∙ cond-true (isOpen (replicate 81 0) (unitCell u i)) (at m (unitCell u i)) 0 (none-given (unitCell u i) (cell-below u i h l))
 
 -- ---- places
 
@@ -63,11 +39,11 @@ has-gather f n i h = ap (λ (b : ℕ). eqb b 1) (bit-gather f n i h) ∙ go (f i
     go true = refl
     go false = refl
 
-pub held-places : (m : List ℕ) (u d : ℕ) → u < 27 → placesOf (unitMasks (replicate 81 0) m u) d ≡ heldPlaces m u d
+pub held-places : (m : List ℕ) (u d : ℕ) → u < 27 → placesOf (allMasks m u) d ≡ heldPlaces m u d
 unfolding placesOf heldPlaces
 held-places m u d h =
-    gather-same (λ i. has (at (unitMasks (replicate 81 0) m u) i) d) (λ i. has (at m (unitCell u i)) d) 9
-    (λ i l. ap (λ (x : ℕ). has x d) (unit-mask-none m u i h l))
+    gather-same (λ i. has (at (allMasks m u) i) d) (λ i. has (at m (unitCell u i)) d) 9
+    (λ i l. ap (λ (x : ℕ). has x d) (all-mask m u i h l))
 
 module _ (m : List ℕ) (u d : ℕ) where
   pub held-small : heldPlaces m u d < 2 ^ 9

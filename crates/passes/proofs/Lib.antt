@@ -5,10 +5,16 @@ pub mod Peers
 pub mod Taking
 pub mod HeldPlaces
 pub mod PlaceTurns
+pub mod Shared
+pub mod PlaceDue
+pub mod LoneDue
 pub mod PointingTurns
+pub mod PointingDue
 pub mod TwoNumbers
+pub mod TwoPlaces
 pub mod Frames
 pub mod Passed
+pub mod Quiet
 pub mod FramePasses
 pub mod CellCounts
 pub mod Sweeping

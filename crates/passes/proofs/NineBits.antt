@@ -1,17 +1,17 @@
 -- Masks of the nine digits, or of the nine places of a unit: what they hold, and which digits lie outside one. Assumes nothing.
 use mathlib.Core.Path.{_≡_, refl, sym, ap, _∙_, subst}
-use mathlib.Core.Logic.{_≢_, inl, inr, ⊎-elim}
-use mathlib.Core.Bool.{Bool, true, false, cond, not, _&&_, _||_}
+use mathlib.Core.Logic.{_≢_, _↔_, inl, inr, ⊎-elim}
+use mathlib.Core.Bool.{Bool, true, false, cond, not, _&&_, _||_, true≢false}
 use Prim.Native.Nat.{ℕ, _+_, _-_, _^_, _<_}
 use native.Mathlib.Decide.{ℕ-discrete, decLt}
 use native.Mathlib.Omega.{arith}
 use borrow.Author.Tests.{lt-ltb, eq-eqb, eqb-true, eqb-false}
 use lib.Bits.{bitAnd, and-mask}
 use lib.Dec.{eqb, ltb, ltb→lt}
-use Rattle.candidates.specs.Masks.{has, minus, union, count, single, lowest, tail, Sub}
+use Rattle.candidates.specs.Masks.{bit, has, minus, union, count, single, lowest, tail, Sub}
 use Rattle.candidates.proofs.Counts.{count-none, count-pos, count-sub, count-proper, sub-and, bit-except}
 use Rattle.candidates.proofs.FewDigits.{two-count, tail-count, tail-small}
-use Rattle.candidates.proofs.Held.{has-minus, has-union, held-power, held-union, held-both}
+use Rattle.candidates.proofs.Held.{Held, none-held, held-ext, has-minus, has-union, held-power, held-union, held-both}
 use Rattle.candidates.proofs.Membership.{bit-all, bit-and, bit-union, bit-minus, ext}
 use Rattle.candidates.proofs.Order.{sub-refl, sub-le, sub-all, minus-sub, and-sub, sub-of-minus, minus-of-sub, union-sub}
 use Rattle.candidates.proofs.Tests.{below, by-test, bool-iff, cond-true, eqb-iff, both, both-left, both-right}
@@ -30,6 +30,23 @@ has-power p d = bool-iff (has (2 ^ p) d) (eqb d p) (λ t. eq-eqb d p (held-power
 
 pub has-both : (a b d : ℕ) → has (union (2 ^ a) (2 ^ b)) d ≡ (eqb d a || eqb d b)
 has-both a b d = has-union (2 ^ a) (2 ^ b) d ∙ ap (λ (t : Bool). t || has (2 ^ b) d) (has-power a d) ∙ ap (λ (t : Bool). eqb d a || t) (has-power b d)
+
+pub held-sub : {x y : ℕ} (d : ℕ) → Sub x y → Held x d → Held y d
+held-sub {x} {y} d s p = eq-eqb (bit y d) 1 (omega (arith, s .at d, eqb-true (bit x d) 1 p))
+
+pub held-meet : (x y d : ℕ) → Held (bitAnd x y) d ↔ (Held x d × Held y d)
+held-meet x y d = (λ t. (eq-eqb (bit x d) 1 (left t), eq-eqb (bit y d) 1 (right t)), λ w. eq-eqb (bit (bitAnd x y) d) 1 (omega (arith, bit-and x y d, eqb-true (bit x d) 1 (w .0), eqb-true (bit y d) 1 (w .1))))
+  where
+    left : Held (bitAnd x y) d → bit x d ≡ 1
+    left t = omega (arith, bit-and x y d, eqb-true (bit (bitAnd x y) d) 1 t)
+
+    right : Held (bitAnd x y) d → bit y d ≡ 1
+    right t = omega (arith, bit-and x y d, eqb-true (bit (bitAnd x y) d) 1 t)
+
+-- a mask within one digit that lacks it has none
+pub only-none : {x : ℕ} (d : ℕ) → Sub x (2 ^ d) → has x d ≡ false → x ≡ 0
+only-none {x} d p lacks =
+    held-ext x 0 (λ e. (λ t. absurd (true≢false (sym (subst (λ (k : ℕ). Held x k) (held-power d e .0 (held-sub e p t)) t) ∙ lacks)), λ t. absurd (none-held e t)))
 
 -- ---- the digits outside a mask
 
@@ -83,6 +100,11 @@ pub outside-test : (x : ℕ) {k : ℕ} → Sub k 511 → eqb (bitAnd x (511 - k)
 outside-test x {k} p =
     ap (λ (y : ℕ). eqb y 0)
     (ext (bitAnd x (511 - k)) (minus (bitAnd x 511) k) (λ d. omega (arith, bit-and x (511 - k) d, bit-except d p, bit-minus (bitAnd x 511) k d, bit-and x 511 d)))
+
+-- a mask that has no digit but d, as a step has it
+pub within-only : (x d : ℕ) → d < 9 → eqb (bitAnd x (511 - 2 ^ d)) 0 ≡ true → Sub (bitAnd x 511) (2 ^ d)
+within-only x d l t =
+    sub-of-minus (bitAnd x 511) (2 ^ d) (eqb-true (minus (bitAnd x 511) (2 ^ d)) 0 (sym (outside-test x (subst (λ (k : ℕ). Sub k 511) (single-is d l) (single-sub d l))) ∙ t))
 
 -- nor of y
 pub outside-both : (x y k : ℕ) → (eqb (minus (bitAnd x 511) k) 0 && eqb (minus (bitAnd y 511) k) 0) ≡ eqb (minus (bitAnd (union x y) 511) k) 0

@@ -53,7 +53,7 @@ module _ (g : List ℕ) (u v d : ℕ) (h : u < 27) (n : v < 27) (l : d < 9) wher
 
 -- ---- a box and a line that meets it
 
-line-below : (b k : ℕ) → b < 9 → k < 6 → lineOf b k < 27
+pub line-below : (b k : ℕ) → b < 9 → k < 6 → lineOf b k < 27
 line-below b k h l = ltb→lt (lineOf b k) 27 (below-both 9 6 (λ b k. ltb (lineOf b k) 27) tt b k h l)
 
 pub third-below : (b k : ℕ) → b < 9 → k < 6 → thirdOf b k < 6

@@ -3,9 +3,8 @@ use mathlib.Core.Path.{_≡_, refl, sym, ap, _∙_}
 use mathlib.Core.Bool.{Bool, true, false, _&&_}
 use mathlib.Core.List.{List, [], _∷_}
 use Prim.Native.Nat.{ℕ, _<_}
-use borrow.Author.Tests.{lt-ltb}
 use lib.Bits.{bitAnd}
-use lib.Dec.{eqb, ltb}
+use lib.Dec.{eqb}
 use Rattle.candidates.specs.Masks.{minus, count, single}
 use Rattle.candidates.proofs.Counts.{test-none}
 use Rattle.candidates.proofs.Tests.{cond-true, cond-false}
@@ -15,6 +14,7 @@ use Rattle.steps.specs.Loops.{each, for, upTo}
 use Rattle.steps.specs.Passes.{Lone, instances, instanceTaken, pass}
 use Rattle.steps.specs.Steps.{Step, lacks, applies, loseAll, take}
 use Rattle.cells.specs.Places.{maskAt}
+use Rattle.cells.proofs.Threes.{mask-at}
 use Rattle.passes.specs.Turns.{peersLose, loneCell}
 use Rattle.passes.proofs.NineBits.{single-is, except-single}
 use Rattle.passes.proofs.Turns.{each-one, each-in}
@@ -27,9 +27,6 @@ module _ (free : ℕ → Bool) (s : Step) (m : List ℕ) where
   pub left-alone : applies s m ≡ false → m ≡ take free s m
   unfolding take
   left-alone t = sym (cond-false (applies s m) (loseAll free (s .hits) (s .loses) m) m t)
-
-pub mask-at : (m : List ℕ) (c : ℕ) → c < 81 → maskAt m c ≡ at m c
-mask-at m c h = cond-true (ltb c 81) (at m c) 0 (lt-ltb c 81 h)
 
 pub and-true : (t : Bool) → (t && true) ≡ t
 and-true true = refl

@@ -1,8 +1,11 @@
 -- Loops whose turns do the same, while something holds that each turn keeps, or do nothing. Assumes nothing.
 use mathlib.Core.Path.{_≡_, refl, sym, ap, _∙_}
 use mathlib.Core.List.{List, [], _∷_, map, List·Memᴰ, List·Memᴰ·head, List·Memᴰ·tail}
-use Prim.Native.Nat.{ℕ, _+_, _-_, _≤_, _<_}
-use Rattle.grid.proofs.Lists.{each-on, each-end}
+use mathlib.Core.Logic.{_≢_}
+use Prim.Native.Nat.{ℕ, zero, suc, _+_, _-_, _≤_, _<_}
+use native.Mathlib.Decide.{ℕ-discrete}
+use native.Mathlib.Omega.{arith}
+use Rattle.grid.proofs.Lists.{each-on, each-end, mem-range}
 use Rattle.steps.specs.Loops.{each, for, range}
 use Rattle.steps.proofs.Loops.{each-for}
 
@@ -24,6 +27,18 @@ module _ {A S : Type 0} where
   unfolding each
   each-idle f [] s idle = refl
   each-idle f (x ∷ xs) s idle = ap (each f xs) (idle x (List·Memᴰ·head refl)) ∙ each-idle f xs s (λ y k. idle y (List·Memᴰ·tail k))
+
+-- a loop over numbers in which only the turn of i does anything
+pub each-only : {S : Type 0} (f : ℕ → S → S) (i n k : ℕ) → k ≤ i → i < k + n → ((j : ℕ) → j < k + n → j ≢ i → (s : S) → f j s ≡ s) → (s : S) → each f (range n k) s ≡ f i s
+unfolding each
+each-only f i zero k h l idle s = absurd (omega arith)
+each-only {S} f i (suc n) k h l idle s = go (ℕ-discrete k i) (λ m. each-only f i n (suc k) m (omega arith) (λ j o. idle j (omega arith)))
+  where
+    go : Dec (k ≡ i) → (suc k ≤ i → (t : S) → each f (range n (suc k)) t ≡ f i t) → each f (range n (suc k)) (f k s) ≡ f i s
+    go (yes e) more =
+        each-idle f (range n (suc k)) (f k s) (λ j o. let w = mem-range n (suc k) j o in idle j (omega (arith, w .1)) (λ q. omega (arith, w .0)) (f k s))
+        ∙ ap (λ (x : ℕ). f x s) e
+    go (no e) more = ap (each f (range n (suc k))) (idle k (omega arith) e s) ∙ more (omega arith) s
 
 pub each-map : {A B S : Type 0} (f : B → S → S) (h : A → B) (xs : List A) (s : S) → each f (map h xs) s ≡ each (λ x. f (h x)) xs s
 unfolding each

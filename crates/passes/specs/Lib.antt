@@ -1,4 +1,6 @@
 pub mod Turns
+pub mod Unions
 pub mod Twos
 pub mod Counts
 pub mod Kinds
+pub mod Settlings

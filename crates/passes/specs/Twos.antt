@@ -1,7 +1,7 @@
 -- Pair and Cross as one search: a frame has nine lines of nine places each. Two lines that hold nothing outside two places take those from the other lines.
 use mathlib.Core.Path.{_≡_}
 use mathlib.Core.Logic.{_⊎_}
-use mathlib.Core.Bool.{cond}
+use mathlib.Core.Bool.{Bool, true, false, cond, not, _||_}
 use mathlib.Core.List.{List, [], _∷_, map}
 use Prim.Native.Nat.{ℕ, _+_, _-_, _<_}
 use lib.Bits.{bitAnd}
@@ -11,10 +11,11 @@ use Rattle.candidates.specs.Masks.{minus, union, count, tail}
 use Rattle.grid.specs.Units.{unitCell}
 use Rattle.steps.specs.Boards.{at, isOpen}
 use Rattle.steps.specs.Instances.{both, pairStep, crossStep}
-use Rattle.steps.specs.Loops.{each, upTo}
+use Rattle.steps.specs.Loops.{each, all, upTo}
 use Rattle.steps.specs.Steps.{Step, loseAll, take}
-use Rattle.cells.specs.Places.{unitMasks, placesOf}
+use Rattle.cells.specs.Places.{allMasks, unitMasks, placesOf}
 use Rattle.passes.specs.Turns.{heldPlaces}
+use Rattle.passes.specs.Unions.{joined, sharedOf}
 use Rattle.passes.specs.declared.twos.Frame.{Frame}
 use Rattle.passes.specs.declared.twos.Frame.the-variants.{Unit, Lines}
 
@@ -59,17 +60,22 @@ lineHeld m (Lines f d) i = heldPlaces m (f + i) d
 unfoldable pub twoHeld : List ℕ → Frame → ℕ → ℕ → ℕ
 twoHeld m F i j = bitAnd (union (lineHeld m F i) (lineHeld m F j)) 511
 
--- ---- the same of open cells, as code has it
+-- ---- the same as code has it
 
-unfoldable pub heldLines : List ℕ → List ℕ → ℕ → ℕ → List ℕ
-heldLines g m f d = map (λ i. placesOf (unitMasks g m (f + i)) d) (upTo 9)
+unfoldable pub heldLines : List ℕ → ℕ → ℕ → List ℕ
+heldLines m f d = map (λ i. heldPlaces m (f + i) d) (upTo 9)
 
-abbrev pub lineMasks : List ℕ → List ℕ → Frame → List ℕ
-lineMasks g m (Unit u) = unitMasks g m u
-lineMasks g m (Lines f d) = heldLines g m f d
+abbrev pub lineMasks : List ℕ → Frame → List ℕ
+lineMasks m (Unit u) = allMasks m u
+lineMasks m (Lines f d) = heldLines m f d
 
-unfoldable pub joined : List ℕ → ℕ
-joined nine = each (λ i k. union k (at nine i)) (upTo 9) 0
+-- and of open cells alone
+unfoldable pub openHeldLines : List ℕ → List ℕ → ℕ → ℕ → List ℕ
+openHeldLines g m f d = map (λ i. placesOf (unitMasks g m (f + i)) d) (upTo 9)
+
+abbrev pub openLines : List ℕ → List ℕ → Frame → List ℕ
+openLines g m (Unit u) = unitMasks g m u
+openLines g m (Lines f d) = openHeldLines g m f d
 
 -- what the lines but i and j hold
 unfoldable pub othersOf : List ℕ → ℕ → ℕ → ℕ
@@ -78,6 +84,13 @@ othersOf nine i j = joined (set (set nine i 0) j 0)
 -- all places that the other lines can lose to two lines that hold k: any if k has one or none, those of k if it has two, else none
 unfoldable pub reachOf : ℕ → ℕ
 reachOf k = cond (eqb (count (tail k)) 0) 511 (cond (eqb (count (tail (tail k))) 0) k 0)
+
+-- a line that holds nothing, or one or two places of which another line holds one: it may make an instance lose something
+abbrev pub lively : ℕ → ℕ → Bool
+lively x both = cond (eqb (count x) 0) true (cond (eqb (count (bitAnd x both)) 0) false (eqb (count x) 1 || eqb (count x) 2))
+
+unfoldable pub quietOf : List ℕ → Bool
+quietOf nine = all (λ i. not (lively (bitAnd (at nine i) 511) (sharedOf nine))) (upTo 9)
 
 -- ---- the loops
 

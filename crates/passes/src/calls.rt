@@ -1,16 +1,19 @@
-// The wide passes as calls on a board, which is checked first.
+// The wide passes and settling as calls on a board, which is checked first.
 ghost use mathlib.Core.Path.{_≡_};
-ghost use Rattle.steps.specs.Calls.{answer, left, wide};
+ghost use Rattle.steps.specs.Calls.{wide};
 ghost use Rattle.steps.specs.Passes.{pass, Lone, Place, Pair, Pointing, Cross};
 ghost use Rattle.board.specs.Boards.{boardOf};
-ghost use Rattle.progress.specs.Answers.{progressAnswer, flagOf};
+ghost use Rattle.progress.specs.Answers.{Eliminates};
 ghost use Rattle.passes.specs.Kinds.{kindOf};
+ghost use Rattle.passes.specs.Settlings.{Settles};
 use crate::cross;
 use crate::lone;
 use crate::pair;
 use crate::place;
 use crate::pointing;
+use crate::settle;
 use board::Board;
+use board::Checked;
 use board::check;
 use board::clues::givens_of;
 use board::is_good;
@@ -38,7 +41,7 @@ fn run_pass(which: Pass, givens: &[u8; 81], masks: &mut [u16; 81])
 }
 
 fn apply(which: Pass, board: Board) -> Eliminated
-    ensures { λ r. ⌜ (progressAnswer (r .answer) ≡ flagOf (answer (wide (kindOf which)) (boardOf board))) × (boardOf (r .board) ≡ left (boardOf board) (answer (wide (kindOf which)) (boardOf board))) ⌝ }
+    ensures { λ r. ⌜ Eliminates (wide (kindOf which)) (boardOf board) r ⌝ }
 {
     let clues = board.clues;
     let before = board.masks;
@@ -51,31 +54,69 @@ fn apply(which: Pass, board: Board) -> Eliminated
 }
 
 pub fn apply_lone(board: Board) -> Eliminated
-    ensures { λ r. ⌜ (progressAnswer (r .answer) ≡ flagOf (answer (wide Lone) (boardOf board))) × (boardOf (r .board) ≡ left (boardOf board) (answer (wide Lone) (boardOf board))) ⌝ }
+    ensures { λ r. ⌜ Eliminates (wide Lone) (boardOf board) r ⌝ }
 {
     apply(Pass::Lone, board)
 }
 
 pub fn apply_place(board: Board) -> Eliminated
-    ensures { λ r. ⌜ (progressAnswer (r .answer) ≡ flagOf (answer (wide Place) (boardOf board))) × (boardOf (r .board) ≡ left (boardOf board) (answer (wide Place) (boardOf board))) ⌝ }
+    ensures { λ r. ⌜ Eliminates (wide Place) (boardOf board) r ⌝ }
 {
     apply(Pass::Place, board)
 }
 
 pub fn apply_pair(board: Board) -> Eliminated
-    ensures { λ r. ⌜ (progressAnswer (r .answer) ≡ flagOf (answer (wide Pair) (boardOf board))) × (boardOf (r .board) ≡ left (boardOf board) (answer (wide Pair) (boardOf board))) ⌝ }
+    ensures { λ r. ⌜ Eliminates (wide Pair) (boardOf board) r ⌝ }
 {
     apply(Pass::Pair, board)
 }
 
 pub fn apply_pointing(board: Board) -> Eliminated
-    ensures { λ r. ⌜ (progressAnswer (r .answer) ≡ flagOf (answer (wide Pointing) (boardOf board))) × (boardOf (r .board) ≡ left (boardOf board) (answer (wide Pointing) (boardOf board))) ⌝ }
+    ensures { λ r. ⌜ Eliminates (wide Pointing) (boardOf board) r ⌝ }
 {
     apply(Pass::Pointing, board)
 }
 
 pub fn apply_cross(board: Board) -> Eliminated
-    ensures { λ r. ⌜ (progressAnswer (r .answer) ≡ flagOf (answer (wide Cross) (boardOf board))) × (boardOf (r .board) ≡ left (boardOf board) (answer (wide Cross) (boardOf board))) ⌝ }
+    ensures { λ r. ⌜ Eliminates (wide Cross) (boardOf board) r ⌝ }
 {
     apply(Pass::Cross, board)
+}
+
+// What settling answers: its sweeps and the candidates that it removed, or the first cell of stop 3 or of stop 9.
+pub enum Settling {
+    Settled(usize, usize),
+    BadClue(usize),
+    BadMask(usize),
+}
+
+// The board that settling leaves; as it was beside a refusal.
+pub struct SettledBoard {
+    pub answer: Settling,
+    pub board: Board,
+}
+
+// Sweeps until nothing more is removed (module 9). The board is checked once, before the first sweep.
+pub fn apply_settling(board: Board) -> SettledBoard
+    ensures { λ r. ⌜ Settles (boardOf board) r ⌝ }
+{
+    let clues = board.clues;
+    let mut masks = board.masks;
+    match check(&clues, &masks) {
+        Checked::BadClue(cell) => SettledBoard {
+            answer: Settling::BadClue(cell),
+            board: Board { clues, masks },
+        },
+        Checked::BadMask(cell) => SettledBoard {
+            answer: Settling::BadMask(cell),
+            board: Board { clues, masks },
+        },
+        Checked::Good => {
+            let counts = settle(&givens_of(&clues), &mut masks);
+            SettledBoard {
+                answer: Settling::Settled(counts.sweeps, counts.removed),
+                board: Board { clues, masks },
+            }
+        }
+    }
 }

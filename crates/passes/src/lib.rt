@@ -10,6 +10,7 @@ mod lones;
 mod places;
 mod pointings;
 mod twos;
+mod unions;
 
 use twos::Frame;
 
@@ -17,9 +18,10 @@ use twos::Frame;
 pub fn lone(givens: &[u8; 81], masks: &mut [u16; 81])
     ensures { λ _. ⌜ now (masks .exit) ≡ pass (now (givens .entry)) Lone (now (masks .entry)) ⌝ }
 {
+    let sets = unions::shared_sets(masks);
     let mut cell: usize = 0;
     while cell < 81 {
-        lones::lone_cell(givens, masks, cell);
+        lones::lone_cell(givens, masks, &sets, cell);
         cell += 1;
     }
 }

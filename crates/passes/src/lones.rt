@@ -4,6 +4,7 @@ ghost use Prim.Native.Nat.{_<_};
 ghost use Rattle.steps.specs.Instances.{lone};
 ghost use Rattle.steps.specs.Passes.{instanceTaken};
 ghost use Rattle.passes.specs.Turns.{othersLose, peersLose, loneCell};
+ghost use Rattle.passes.specs.Unions.{Covers, sharedNear, loneDue};
 use candidates::masks;
 use cells::lose_places;
 use cells::mask_at;
@@ -50,7 +51,7 @@ fn lone_at(givens: &[u8; 81], masks: &mut [u16; 81], cell: usize, digit: usize)
 }
 
 // The instances of a cell.
-pub fn lone_cell(givens: &[u8; 81], masks: &mut [u16; 81], cell: usize)
+fn lone_digits(givens: &[u8; 81], masks: &mut [u16; 81], cell: usize)
     requires { ⌜ cell < 81 ⌝ }
     ensures { λ _. ⌜ now (masks .exit) ≡ loneCell (now (givens .entry)) cell (now (masks .entry)) ⌝ }
 {
@@ -58,5 +59,38 @@ pub fn lone_cell(givens: &[u8; 81], masks: &mut [u16; 81], cell: usize)
     while digit < 9 {
         lone_at(givens, masks, cell, digit);
         digit += 1;
+    }
+}
+
+// What two cells of its row, its column or its box hold.
+fn shared_near(sets: &[u16; 27], cell: usize) -> u16
+    requires { ⌜ cell < 81 ⌝ }
+    ensures { λ r. ⌜ r ≡ sharedNear (now (sets .entry)) cell ⌝ }
+{
+    let lines = masks::join(sets[row_of(cell)], sets[9 + col_of(cell)]);
+    masks::join(lines, sets[18 + box_of(cell)])
+}
+
+// Whether a cell's instances may lose anything: it holds no digit, or one that another cell may hold.
+fn lone_due(mask: u16, near: u16) -> bool
+    ensures { λ r. ⌜ r ≡ loneDue mask near ⌝ }
+{
+    if masks::is_none(mask) {
+        return true;
+    }
+    if masks::is_one(mask) {
+        return !masks::is_none(masks::meet(mask, near));
+    }
+    false
+}
+
+// The instances of a cell, passed over where none of them loses anything. The sets may be of earlier masks, since masks only shrink.
+pub fn lone_cell(givens: &[u8; 81], masks: &mut [u16; 81], sets: &[u16; 27], cell: usize)
+    requires { ⌜ (cell < 81) × Covers (now sets) (now masks) ⌝ }
+    ensures { λ _. ⌜ now (masks .exit) ≡ loneCell (now (givens .entry)) cell (now (masks .entry)) ⌝ }
+{
+    let mask = masks::meet(mask_at(masks, cell), 511);
+    if lone_due(mask, shared_near(sets, cell)) {
+        lone_digits(givens, masks, cell);
     }
 }

@@ -1,9 +1,15 @@
 // Place, by units, digits and instances.
 ghost use mathlib.Core.Path.{_≡_};
 ghost use Prim.Native.Nat.{_<_};
+ghost use Rattle.cells.specs.Places.{allMasks};
 ghost use Rattle.passes.specs.Turns.{placeTurn, placeDigit, placeUnit};
+ghost use Rattle.passes.specs.Unions.{dueOf};
 use crate::holders::held_places;
+use crate::unions::crowded;
+use crate::unions::join_all;
+use crate::unions::shared;
 use candidates::masks;
+use cells::all_masks;
 use cells::lose_at;
 use grid::unit_cell;
 
@@ -38,13 +44,27 @@ fn place_digit(givens: &[u8; 81], masks: &mut [u16; 81], unit: usize, digit: usi
     }
 }
 
+// The digits of a unit whose instances may lose anything: not held twice, and not held by cells alone that hold nothing else.
+fn due_digits(masks: &[u16; 81], unit: usize) -> u16
+    ensures { λ r. ⌜ r ≡ dueOf (allMasks (now (masks .entry)) unit) ⌝ }
+{
+    let nine = all_masks(masks, unit);
+    let single = masks::lose(join_all(&nine), crowded(&nine));
+    masks::lose(masks::lose(511, shared(&nine)), single)
+}
+
+// The instances of a unit. Those of a digit are passed over where none of them loses anything.
 pub fn place_unit(givens: &[u8; 81], masks: &mut [u16; 81], unit: usize)
     requires { ⌜ unit < 27 ⌝ }
     ensures { λ _. ⌜ now (masks .exit) ≡ placeUnit (now (givens .entry)) unit (now (masks .entry)) ⌝ }
 {
+    let mut due = due_digits(masks, unit);
     let mut digit: usize = 0;
     while digit < 9 {
-        place_digit(givens, masks, unit, digit);
+        if masks::has_digit(due, digit) {
+            place_digit(givens, masks, unit, digit);
+            due = due_digits(masks, unit);
+        }
         digit += 1;
     }
 }

@@ -3,8 +3,11 @@ ghost use mathlib.Core.Path.{_≡_};
 ghost use Prim.Native.Nat.{_<_};
 ghost use Rattle.steps.specs.Instances.{lineOf};
 ghost use Rattle.passes.specs.Turns.{boxLine, thirdOf, lockedTurn, pointingTurn, pointingDigit, pointingBox};
+ghost use Rattle.passes.specs.Unions.{lineDue, boxDue};
 use crate::holders::held_places;
+use crate::unions::join_places;
 use candidates::masks;
+use cells::all_masks;
 use cells::lose_places;
 
 // The places of a box on the three rows and three columns that meet it. The first three are also those of a line in the three boxes that it meets.
@@ -94,13 +97,45 @@ fn pointing_digit(givens: &[u8; 81], masks: &mut [u16; 81], block: usize, digit:
     }
 }
 
+// The digits that the line holds outside the box, and the box on the line alone; `nine` are the box's masks.
+fn due_on(masks: &[u16; 81], nine: &[u16; 9], block: usize, line: usize) -> u16
+    requires { ⌜ (block < 9) × (line < 6) ⌝ }
+    ensures { λ r. ⌜ r ≡ lineDue (now (masks .entry)) (now (nine .entry)) block line ⌝ }
+{
+    let off = join_places(nine, masks::lose(511, box_line(line)));
+    let across = all_masks(masks, line_of(block, line));
+    let spared = box_line(third_of(block, line));
+    let out = join_places(&across, masks::lose(511, spared));
+    masks::lose(out, off)
+}
+
+// The digits of a box whose instances may lose anything.
+fn due_digits(masks: &[u16; 81], block: usize) -> u16
+    requires { ⌜ block < 9 ⌝ }
+    ensures { λ r. ⌜ r ≡ boxDue (now (masks .entry)) block ⌝ }
+{
+    let nine = all_masks(masks, 18 + block);
+    let mut due: u16 = 0;
+    let mut line: usize = 0;
+    while line < 6 {
+        due = masks::join(due, due_on(masks, &nine, block, line));
+        line += 1;
+    }
+    due
+}
+
+// The instances of a box. Those of a digit are passed over where none of them loses anything.
 pub fn pointing_box(givens: &[u8; 81], masks: &mut [u16; 81], block: usize)
     requires { ⌜ block < 9 ⌝ }
     ensures { λ _. ⌜ now (masks .exit) ≡ pointingBox (now (givens .entry)) block (now (masks .entry)) ⌝ }
 {
+    let mut due = due_digits(masks, block);
     let mut digit: usize = 0;
     while digit < 9 {
-        pointing_digit(givens, masks, block, digit);
+        if masks::has_digit(due, digit) {
+            pointing_digit(givens, masks, block, digit);
+            due = due_digits(masks, block);
+        }
         digit += 1;
     }
 }

@@ -1,11 +1,16 @@
 // Pair and Cross, which are one search. A frame has nine lines of nine places each. Where two of its lines hold nothing outside two places, the other lines lose those.
 ghost use mathlib.Core.Path.{_≡_};
+ghost use mathlib.Core.Bool.{cond};
 ghost use Prim.Native.Nat.{_<_};
 ghost use lib.Bits.{bitAnd};
 ghost use lib.Dec.{eqb};
 ghost use Rattle.steps.specs.Boards.{at};
-ghost use Rattle.passes.specs.Twos.{Framed, lineMasks, heldLines, joined, othersOf, reachOf, twoLose, twoTurn, linesTurned, frameTaken};
+ghost use Rattle.passes.specs.Twos.{Framed, lineMasks, heldLines, openLines, openHeldLines, othersOf, reachOf, twoLose, twoTurn, linesTurned, frameTaken, lively, quietOf};
+use crate::holders::held_places;
+use crate::unions::join_all;
+use crate::unions::shared;
 use candidates::masks;
+use cells::all_masks;
 use cells::lose_places;
 use cells::places_of;
 use cells::unit_masks;
@@ -111,42 +116,29 @@ fn entry(table: &[u8; 36], pair: usize) -> usize
     wide(table[pair])
 }
 
-// The places that hold the digit in the nine units from the first one; of open cells alone.
-fn held_lines(givens: &[u8; 81], masks: &[u16; 81], first: usize, digit: usize) -> [u16; 9]
-    requires { ⌜ first < 27 ⌝ }
-    ensures { λ r. ⌜ r ≡ heldLines (now (givens .entry)) (now (masks .entry)) first digit ⌝ }
+// The places that hold the digit in the nine units from the first one, clue cells too.
+fn held_lines(masks: &[u16; 81], first: usize, digit: usize) -> [u16; 9]
+    requires { ⌜ first < 19 ⌝ }
+    ensures { λ r. ⌜ r ≡ heldLines (now (masks .entry)) first digit ⌝ }
 {
     let mut nine = [0u16; 9];
     let mut line: usize = 0;
     while line < 9 {
-        let unit = unit_masks(givens, masks, first + line);
-        nine[line] = places_of(&unit, digit);
+        nine[line] = held_places(masks, first + line, digit);
         line += 1;
     }
     nine
 }
 
-// What each line holds; of open cells alone.
-fn line_masks(givens: &[u8; 81], masks: &[u16; 81], frame: Frame) -> [u16; 9]
+// What each line holds, clue cells too.
+fn line_masks(masks: &[u16; 81], frame: Frame) -> [u16; 9]
     requires { ⌜ Framed frame ⌝ }
-    ensures { λ r. ⌜ r ≡ lineMasks (now (givens .entry)) (now (masks .entry)) frame ⌝ }
+    ensures { λ r. ⌜ r ≡ lineMasks (now (masks .entry)) frame ⌝ }
 {
     match frame {
-        Frame::Unit(unit) => unit_masks(givens, masks, unit),
-        Frame::Lines(first, digit) => held_lines(givens, masks, first, digit),
+        Frame::Unit(unit) => all_masks(masks, unit),
+        Frame::Lines(first, digit) => held_lines(masks, first, digit),
     }
-}
-
-fn join_all(nine: &[u16; 9]) -> u16
-    ensures { λ r. ⌜ r ≡ joined (now (nine .entry)) ⌝ }
-{
-    let mut mask: u16 = 0;
-    let mut line: usize = 0;
-    while line < 9 {
-        mask = masks::join(mask, nine[line]);
-        line += 1;
-    }
-    mask
 }
 
 // What the other lines hold.
@@ -174,7 +166,7 @@ fn reach(held: u16) -> u16
     0
 }
 
-// Whether no instance of two lines loses anything: `held` is what they hold, and `nine` what the open cells of each line hold.
+// Whether no instance of two lines loses anything: `held` is what they hold, and `nine` what each line holds.
 fn idle(nine: &[u16; 9], i: usize, j: usize, held: u16) -> bool
     requires { ⌜ (i < 9) × (j < 9) ⌝ }
     ensures { λ r. ⌜ r ≡ eqb (bitAnd (othersOf (now (nine .entry)) i j) (reachOf held)) 0 ⌝ }
@@ -235,11 +227,17 @@ fn two_at(
     }
 }
 
-// The instances of two lines. None of them changes what the two hold.
+// The instances of two lines. None of them changes what the two hold; where they hold two places, only the instance of those two loses anything.
 fn two_lines(givens: &[u8; 81], masks: &mut [u16; 81], frame: Frame, i: usize, j: usize, held: u16)
-    requires { ⌜ Framed frame × (i < 9) × (j < 9) ⌝ }
+    requires { ⌜ Framed frame × (i < 9) × (j < 9) × (held < 512) ⌝ }
     ensures { λ _. ⌜ now (masks .exit) ≡ linesTurned (now (givens .entry)) frame i j held (now (masks .entry)) ⌝ }
 {
+    if masks::is_two(held) {
+        let a = masks::lowest_digit(held);
+        let b = masks::lowest_digit(masks::lose_lowest(held));
+        lose_two(givens, masks, frame, i, j, a, b);
+        return;
+    }
     let firsts = FIRSTS;
     let seconds = SECONDS;
     let mut pair: usize = 0;
@@ -258,14 +256,90 @@ fn two_lines(givens: &[u8; 81], masks: &mut [u16; 81], frame: Frame, i: usize, j
     }
 }
 
-// The instances of a frame, two lines after two lines. Those of two lines are passed over together where none of them loses anything.
-pub fn two_frame(givens: &[u8; 81], masks: &mut [u16; 81], frame: Frame)
+// Whether a line may make an instance lose something: it holds nothing, or one or two places of which another line holds one.
+fn lively_line(mask: u16, both: u16) -> bool
+    ensures { λ r. ⌜ r ≡ lively mask both ⌝ }
+{
+    if masks::is_none(mask) {
+        return true;
+    }
+    if masks::is_none(masks::meet(mask, both)) {
+        return false;
+    }
+    if masks::is_one(mask) {
+        return true;
+    }
+    masks::is_two(mask)
+}
+
+// Whether no line may.
+fn quiet(nine: &[u16; 9]) -> bool
+    ensures { λ r. ⌜ r ≡ quietOf (now (nine .entry)) ⌝ }
+{
+    let both = shared(nine);
+    let mut line: usize = 0;
+    while line < 9 {
+        if lively_line(masks::meet(nine[line], 511), both) {
+            return false;
+        }
+        line += 1;
+    }
+    true
+}
+
+// The places of open cells that hold the digit in the nine units from the first one.
+fn open_held_lines(givens: &[u8; 81], masks: &[u16; 81], first: usize, digit: usize) -> [u16; 9]
+    requires { ⌜ first < 27 ⌝ }
+    ensures { λ r. ⌜ r ≡ openHeldLines (now (givens .entry)) (now (masks .entry)) first digit ⌝ }
+{
+    let mut nine = [0u16; 9];
+    let mut line: usize = 0;
+    while line < 9 {
+        let unit = unit_masks(givens, masks, first + line);
+        nine[line] = places_of(&unit, digit);
+        line += 1;
+    }
+    nine
+}
+
+// What the open cells of each line hold.
+fn open_lines(givens: &[u8; 81], masks: &[u16; 81], frame: Frame) -> [u16; 9]
     requires { ⌜ Framed frame ⌝ }
+    ensures { λ r. ⌜ r ≡ openLines (now (givens .entry)) (now (masks .entry)) frame ⌝ }
+{
+    match frame {
+        Frame::Unit(unit) => unit_masks(givens, masks, unit),
+        Frame::Lines(first, digit) => open_held_lines(givens, masks, first, digit),
+    }
+}
+
+// The instances of two lines, passed over where the open cells of the others, which hold `opens`, would lose nothing.
+fn two_open(
+    givens: &[u8; 81],
+    masks: &mut [u16; 81],
+    frame: Frame,
+    i: usize,
+    j: usize,
+    held: u16,
+    opens: [u16; 9],
+)
+    requires { ⌜ Framed frame × (i < 9) × (j < 9) × (held < 512) ⌝ }
+    ensures { λ _. ⌜ now (masks .exit) ≡ cond (eqb (bitAnd (othersOf opens i j) (reachOf held)) 0) (now (masks .entry)) (linesTurned (now (givens .entry)) frame i j held (now (masks .entry))) ⌝ }
+{
+    if idle(&opens, i, j, held) {
+        return;
+    }
+    two_lines(givens, masks, frame, i, j, held);
+}
+
+// The instances of a frame, two lines after two lines, where the lines hold `start`. Those of two lines are passed over together where none of them loses anything:
+// `most` is what the lines can lose at most, read again of open cells alone where two lines would take any of it.
+fn frame_pairs(givens: &[u8; 81], masks: &mut [u16; 81], frame: Frame, start: [u16; 9])
+    requires { ⌜ Framed frame × (start ≡ lineMasks (now masks) frame) ⌝ }
     ensures { λ _. ⌜ now (masks .exit) ≡ frameTaken (now (givens .entry)) frame (now (masks .entry)) ⌝ }
 {
-    let none = [0u8; 81];
-    let mut every = line_masks(&none, masks, frame);
-    let mut opens = line_masks(givens, masks, frame);
+    let mut every = start;
+    let mut most = start;
     let firsts = FIRSTS;
     let seconds = SECONDS;
     let mut pair: usize = 0;
@@ -273,13 +347,25 @@ pub fn two_frame(givens: &[u8; 81], masks: &mut [u16; 81], frame: Frame)
         let i = entry(&firsts, pair);
         let j = entry(&seconds, pair);
         let held = masks::meet(masks::join(every[i], every[j]), 511);
-        if !idle(&opens, i, j, held) {
-            two_lines(givens, masks, frame, i, j, held);
-            let every_now = line_masks(&none, masks, frame);
-            let opens_now = line_masks(givens, masks, frame);
+        if !idle(&most, i, j, held) {
+            let opens = open_lines(givens, masks, frame);
+            most = opens;
+            two_open(givens, masks, frame, i, j, held, opens);
+            let every_now = line_masks(masks, frame);
             every = every_now;
-            opens = opens_now;
         }
         pair += 1;
     }
+}
+
+// The instances of a frame, passed over where none of them loses anything.
+pub fn two_frame(givens: &[u8; 81], masks: &mut [u16; 81], frame: Frame)
+    requires { ⌜ Framed frame ⌝ }
+    ensures { λ _. ⌜ now (masks .exit) ≡ frameTaken (now (givens .entry)) frame (now (masks .entry)) ⌝ }
+{
+    let every = line_masks(masks, frame);
+    if quiet(&every) {
+        return;
+    }
+    frame_pairs(givens, masks, frame, every);
 }

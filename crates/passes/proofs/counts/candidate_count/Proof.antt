@@ -9,7 +9,7 @@ use Rattle.candidates.specs.Masks as masks
 use Rattle.steps.specs.Boards.{at}
 use Rattle.steps.specs.Loops.{each, range}
 use Rattle.passes.specs.Counts.{counted}
-use Rattle.passes.proofs.Taking.{mask-at}
+use Rattle.cells.proofs.Threes.{mask-at}
 use Rattle.passes.proofs.Turns.{turn-done, turns-over}
 use Rattle.passes.proofs.counts.candidate_count.Statement.{statement}
 use Rattle.passes.proofs.counts.candidate_count.Tie as tie

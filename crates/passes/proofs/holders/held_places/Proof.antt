@@ -8,18 +8,18 @@ use Rattle.passes.proofs.HeldPlaces.{held-places}
 use Rattle.passes.proofs.holders.held_places.Statement.{statement}
 use Rattle.passes.proofs.holders.held_places.Tie as tie
 
-unit-masks-requires : tie.Need-unit-masks-requires
-unit-masks-requires c κs = search needs
+all-masks-requires : tie.Need-all-masks-requires
+all-masks-requires c κs = search needs
 
 places-of-requires : tie.Need-places-of-requires
 places-of-requires c κs = search needs
 
 returns : tie.Need-returns
 returns c =
-    let start = c .before .before .before .before in
+    let start = c .before .before .before in
     let a = start .args in
-    c .places-of .ensures ∙ ap (λ (nine : List ℕ). placesOf nine (a .digit)) (c .before .before .unit-masks .ensures)
+    c .places-of .ensures ∙ ap (λ (nine : List ℕ). placesOf nine (a .digit)) (c .before .before .all-masks .ensures)
     ∙ held-places (a .masks .now) (a .unit) (a .digit) (start .pre)
 
 pub held-places-spec : {M : Type 1} → statement M
-held-places-spec = tie.close (tie.spec unit-masks-requires places-of-requires returns)
+held-places-spec = tie.close (tie.spec all-masks-requires places-of-requires returns)

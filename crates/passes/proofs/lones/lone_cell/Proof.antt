@@ -1,50 +1,51 @@
--- `passes::lones::lone_cell` meets its contract. The invariant: the digits that are left still make the whole. Assumes nothing.
-use mathlib.Core.Path.{_≡_, refl}
-use mathlib.Core.List.{List}
-use Prim.Native.Nat.{ℕ, _-_, _≤_}
-use native.Mathlib.Omega.{arith}
-use Rattle.steps.specs.Instances.{lone}
-use Rattle.steps.specs.Loops.{each, range}
-use Rattle.steps.specs.Passes.{instanceTaken}
-use Rattle.passes.specs.Turns.{loneCell}
-use Rattle.passes.proofs.Turns.{turn-done, turns-over}
+-- `passes::lones::lone_cell` meets its contract. Assumes nothing.
+use mathlib.Core.Path.{sym, ap, _∙_}
+use Prim.Native.Nat.{ℕ}
+use borrow.Author.Needs.{needs}
+use lib.Bits.{bitAnd}
+use Rattle.passes.specs.Unions.{sharedNear, loneDue}
+use Rattle.passes.proofs.LoneDue.{not-due}
 use Rattle.passes.proofs.lones.lone_cell.Statement.{statement}
 use Rattle.passes.proofs.lones.lone_cell.Tie as tie
 
--- one turn of the loop
-turn : List ℕ → ℕ → ℕ → List ℕ → List ℕ
-turn g c d m = instanceTaken g (lone c d) m
+mask-at-requires : tie.Need-mask-at-requires
+mask-at-requires c κs = search needs
 
-abbrev Inv-loop : tie.InvT-loop
-Inv-loop givens masks₀ cell digit₀ masks digit = (digit ≤ 9) × (each (turn givens cell) (range (9 - digit) digit) masks ≡ loneCell givens cell masks₀)
+meet-requires : tie.Need-meet-requires
+meet-requires c κs = search needs
 
-abbrev μ-loop : tie.MeasureT-loop
-μ-loop givens masks₀ cell digit₀ masks digit = 9 - digit
+shared-near-requires : tie.Need-shared-near-requires
+shared-near-requires c κs = c .before .before .before .pre .0
 
-loop-holds : tie.Need-loop-holds Inv-loop μ-loop
-unfolding loneCell turn
-loop-holds c = (omega arith, refl)
+lone-due-requires : tie.Need-lone-due-requires
+lone-due-requires c κs = search needs
 
-lone-at-requires : tie.Need-lone-at-requires Inv-loop μ-loop
-lone-at-requires c κs = omega arith
+lone-digits-requires : tie.Need-lone-digits-requires
+lone-digits-requires c κs = c .before .before .before .before .before .before .before .pre .0
 
-add-digit : tie.Need-add-digit Inv-loop μ-loop
-add-digit c = omega arith
+returns : tie.Need-returns
+returns c = c .lone-digits .ensures
 
-loop-less : tie.Need-loop-less Inv-loop μ-loop
-loop-less c = omega arith
-
-loop-again : tie.Need-loop-again Inv-loop μ-loop
-unfolding turn
-loop-again c =
-    let l = c .before .before .before .loop in
-    let a = c .before .before .before .before .args in
-    (omega arith, turn-done (turn (a .givens .now) (a .cell)) 9 (l .digit) (omega arith) (c .lone-at .ensures) (l .inv .1))
-
-returns : tie.Need-returns Inv-loop μ-loop
-returns c =
-    let a = c .before .before .args in
-    turns-over (turn (a .givens .now) (a .cell)) 9 (c .before .loop .digit) (c .loop-test .left) (c .before .loop .inv .1)
+returns-2 : tie.Need-returns-2
+returns-2 c =
+    let due = c .before in
+    let near = due .before in
+    let meet = near .before in
+    let start = meet .before .before .before in
+    let a = start .args in
+    let m = a .masks .now in
+    sym (not-due (a .givens .now) m (a .sets .now) (a .cell) (start .pre .0) (start .pre .1)
+    (sym (due .lone-due .ensures ∙ ap (loneDue (meet .meet .result)) (near .shared-near .ensures)
+    ∙ ap (λ (x : ℕ). loneDue x (sharedNear (a .sets .now) (a .cell))) (meet .meet .ensures ∙ ap (λ (x : ℕ). bitAnd x 511) (meet .before .mask-at .ensures))) ∙ c .if1 .left))
 
 pub lone-cell-spec : {M : Type 1} → statement M
-lone-cell-spec = tie.close (tie.spec Inv-loop μ-loop loop-holds lone-at-requires add-digit loop-less loop-again returns)
+lone-cell-spec =
+    tie.close
+    (tie.spec
+    mask-at-requires
+    meet-requires
+    shared-near-requires
+    lone-due-requires
+    lone-digits-requires
+    returns
+    returns-2)

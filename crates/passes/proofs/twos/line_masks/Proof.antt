@@ -10,8 +10,8 @@ use Rattle.passes.proofs.twos.line_masks.Tie as tie
 enum-known-frame : tie.Need-enum-known-frame
 enum-known-frame c = search needs
 
-unit-masks-requires : tie.Need-unit-masks-requires
-unit-masks-requires c κs = search needs
+all-masks-requires : tie.Need-all-masks-requires
+all-masks-requires c κs = search needs
 
 enum-known-frame-2 : tie.Need-enum-known-frame-2
 enum-known-frame-2 c = search needs
@@ -22,19 +22,19 @@ held-lines-requires c κs = omega (arith, first-le _ (subst Framed (c .before .f
 returns : tie.Need-returns
 returns c =
     let a = c .before .before .before .before .args in
-    c .unit-masks .ensures ∙ sym (ap (lineMasks (a .givens .now) (a .masks .now)) (c .before .before .frame .given .1))
+    c .all-masks .ensures ∙ sym (ap (lineMasks (a .masks .now)) (c .before .before .frame .given .1))
 
 returns-2 : tie.Need-returns-2
 returns-2 c =
     let a = c .before .before .before .before .args in
-    c .held-lines .ensures ∙ sym (ap (lineMasks (a .givens .now) (a .masks .now)) (c .before .before .frame2 .given .1))
+    c .held-lines .ensures ∙ sym (ap (lineMasks (a .masks .now)) (c .before .before .frame2 .given .1))
 
 pub line-masks-spec : {M : Type 1} → statement M
 line-masks-spec =
     tie.close
     (tie.spec
     enum-known-frame
-    unit-masks-requires
+    all-masks-requires
     enum-known-frame-2
     held-lines-requires
     returns

@@ -1,165 +1,32 @@
--- `passes::twos::two_frame` meets its contract. The invariant: the two lines that are left still make the whole, and the tables are those of the masks as they are. Assumes nothing.
-use mathlib.Core.Path.{_≡_, refl, sym, ap, _∙_, subst}
-use mathlib.Core.Logic.{⊎-elim}
-use mathlib.Core.Bool.{true}
-use mathlib.Core.List.{List}
-use Prim.Native.Nat.{ℕ, _-_, _≤_, _<_}
-use native.Mathlib.Omega.{arith}
+-- `passes::twos::two_frame` meets its contract. Assumes nothing.
+use mathlib.Core.Path.{sym, ap, _∙_}
 use borrow.Author.Needs.{needs}
-use borrow.Author.Tests.{not-false}
-use lib.Bits.{bitAnd}
-use lib.ListN.{replicate}
-use Rattle.candidates.specs.Masks.{union}
-use Rattle.steps.specs.Boards.{at}
-use Rattle.steps.specs.Loops.{each, range}
-use Rattle.passes.specs.Twos.{firstOf, secondOf, lineMasks, linesTurned, linesTaken, frameTaken}
-use Rattle.passes.specs.declared.twos.Frame.{Frame}
-use Rattle.passes.proofs.Passed.{lines-run, lines-skipped}
-use Rattle.passes.proofs.Turns.{turn-done, turns-over}
-use Rattle.passes.proofs.TwoNumbers.{first-below, second-below}
+use Rattle.passes.specs.Twos.{quietOf}
+use Rattle.passes.proofs.Quiet.{quiet-frame}
 use Rattle.passes.proofs.twos.two_frame.Statement.{statement}
 use Rattle.passes.proofs.twos.two_frame.Tie as tie
 
--- one turn of the loop
-turn : List ℕ → Frame → ℕ → List ℕ → List ℕ
-turn g F p m = linesTaken g F (firstOf p) (secondOf p) m
+line-masks-requires : tie.Need-line-masks-requires
+line-masks-requires c κs = c .before .pre
 
-abbrev Inv-loop : tie.InvT-loop
-Inv-loop givens masks₀ frame none every₀ opens₀ firsts seconds pair₀ masks every opens pair =
-    (pair ≤ 36) × (each (turn givens frame) (range (36 - pair) pair) masks ≡ frameTaken givens frame masks₀) × (every ≡ lineMasks (replicate 81 0) masks frame) × (opens ≡ lineMasks givens masks frame)
+quiet-requires : tie.Need-quiet-requires
+quiet-requires c κs = search needs
 
-abbrev μ-loop : tie.MeasureT-loop
-μ-loop givens masks₀ frame none every₀ opens₀ firsts seconds pair₀ masks every opens pair = 36 - pair
-
-line-masks-requires : tie.Need-line-masks-requires Inv-loop μ-loop
-line-masks-requires c κs = c .before .before .pre
-
-line-masks-requires-2 : tie.Need-line-masks-requires-2 Inv-loop μ-loop
-line-masks-requires-2 c κs = c .before .before .before .before .pre
-
-loop-holds : tie.Need-loop-holds Inv-loop μ-loop
-unfolding frameTaken turn
-loop-holds c = (omega arith, refl, c .before .before .line-masks .ensures, c .line-masks2 .ensures)
-
-entry-requires : tie.Need-entry-requires Inv-loop μ-loop
-entry-requires c κs = omega arith
-
-entry-requires-2 : tie.Need-entry-requires-2 Inv-loop μ-loop
-entry-requires-2 c κs = omega arith
-
--- the two lines are lines
-first-line : (c : tie.After-entry2 Inv-loop μ-loop) → c .before .before .entry .result < 9
-unfolding firstOf
-first-line c = subst (λ (x : ℕ). x < 9) (sym (c .before .before .entry .ensures)) (first-below (c .before .before .before .before .before .loop .pair) (omega arith))
-
-second-line : (c : tie.After-entry2 Inv-loop μ-loop) → c .entry2 .result < 9
-unfolding secondOf
-second-line c = subst (λ (x : ℕ). x < 9) (sym (c .entry2 .ensures)) (second-below (c .before .before .before .before .before .loop .pair) (omega arith))
-
-mul-join : tie.Need-mul-join Inv-loop μ-loop
-mul-join c = omega (arith, first-line c)
-
-array-read-join : tie.Need-array-read-join Inv-loop μ-loop
-array-read-join c = first-line c
-
-mul-join-2 : tie.Need-mul-join-2 Inv-loop μ-loop
-mul-join-2 c = omega (arith, second-line c)
-
-array-read-join-2 : tie.Need-array-read-join-2 Inv-loop μ-loop
-array-read-join-2 c = second-line c
-
-join-requires : tie.Need-join-requires Inv-loop μ-loop
-join-requires c κs = search needs
-
-meet-requires : tie.Need-meet-requires Inv-loop μ-loop
-meet-requires c κs = search needs
-
-idle-requires : tie.Need-idle-requires Inv-loop μ-loop
-idle-requires c κs = (first-line (c .before .before .before), second-line (c .before .before .before))
-
-two-lines-requires : tie.Need-two-lines-requires Inv-loop μ-loop
-two-lines-requires c κs = (c .before .before .before .before .before .before .before .before .before .before .before .before .before .before .before .before .before .pre, first-line (c .before .before .before .before .before .before), second-line (c .before .before .before .before .before .before))
-
-line-masks-requires-3 : tie.Need-line-masks-requires-3 Inv-loop μ-loop
-line-masks-requires-3 c κs = c .before .before .before .before .before .before .before .before .before .before .before .before .before .before .before .before .before .before .before .before .pre
-
-line-masks-requires-4 : tie.Need-line-masks-requires-4 Inv-loop μ-loop
-line-masks-requires-4 c κs = c .before .before .before .before .before .before .before .before .before .before .before .before .before .before .before .before .before .before .before .before .before .before .pre
-
-add-pair : tie.Need-add-pair Inv-loop μ-loop
-add-pair c = omega arith
-
-loop-less : tie.Need-loop-less Inv-loop μ-loop
-loop-less c = omega arith
-
--- what the two lines hold
-is-held : (c : tie.After-meet Inv-loop μ-loop) → c .meet .result ≡ bitAnd (union (at (c .before .before .before .before .before .before .before .loop .every) (c .before .before .before .before .entry .result)) (at (c .before .before .before .before .before .before .before .loop .every) (c .before .before .entry2 .result))) 511
-is-held c = c .meet .ensures ∙ ap (λ (x : ℕ). bitAnd x 511) (c .before .join .ensures)
-
--- the two lines run, and are passed over
-runs : (c : tie.After-idle Inv-loop μ-loop) → linesTurned (c .before .before .before .before .before .before .before .before .before .before .before .before .before .before .before .args .givens .now) (c .before .before .before .before .before .before .before .before .before .before .before .before .before .before .before .args .frame) (c .before .before .before .before .before .before .entry .result) (c .before .before .before .before .entry2 .result) (c .before .before .meet .result) (c .before .before .before .before .before .before .before .before .before .loop .masks)
-    ≡ turn (c .before .before .before .before .before .before .before .before .before .before .before .before .before .before .before .args .givens .now) (c .before .before .before .before .before .before .before .before .before .before .before .before .before .before .before .args .frame) (c .before .before .before .before .before .before .before .before .before .loop .pair) (c .before .before .before .before .before .before .before .before .before .loop .masks)
-unfolding turn firstOf secondOf
-runs c =
-    let l = c .before .before .before .before .before .before .before .before .before .loop in
-    let start = c .before .before .before .before .before .before .before .before .before .before .before .before .before .before .before in
-    lines-run (start .args .givens .now) (l .masks) (l .every) (l .opens) (start .args .frame) (start .pre) (l .pair) (omega arith) _ _ _ (c .before .before .before .before .before .before .entry .ensures) (c .before .before .before .before .entry2 .ensures) (l .inv .2) (is-held (c .before .before))
-
-skips : (c : tie.After-idle Inv-loop μ-loop) → c .idle .result ≡ true → c .before .before .before .before .before .before .before .before .before .loop .masks ≡ turn (c .before .before .before .before .before .before .before .before .before .before .before .before .before .before .before .args .givens .now) (c .before .before .before .before .before .before .before .before .before .before .before .before .before .before .before .args .frame) (c .before .before .before .before .before .before .before .before .before .loop .pair) (c .before .before .before .before .before .before .before .before .before .loop .masks)
-unfolding turn firstOf secondOf
-skips c t =
-    let l = c .before .before .before .before .before .before .before .before .before .loop in
-    let start = c .before .before .before .before .before .before .before .before .before .before .before .before .before .before .before in
-    lines-skipped (start .args .givens .now) (l .masks) (l .every) (l .opens) (start .args .frame) (start .pre) (l .pair) (omega arith) _ _ _ (c .before .before .before .before .before .before .entry .ensures) (c .before .before .before .before .entry2 .ensures) (l .inv .2) (is-held (c .before .before)) (l .inv .3)
-    (sym (c .idle .ensures) ∙ t)
-
-loop-again : tie.Need-loop-again Inv-loop μ-loop
-loop-again c =
-    let l = c .before .before .before .before .before .before .before .before .before .before .loop in
-    let g = c .before .before .before .before .before .before .before .before .before .before .before .before .before .before .before .before .args .givens .now in
-    let F = c .before .before .before .before .before .before .before .before .before .before .before .before .before .before .before .before .args .frame in
-    ⊎-elim
-    (λ w. (
-      omega arith,
-      turn-done (turn g F) 36 (l .pair) (omega arith) (w .8 ∙ w .2 .ensures ∙ runs (c .before)) (l .inv .1),
-      w .9 ∙ w .5 .ensures ∙ sym (ap (λ (n : List ℕ). lineMasks (replicate 81 0) n F) (w .8)),
-      w .10 ∙ w .7 .ensures ∙ sym (ap (λ (n : List ℕ). lineMasks g n F) (w .8)),
-    ))
-    (λ w. (
-      omega arith,
-      turn-done (turn g F) 36 (l .pair) (omega arith) (w .1 ∙ skips (c .before) (not-false (c .before .idle .result) (w .0 .left))) (l .inv .1),
-      w .2 ∙ l .inv .2 ∙ sym (ap (λ (n : List ℕ). lineMasks (replicate 81 0) n F) (w .1)),
-      w .3 ∙ l .inv .3 ∙ sym (ap (λ (n : List ℕ). lineMasks g n F) (w .1)),
-    ))
-    (c .if1 .came)
-
-returns : tie.Need-returns Inv-loop μ-loop
+returns : tie.Need-returns
 returns c =
-    let a = c .before .before .before .before .before .before .before .args in
-    turns-over (turn (a .givens .now) (a .frame)) 36 (c .before .loop .pair) (c .loop-test .left) (c .before .loop .inv .1)
+    let q = c .before in
+    let lines = q .before .before in
+    let start = lines .before .before in
+    let a = start .args in
+    sym (quiet-frame (a .givens .now) (a .masks .now) (a .frame) (start .pre) (sym (ap quietOf (lines .line-masks .ensures)) ∙ sym (q .quiet .ensures) ∙ c .if1 .taken))
+
+frame-pairs-requires : tie.Need-frame-pairs-requires
+frame-pairs-requires c κs =
+    let lines = c .before .before .before .before in
+    (lines .before .before .pre, lines .line-masks .ensures)
+
+returns-2 : tie.Need-returns-2
+returns-2 c = c .frame-pairs .ensures
 
 pub two-frame-spec : {M : Type 1} → statement M
-two-frame-spec =
-    tie.close
-    (tie.spec
-    Inv-loop
-    μ-loop
-    line-masks-requires
-    line-masks-requires-2
-    loop-holds
-    entry-requires
-    entry-requires-2
-    mul-join
-    array-read-join
-    mul-join-2
-    array-read-join-2
-    join-requires
-    meet-requires
-    idle-requires
-    two-lines-requires
-    line-masks-requires-3
-    line-masks-requires-4
-    add-pair
-    loop-less
-    loop-again
-    returns)
+two-frame-spec = tie.close (tie.spec line-masks-requires quiet-requires returns frame-pairs-requires returns-2)

@@ -1,13 +1,17 @@
--- `passes::twos::two_lines` meets its contract. The invariant: the places that are left still make the whole. Assumes nothing.
+-- `passes::twos::two_lines` meets its contract. Two places are one instance. The invariant: the places that are left still make the whole. Assumes nothing.
 use mathlib.Core.Path.{_≡_, refl, sym, ap, _∙_, subst}
 use mathlib.Core.List.{List}
 use Prim.Native.Nat.{ℕ, _-_, _≤_, _<_}
 use native.Mathlib.Omega.{arith}
+use borrow.Author.Needs.{needs}
+use borrow.Author.Tests.{eqb-true}
+use Rattle.candidates.specs.Masks.{count, lowest, tail}
 use Rattle.steps.specs.Loops.{each, range}
-use Rattle.passes.specs.Twos.{firstOf, secondOf, twoTurn, linesTurned}
+use Rattle.passes.specs.Twos.{firstOf, secondOf, twoLose, twoTurn, linesTurned}
 use Rattle.passes.specs.declared.twos.Frame.{Frame}
 use Rattle.passes.proofs.Turns.{turn-done, turns-over}
 use Rattle.passes.proofs.TwoNumbers.{first-below, second-below}
+use Rattle.passes.proofs.TwoPlaces.{first-place, second-place, two-turned}
 use Rattle.passes.proofs.twos.two_lines.Statement.{statement}
 use Rattle.passes.proofs.twos.two_lines.Tie as tie
 
@@ -25,6 +29,52 @@ loop-holds : tie.Need-loop-holds Inv-loop μ-loop
 unfolding linesTurned turn
 loop-holds c = (omega arith, refl)
 
+is-two-requires : tie.Need-is-two-requires Inv-loop μ-loop
+is-two-requires c κs = search needs
+
+lowest-digit-requires : tie.Need-lowest-digit-requires Inv-loop μ-loop
+lowest-digit-requires c κs = search needs
+
+lose-lowest-requires : tie.Need-lose-lowest-requires Inv-loop μ-loop
+lose-lowest-requires c κs = search needs
+
+lowest-digit-requires-2 : tie.Need-lowest-digit-requires-2 Inv-loop μ-loop
+lowest-digit-requires-2 c κs = search needs
+
+-- the two places that the lines hold
+two : (c : tie.Then1 Inv-loop μ-loop) → count (c .before .before .args .held) ≡ 2
+two c = eqb-true (count (c .before .before .args .held)) 2 (sym (c .before .is-two .ensures) ∙ c .if1 .taken)
+
+first-is : (c : tie.After-lowest-digit2 Inv-loop μ-loop) → c .before .before .lowest-digit .result ≡ lowest (c .before .before .before .before .before .args .held)
+first-is c = c .before .before .lowest-digit .ensures
+
+second-is : (c : tie.After-lowest-digit2 Inv-loop μ-loop) → c .lowest-digit2 .result ≡ lowest (tail (c .before .before .before .before .before .args .held))
+second-is c = c .lowest-digit2 .ensures ∙ ap lowest (c .before .lose-lowest .ensures)
+
+lose-two-requires : tie.Need-lose-two-requires Inv-loop μ-loop
+lose-two-requires c κs =
+    let b = c .before in
+    let t = b .before .before .before in
+    let start = t .before .before in
+    let held = start .args .held in (
+      start .pre .0,
+      start .pre .1,
+      start .pre .2,
+      subst (λ (x : ℕ). x < 9) (sym (first-is b)) (first-place held (start .pre .3) (two t)),
+      subst (λ (x : ℕ). x < 9) (sym (second-is b)) (second-place held (start .pre .3) (two t)),
+    )
+
+returns : tie.Need-returns Inv-loop μ-loop
+returns c =
+    let b = c .before .before in
+    let t = b .before .before .before in
+    let start = t .before .before in
+    let a = start .args in
+    c .lose-two .ensures
+    ∙ ap (λ (x : ℕ). twoLose (a .givens .now) (a .frame) (a .i) (a .j) x (b .lowest-digit2 .result) (a .masks .now)) (first-is b)
+    ∙ ap (λ (x : ℕ). twoLose (a .givens .now) (a .frame) (a .i) (a .j) (lowest (a .held)) x (a .masks .now)) (second-is b)
+    ∙ sym (two-turned (a .held) (start .pre .3) (two t) (a .givens .now) (a .frame) (a .i) (a .j) (a .masks .now))
+
 entry-requires : tie.Need-entry-requires Inv-loop μ-loop
 entry-requires c κs = omega arith
 
@@ -34,7 +84,7 @@ entry-requires-2 c κs = omega arith
 two-at-requires : tie.Need-two-at-requires Inv-loop μ-loop
 unfolding firstOf secondOf
 two-at-requires c κs =
-    let start = c .before .before .before .before .before .before .before in
+    let start = c .before .before .before .before .before .before .before .before .before in
     let q = c .before .before .before .before .before .before .loop .pair in
     (start .pre .0, start .pre .1, start .pre .2, subst (λ (x : ℕ). x < 9) (sym (c .before .before .entry .ensures)) (first-below q (omega arith)), subst (λ (x : ℕ). x < 9) (sym (c .entry2 .ensures)) (second-below q (omega arith)))
 
@@ -48,16 +98,16 @@ loop-again : tie.Need-loop-again Inv-loop μ-loop
 unfolding turn firstOf secondOf
 loop-again c =
     let l = c .before .before .before .before .before .before .before .loop in
-    let a = c .before .before .before .before .before .before .before .before .args in (
+    let a = c .before .before .before .before .before .before .before .before .before .before .args in (
       omega arith,
       turn-done (turn (a .givens .now) (a .frame) (a .i) (a .j) (a .held)) 36 (l .pair) (omega arith)
           (c .two-at .ensures ∙ ap (λ (x : ℕ). twoTurn (a .givens .now) (a .frame) (a .i) (a .j) (a .held) x (c .before .entry2 .result) (l .masks)) (c .before .before .before .entry .ensures)
           ∙ ap (λ (x : ℕ). twoTurn (a .givens .now) (a .frame) (a .i) (a .j) (a .held) (firstOf (l .pair)) x (l .masks)) (c .before .entry2 .ensures)) (l .inv .1),
     )
 
-returns : tie.Need-returns Inv-loop μ-loop
-returns c =
-    let a = c .before .before .args in
+returns-2 : tie.Need-returns-2 Inv-loop μ-loop
+returns-2 c =
+    let a = c .before .before .before .before .args in
     turns-over (turn (a .givens .now) (a .frame) (a .i) (a .j) (a .held)) 36 (c .before .loop .pair) (c .loop-test .left) (c .before .loop .inv .1)
 
 pub two-lines-spec : {M : Type 1} → statement M
@@ -66,6 +116,12 @@ two-lines-spec =
     (tie.spec
     Inv-loop
     μ-loop
+    is-two-requires
+    lowest-digit-requires
+    lose-lowest-requires
+    lowest-digit-requires-2
+    lose-two-requires
+    returns
     loop-holds
     entry-requires
     entry-requires-2
@@ -73,4 +129,4 @@ two-lines-spec =
     add-pair
     loop-less
     loop-again
-    returns)
+    returns-2)

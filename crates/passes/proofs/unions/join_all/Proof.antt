@@ -1,4 +1,4 @@
--- `passes::twos::join_all` meets its contract. The invariant: the lines that are left still make the whole. Assumes nothing.
+-- `passes::unions::join_all` meets its contract. The invariant: the lines that are left still make the whole. Assumes nothing.
 use mathlib.Core.Path.{_≡_, refl}
 use mathlib.Core.List.{List}
 use Prim.Native.Nat.{ℕ, _-_, _≤_}
@@ -7,10 +7,10 @@ use borrow.Author.Needs.{needs}
 use Rattle.candidates.specs.Masks.{union}
 use Rattle.steps.specs.Boards.{at}
 use Rattle.steps.specs.Loops.{each, range}
-use Rattle.passes.specs.Twos.{joined}
+use Rattle.passes.specs.Unions.{joined}
 use Rattle.passes.proofs.Turns.{turn-done, turns-over}
-use Rattle.passes.proofs.twos.join_all.Statement.{statement}
-use Rattle.passes.proofs.twos.join_all.Tie as tie
+use Rattle.passes.proofs.unions.join_all.Statement.{statement}
+use Rattle.passes.proofs.unions.join_all.Tie as tie
 
 -- one turn of the loop
 turn : List ℕ → ℕ → ℕ → ℕ

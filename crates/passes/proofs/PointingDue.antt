@@ -1,0 +1,77 @@
+-- Pointing does nothing at a digit that is not due: on no line does it stand outside the box while the box holds it on that line alone. Assumes nothing.
+use mathlib.Core.Path.{_≡_, refl, sym, ap, _∙_, subst}
+use mathlib.Core.Bool.{Bool, true, false, cond, true≢false}
+use mathlib.Core.List.{List}
+use Prim.Native.Nat.{ℕ, _+_, _<_}
+use native.Mathlib.Omega.{arith}
+use borrow.Author.Tests.{eqb-true, eqb-false}
+use lib.Bits.{bitAnd}
+use lib.Dec.{eqb}
+use Rattle.candidates.specs.Masks.{bit, has, minus, single}
+use Rattle.candidates.proofs.Held.{Held, held-minus}
+use Rattle.candidates.proofs.Order.{and-only, sub-of-minus}
+use Rattle.candidates.proofs.Tests.{by-test}
+use Rattle.grid.specs.Units.{unitCell}
+use Rattle.grid.proofs.Units.{cell-below}
+use Rattle.steps.specs.Boards.{at, isOpen}
+use Rattle.steps.specs.Instances.{lineOf}
+use Rattle.steps.specs.Loops.{upTo}
+use Rattle.steps.proofs.Loops.{in-upTo}
+use Rattle.steps.proofs.Steps.{lose-none}
+use Rattle.cells.specs.Places.{allMasks, loseIn, losePlaces}
+use Rattle.cells.proofs.Threes.{all-mask}
+use Rattle.passes.specs.Turns.{heldPlaces, boxLine, thirdOf, lockedTurn, pointingTurn, pointingDigit}
+use Rattle.passes.specs.Unions.{joinedAt, lineDue, boxDue}
+use Rattle.passes.proofs.HeldPlaces.{has-held}
+use Rattle.passes.proofs.Losing.{lose-cell}
+use Rattle.passes.proofs.NineBits.{single-is, held-sub}
+use Rattle.passes.proofs.PointingTurns.{line-below, pointing-digit}
+use Rattle.passes.proofs.Shared.{union-at, joined-at, at-joined}
+use Rattle.passes.proofs.Turns.{each-idle}
+
+-- places whose cells hold none of the digits lose nothing
+places-idle : (g : List ℕ) (u ps k : ℕ) (m : List ℕ) → u < 27 → ((i : ℕ) → i < 9 → Held ps i → bitAnd (at m (unitCell u i)) k ≡ 0) → losePlaces (isOpen g) u ps k m ≡ m
+unfolding losePlaces
+places-idle g u ps k m h none =
+    each-idle (λ i n. cond (has ps i) (loseIn (isOpen g) (unitCell u i) k n) n) (upTo 9) m
+    (λ i o. let l = in-upTo 9 i o in
+    by-test (λ (n : List ℕ). n ≡ m) (has ps i) (loseIn (isOpen g) (unitCell u i) k m) m
+    (λ t. lose-cell (isOpen g) (unitCell u i) k m (cell-below u i h l) ∙ lose-none (isOpen g) (unitCell u i) k m (λ _. none i l t)) (λ t. refl))
+
+module _ (g m : List ℕ) (b d : ℕ) (h : b < 9) (l : d < 9) (free : has (boxDue m b) d ≡ false) where
+  not-on : (k : ℕ) → k < 6 → Held (lineDue m (allMasks m (18 + b)) b k) d → ⊥
+  unfolding boxDue
+  not-on k n t = true≢false (sym (held-sub d (union-at (lineDue m (allMasks m (18 + b)) b) 6 0 0 k (omega arith) (omega arith)) t) ∙ free)
+
+  -- where the box holds d on the line alone, it does not hold it off the line
+  not-off : (k : ℕ) → k < 6 → minus (heldPlaces m (18 + b) d) (boxLine k) ≡ 0 → Held (joinedAt (allMasks m (18 + b)) (minus 511 (boxLine k))) d → ⊥
+  not-off k n e t =
+      let w = at-joined (allMasks m (18 + b)) (minus 511 (boxLine k)) d t in
+      let i = w .0 in
+      held-minus 511 (boxLine k) i .0 (w .2) .1
+      (held-sub i (sub-of-minus (heldPlaces m (18 + b) d) (boxLine k) e)
+      (has-held m (18 + b) d i (w .1) ∙ ap (λ (x : ℕ). has x d) (sym (all-mask m (18 + b) i (omega arith) (w .1))) ∙ w .3))
+
+  turn-idle : (k : ℕ) → k < 6 → pointingTurn g b d (heldPlaces m (18 + b) d) k m ≡ m
+  unfolding pointingTurn lockedTurn
+  turn-idle k n =
+      by-test (λ (x : List ℕ). x ≡ m) (eqb (minus (heldPlaces m (18 + b) d) (boxLine k)) 0)
+      (losePlaces (isOpen g) (lineOf b k) (minus 511 (boxLine (thirdOf b k))) (single d) m) m
+      (λ t. places-idle g (lineOf b k) (minus 511 (boxLine (thirdOf b k))) (single d) m (line-below b k h n)
+      (λ i o p. subst (λ (x : ℕ). bitAnd (at m (unitCell (lineOf b k) i)) x ≡ 0) (sym (single-is d l))
+      (and-only (at m (unitCell (lineOf b k) i)) d (lacking i o p (eqb-true (minus (heldPlaces m (18 + b) d) (boxLine k)) 0 t) (has (at m (unitCell (lineOf b k) i)) d) refl)))) (λ t. refl)
+    where
+      lacking : (i : ℕ) → i < 9 → Held (minus 511 (boxLine (thirdOf b k))) i → minus (heldPlaces m (18 + b) d) (boxLine k) ≡ 0 → (t : Bool) → has (at m (unitCell (lineOf b k) i)) d ≡ t → bit (at m (unitCell (lineOf b k) i)) d ≡ 0
+      lacking i o p e false t = omega (arith, eqb-false (bit (at m (unitCell (lineOf b k) i)) d) 1 t)
+      lacking i o p e true t = absurd (not-on k n (due e))
+        where
+          due : minus (heldPlaces m (18 + b) d) (boxLine k) ≡ 0 → Held (lineDue m (allMasks m (18 + b)) b k) d
+          due e =
+              unfold lineDue in
+              held-minus (joinedAt (allMasks m (lineOf b k)) (minus 511 (boxLine (thirdOf b k)))) (joinedAt (allMasks m (18 + b)) (minus 511 (boxLine k))) d .1
+              (joined-at (allMasks m (lineOf b k)) (minus 511 (boxLine (thirdOf b k))) d i o p (ap (λ (x : ℕ). has x d) (all-mask m (lineOf b k) i (line-below b k h n) o) ∙ t), not-off k n e)
+
+  pub not-due : pointingDigit g b d m ≡ m
+  not-due =
+      pointing-digit g b d h l m
+      ∙ each-idle (pointingTurn g b d (heldPlaces m (18 + b) d)) (upTo 6) m (λ k o. turn-idle k (in-upTo 6 k o))
