@@ -1,0 +1,55 @@
+-- `chains::chains` meets its contract. The invariant: the digits that are left still make the pass. Assumes nothing.
+use mathlib.Core.Path.{_≡_, refl, sym, ap, _∙_}
+use Prim.Native.Nat.{_+_, _-_, _≤_}
+use native.Mathlib.Omega.{arith}
+use borrow.Author.Needs.{needs}
+use Rattle.grid.proofs.Lists.{each-on, each-end}
+use Rattle.steps.specs.Chains.{chainDigit, chains}
+use Rattle.steps.specs.Loops.{each, range}
+use Rattle.chains.proofs.chains.Statement.{statement}
+use Rattle.chains.proofs.chains.Tie as tie
+
+abbrev Inv-loop : tie.InvT-loop
+Inv-loop givens masks₀ digit₀ masks digit =
+    (digit ≤ 9) × (each (chainDigit givens) (range (9 - digit) digit) masks ≡ chains givens masks₀)
+
+abbrev μ-loop : tie.MeasureT-loop
+μ-loop givens masks₀ digit₀ masks digit = 9 - digit
+
+loop-holds : tie.Need-loop-holds Inv-loop μ-loop
+unfolding chains
+loop-holds c = (omega arith, refl)
+
+build-aic-chains-for-digit-requires : tie.Need-build-aic-chains-for-digit-requires Inv-loop μ-loop
+build-aic-chains-for-digit-requires c κs = omega arith
+
+add-digit : tie.Need-add-digit Inv-loop μ-loop
+add-digit c = omega arith
+
+loop-less : tie.Need-loop-less Inv-loop μ-loop
+loop-less c = omega arith
+
+loop-again : tie.Need-loop-again Inv-loop μ-loop
+loop-again c =
+    let l = c .before .before .before in
+    let a = l .before .args in
+    let i = l .loop .digit in
+    (omega arith, ap (each (chainDigit (a .givens .now)) (range (9 - (i + 1)) (i + 1))) (c .build-aic-chains-for-digit .ensures) ∙ sym (each-on (chainDigit (a .givens .now)) 9 i (l .loop .masks) (omega arith)) ∙ l .loop .inv .1)
+
+returns : tie.Need-returns Inv-loop μ-loop
+returns c =
+    let l = c .before in
+    sym (each-end (chainDigit (l .before .args .givens .now)) 9 (l .loop .digit) (l .loop .masks) (c .loop-test .left)) ∙ l .loop .inv .1
+
+pub chains-spec : {M : Type 1} → statement M
+chains-spec =
+    tie.close
+    (tie.spec
+    Inv-loop
+    μ-loop
+    loop-holds
+    build-aic-chains-for-digit-requires
+    add-digit
+    loop-less
+    loop-again
+    returns)

@@ -1,0 +1,67 @@
+-- `chains::links::find_strong_links` meets its contract. Assumes nothing.
+use mathlib.Core.Path.{ap, _∙_}
+use mathlib.Core.List.{List}
+use Prim.Native.Nat.{ℕ, _+_}
+use native.Mathlib.Omega.{arith}
+use borrow.Author.Needs.{needs}
+use Rattle.grid.specs.Units.{inUnit}
+use Rattle.steps.specs.Loops.{for, select}
+use Rattle.chains.specs.Lists.{listed}
+use Rattle.chains.specs.Links.{others, twoOf, strongIn}
+use Rattle.chains.proofs.Listing.{three-joined}
+use Rattle.chains.proofs.links.find_strong_links.Statement.{statement}
+use Rattle.chains.proofs.links.find_strong_links.Tie as tie
+
+row-of-requires : tie.Need-row-of-requires
+row-of-requires c κs = search needs
+
+push-unit-requires : tie.Need-push-unit-requires
+push-unit-requires c κs = search needs
+
+col-of-requires : tie.Need-col-of-requires
+col-of-requires c κs = search needs
+
+add-push-unit : tie.Need-add-push-unit
+add-push-unit c = search needs
+
+push-unit-requires-2 : tie.Need-push-unit-requires-2
+push-unit-requires-2 c κs = search needs
+
+box-of-requires : tie.Need-box-of-requires
+box-of-requires c κs = search needs
+
+add-push-unit-2 : tie.Need-add-push-unit-2
+add-push-unit-2 c = search needs
+
+push-unit-requires-3 : tie.Need-push-unit-requires-3
+push-unit-requires-3 c κs = search needs
+
+returns : tie.Need-returns
+unfolding strongIn for
+returns c =
+    let row = c .before .before .before .before in
+    let col = c .before .before in
+    let a = row .before .before .args in
+    let pair : ℕ → List ℕ = λ u. others (a .cell) (twoOf (select (inUnit u) (listed (a .holders .now) (a .count)))) in
+    record {
+      within = omega (arith, c .push-unit3 .ensures .0, col .push-unit2 .ensures .0, row .push-unit .ensures .0);
+      are =
+          three-joined
+          (row .push-unit .ensures .1 ∙ ap pair (row .before .row-of .ensures))
+          (col .push-unit2 .ensures .1) (ap (λ (x : ℕ). pair (9 + x)) (col .before .col-of .ensures))
+          (c .push-unit3 .ensures .1) (ap (λ (x : ℕ). pair (18 + x)) (c .before .box-of .ensures));
+    }
+
+pub find-strong-links-spec : {M : Type 1} → statement M
+find-strong-links-spec =
+    tie.close
+    (tie.spec
+    row-of-requires
+    push-unit-requires
+    col-of-requires
+    add-push-unit
+    push-unit-requires-2
+    box-of-requires
+    add-push-unit-2
+    push-unit-requires-3
+    returns)
