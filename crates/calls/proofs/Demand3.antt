@@ -1,0 +1,153 @@
+-- Demand 3 of what the calls hand back, from the theorem about lists of calls and about settling (steps/proofs/Lists). Assumes nothing.
+use mathlib.Core.Path.{_≡_, refl, sym, ap, _∙_, subst}
+use mathlib.Core.Bool.{Bool, true}
+use mathlib.Core.List.{List, [], _∷_, _++_}
+use mathlib.Core.Option.{Option, none}
+use Prim.Native.Nat.{ℕ, _+_}
+use lib.IntN.{ℤ, pos}
+use lib.ListN.{getD}
+use Rattle.candidates.specs.Answer.{Answer, gives}
+use Rattle.grid.specs.Cells.{cells}
+use Rattle.grid.proofs.Lists.{mem-range}
+use Rattle.steps.specs.Boards as S
+use Rattle.steps.specs.Boards.{givensOf, total}
+use Rattle.steps.specs.Calls.{Call, withoutChain, wide, settling, badClue, refusal, Admitted, checked, outcome, answer, left, opened, run}
+use Rattle.steps.specs.Demand3 as steps
+use Rattle.steps.specs.Demand3.{Clues}
+use Rattle.steps.specs.Fillings.{InMasks}
+use Rattle.steps.specs.Passes.{Kind, sweep, settle, removedBy}
+use Rattle.steps.proofs.Lists as steps-proofs
+use Rattle.steps.proofs.Loops.{none-first}
+use Rattle.board.specs.Answers.{beside}
+use Rattle.board.specs.Boards.{boardOf, noBoard, openedOr, openOf}
+use Rattle.board.specs.declared.Board.{Board}
+use Rattle.progress.specs.Answers.{progressAnswer, flagOf, Eliminates}
+use Rattle.progress.specs.declared.Eliminated.{Eliminated}
+use Rattle.progress.specs.declared.Progress.{Progress}
+use Rattle.progress.specs.declared.Progress.the-variants as progress
+use Rattle.passes.specs.Settlings.{Counts, settlingAnswer, countsOf, Settles}
+use Rattle.passes.specs.declared.calls.SettledBoard.{SettledBoard}
+use Rattle.passes.specs.declared.calls.Settling as code
+use Rattle.passes.specs.declared.calls.Settling.the-variants as told
+use Rattle.calls.specs.Demand3.{After, Unchained, IsSettled, Ends, Passes, Settling, Demand3}
+use Rattle.calls.specs.Replays.{firstNoStep, callsOf, replayOf, replayingAnswer, Replays}
+use Rattle.calls.specs.declared.Replayed.{Replayed}
+use Rattle.calls.specs.declared.Replaying.{Replaying}
+use Rattle.calls.specs.declared.Replaying.the-variants as replaying
+use Rattle.calls.proofs.Numbers.{all-steps, unchained-calls}
+use Rattle.calls.proofs.Runs.{run-replayed}
+
+-- ---- an answer of the code that is no stop
+
+made : (p : Progress) (f : Bool) → progressAnswer p ≡ gives f → p ≡ progress.Made f
+made (progress.Made g) f e = cc
+made (progress.BadClue c) f e = cc
+made (progress.BadMask c) f e = cc
+
+done : (a : Replaying) (b c : S.Board) → replayingAnswer a b ≡ gives c → a ≡ replaying.Done
+done replaying.Done b c e = refl
+done (replaying.BadClue i) b c e = cc
+done (replaying.NoStep i) b c e = cc
+
+counted : (s : code.Settling) (k : Counts) → settlingAnswer s ≡ gives k → s ≡ told.Settled (k .sweeps) (k .removed)
+counted (told.Settled n x) k e = cc
+counted (told.BadClue c) k e = cc
+counted (told.BadMask c) k e = cc
+
+-- ---- the boards after a list
+
+open-clues : (clues : List ℤ) → Clues clues → openOf clues ≡ gives (opened clues)
+unfolding openOf cells
+open-clues clues ok =
+    ap (λ (o : Option ℕ). openedOr o clues) (none-first (λ c. badClue (getD clues c (pos 0))) cells (λ c k. ok .good c (mem-range 81 0 c k .1)))
+
+run-snoc : (ks : List Call) (k : Call) (b : S.Board) → run (ks ++ k ∷ []) b ≡ left (run ks b) (answer k (run ks b))
+unfolding run
+run-snoc [] k b = refl
+run-snoc (l ∷ ks) k b = run-snoc ks k (left b (answer l b))
+
+opens : (clues : List ℤ) → Clues clues → (b : Board) → boardOf b ≡ beside (openOf clues) noBoard → After clues [] b
+unfolding run
+opens clues ok b e = e ∙ ap (λ (a : Answer S.Board). beside a noBoard) (open-clues clues ok)
+
+calls : (clues : List ℤ) (ks : List Call) (b : Board) → After clues ks b → (k : Call) (c : Board) → boardOf c ≡ left (boardOf b) (answer k (boardOf b)) → After clues (ks ++ k ∷ []) c
+calls clues ks b at k c e = e ∙ ap (λ (b : S.Board). left b (answer k b)) at ∙ sym (run-snoc ks k (opened clues))
+
+replays : (clues : List ℤ) → Clues clues → (ns : List ℕ) → firstNoStep ns ≡ none → (r : Replayed) → Replays clues ns r
+    → (r .answer ≡ replaying.Done) × After clues (callsOf ns) (r .board)
+replays clues ok ns steps r e =
+    let is : replayOf clues ns ≡ gives (run (callsOf ns) (opened clues)) = sym (run-replayed clues ns (sym (open-clues clues ok)) (sym steps)) in
+    (done (r .answer) (boardOf (r .board)) _ (e .answer ∙ is), e .board ∙ ap (λ (a : Answer S.Board). beside a noBoard) is)
+
+taken : (clues : List ℤ) → Clues clues → (ks : List Call) (b : Board) → After clues ks b → refusal (boardOf b) ≡ none
+taken clues ok ks b at = ap refusal at ∙ steps-proofs.demand3 .taken clues ok ks
+
+lists : (clues : List ℤ) → Clues clues → (ks ls : List Call) → withoutChain ks ≡ true → withoutChain ls ≡ true → (B C : Board) → After clues ks B → After clues ls C → Ends clues B C
+lists clues ok ks ls nk nl B C p q =
+    let ends = steps-proofs.demand3 .lists clues ok ks ls nk nl in
+    record {
+      one = λ s. (λ e. subst IsSettled e s, λ t. same (p ∙ ends .one (subst steps.SettledBoard p s) .1 (subst steps.SettledBoard q t) ∙ sym q));
+      fillings = λ f n v. (
+        λ k. ends .fillings f n v .0 (subst (λ (b : S.Board). InMasks (b .masks) f) p k),
+        λ k. subst (λ (b : S.Board). InMasks (b .masks) f) (sym p) (ends .fillings f n v .1 k),
+      );
+    }
+  where
+    same : boardOf B ≡ boardOf C → B ≡ C
+    same e = λ i. record { clues = e i .clues; masks = e i .masks }
+
+replayed : (clues : List ℤ) → Clues clues → (ns ms : List ℕ) → Unchained ns → Unchained ms → (B C : Replayed) → Replays clues ns B → Replays clues ms C → Ends clues (B .board) (C .board)
+replayed clues ok ns ms n m B C p q =
+    lists clues ok (callsOf ns) (callsOf ms) (n .unchained) (m .unchained) (B .board) (C .board) (replays clues ok ns (n .steps) B p .1) (replays clues ok ms (m .steps) C q .1)
+
+-- ---- a call on a board that is not refused
+
+module _ (b : Board) (ok : Admitted (boardOf b)) where
+  given : (k : Call) → answer k (boardOf b) ≡ gives (outcome k (givensOf (b .clues)) (b .masks))
+  unfolding answer
+  given k = ap (λ (o : Option (ℕ × ℕ)). checked o (outcome k (givensOf (b .clues)) (b .masks))) (ok .taken)
+
+  passes : (k : Kind) (r : Eliminated) → Eliminates (wide k) (boardOf b) r → Passes k b r
+  unfolding outcome
+  passes k r e =
+      let board = e .1 ∙ ap (left (boardOf b)) (given (wide k)) in
+      record {
+        answer = made (r .answer) _ (e .0 ∙ ap flagOf (given (wide k)));
+        clues = ap (λ (b : S.Board). b .clues) board;
+        masks = ap (λ (b : S.Board). b .masks) board;
+      }
+
+  settles : (r : SettledBoard) → Settles (boardOf b) r
+      → Settling b r (settle (givensOf (b .clues)) (b .masks) .sweeps) (removedBy (b .masks) (settle (givensOf (b .clues)) (b .masks) .left))
+  unfolding outcome
+  settles r e =
+      let s = steps-proofs.demand3 .settling (boardOf b) ok in
+      let board = e .1 ∙ ap (left (boardOf b)) (given settling) in
+      let masks = ap (λ (b : S.Board). b .masks) board in
+      let final = masks ∙ s .final in
+      record {
+        answer = counted (r .answer) _ (e .0 ∙ ap countsOf (given settling));
+        clues = ap (λ (b : S.Board). b .clues) board;
+        masks = final;
+        ends = subst steps.SettledBoard (sym board) (s .ends);
+        some = s .some;
+        goes = s .goes;
+        stops = ap (sweep (givensOf (b .clues))) final ∙ s .stops ∙ sym final;
+        counted = ap (λ (m : List ℕ). total m + removedBy (b .masks) (settle (givensOf (b .clues)) (b .masks) .left)) masks ∙ s .counted;
+        bound = s .bound;
+        most = s .most;
+      }
+
+pub demand3 : Demand3
+demand3 =
+    record {
+      opens = opens;
+      calls = calls;
+      replays = replays;
+      taken = taken;
+      lists = lists;
+      replayed = replayed;
+      below = λ ns h. record { steps = all-steps ns h; unchained = unchained-calls ns h };
+      passes = λ k b ok r e. passes b ok k r e;
+      settling = λ b ok r e. (_, _, settles b ok r e);
+    }

@@ -1,0 +1,4 @@
+pub mod Numbers
+pub mod Arms
+pub mod Runs
+pub mod Demand3

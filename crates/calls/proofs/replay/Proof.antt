@@ -1,0 +1,93 @@
+-- `calls::replay` meets its contract. Assumes nothing.
+use mathlib.Core.Path.{sym, ap, _∙_}
+use borrow.Author.Needs.{needs}
+use Rattle.candidates.specs.Answer.{gives}
+use Rattle.steps.specs.Calls.{run}
+use Rattle.board.specs.Answers.{foundCell, openingAnswer}
+use Rattle.board.specs.Boards.{boardOf}
+use Rattle.board.specs.declared.Opening.{Opening}
+use Rattle.calls.specs.Replays.{callsOf, replayingAnswer}
+use Rattle.calls.specs.declared.Replaying.{Replaying}
+use Rattle.calls.proofs.Runs.{replays, clue-refused, run-replayed}
+use Rattle.calls.proofs.replay.Statement.{statement}
+use Rattle.calls.proofs.replay.Tie as tie
+
+new-requires : tie.Need-new-requires
+new-requires c κs = search needs
+
+enum-known-opening : tie.Need-enum-known-opening
+enum-known-opening c = search needs
+
+refused-requires : tie.Need-refused-requires
+refused-requires c κs = search needs
+
+enum-told : tie.Need-enum-told
+enum-told c = search needs
+
+first-no-step-requires : tie.Need-first-no-step-requires
+first-no-step-requires c κs = search needs
+
+enum-known-index : tie.Need-enum-known-index
+enum-known-index c = search needs
+
+refused-requires-2 : tie.Need-refused-requires-2
+refused-requires-2 c κs = search needs
+
+enum-told-2 : tie.Need-enum-told-2
+enum-told-2 c = search needs
+
+run-requires : tie.Need-run-requires
+run-requires c κs = search needs
+
+returns : tie.Need-returns
+returns c =
+    let new = c .before .before .before .before .before in
+    let a = new .before .before .args in
+    let b = boardOf (new .new .result .board) in
+    replays (a .clues) (a .steps .now) _
+    (clue-refused (a .clues) (a .steps .now) (ap (λ (o : Opening). openingAnswer o b) (sym (c .before .before .opening .given .1)) ∙ new .new .ensures .0))
+    (ap (λ (o : Replaying). replayingAnswer o (boardOf (c .refused .result .board))) (c .refused .ensures .0))
+    (c .refused .ensures .1)
+
+returns-2 : tie.Need-returns-2
+returns-2 c =
+    let found = c .before .before .before .before in
+    let told = found .before in
+    let new = told .before .before .before in
+    let a = new .before .before .args in
+    let b = boardOf (new .new .result .board) in
+    replays (a .clues) (a .steps .now) _
+    (run-replayed (a .clues) (a .steps .now) {b = b} (ap (λ (o : Opening). openingAnswer o b) (sym (told .enum-told .given .1)) ∙ new .new .ensures .0)
+    (ap foundCell (sym (c .before .before .index .given .1)) ∙ found .first-no-step .ensures))
+    (ap (λ (o : Replaying). replayingAnswer o (boardOf (c .refused2 .result .board))) (c .refused2 .ensures .0))
+    (c .refused2 .ensures .1)
+
+returns-3 : tie.Need-returns-3
+returns-3 c =
+    let found = c .before .before .before in
+    let told = found .before in
+    let new = told .before .before .before in
+    let a = new .before .before .args in
+    let b = boardOf (new .new .result .board) in
+    replays (a .clues) (a .steps .now) (gives (run (callsOf (a .steps .now)) b))
+    (run-replayed (a .clues) (a .steps .now) {b = b} (ap (λ (o : Opening). openingAnswer o b) (sym (told .enum-told .given .1)) ∙ new .new .ensures .0)
+    (ap foundCell (sym (c .before .enum-told2 .given .1)) ∙ found .first-no-step .ensures))
+    (ap gives (c .run .ensures))
+    (c .run .ensures)
+
+pub replay-spec : {M : Type 1} → statement M
+replay-spec =
+    tie.close
+    (tie.spec
+    new-requires
+    enum-known-opening
+    refused-requires
+    enum-told
+    first-no-step-requires
+    enum-known-index
+    refused-requires-2
+    enum-told-2
+    run-requires
+    returns
+    returns-2
+    returns-3)

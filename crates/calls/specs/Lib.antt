@@ -1,0 +1,3 @@
+pub mod StepNumbers
+pub mod Replays
+pub mod Demand3

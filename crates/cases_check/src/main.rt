@@ -1,0 +1,288 @@
+// The published cases P1 to P11 through the public calls. The file `stdout` is written from the paper's sentences:
+// a text or clue numbers with the stop and what stands beside it, `step NUMBER FLAG REMOVED` by step numbers, a mask by its cell.
+use board::Board;
+use board::CellMask;
+use board::Opening;
+use board::Parsing;
+use board::text;
+use calls::Stepping;
+use calls::step;
+use libc::STDOUT_FILENO;
+use record::RecordWriting;
+use record::write_record;
+
+fn number(n: u64) {
+    io::write_all(STDOUT_FILENO, b" ");
+    io::print_decimal(STDOUT_FILENO, n);
+}
+
+fn end() {
+    io::write_all(STDOUT_FILENO, b"\n");
+}
+
+fn line(name: &[u8], a: u64, b: u64) {
+    io::write_all(STDOUT_FILENO, name);
+    number(a);
+    number(b);
+    end();
+}
+
+fn read(name: &[u8], bytes: &[u8]) {
+    let parsed = text::parse_string(bytes);
+    let answer = parsed.answer;
+    match answer {
+        Parsing::Read => line(name, 0, 0),
+        Parsing::WrongLength(length) => line(name, 1, length as u64),
+        Parsing::BadByte(index) => line(name, 2, index as u64),
+    }
+}
+
+fn open(name: &[u8], clues: [i32; 81]) {
+    let opened = Board::new(clues);
+    let answer = opened.answer;
+    match answer {
+        Opening::Opened => line(name, 0, 0),
+        Opening::BadClue(cell) => line(name, 3, cell as u64),
+    }
+}
+
+fn clues_of(bytes: &[u8]) -> [i32; 81] {
+    let parsed = text::parse_string(bytes);
+    parsed.clues
+}
+
+fn fresh(bytes: &[u8]) -> Board {
+    let opened = Board::new(clues_of(bytes));
+    opened.board
+}
+
+fn with_clue(clues: [i32; 81], cell: usize, clue: i32) -> [i32; 81] {
+    let mut put = clues;
+    if cell < 81 {
+        put[cell] = clue;
+    }
+    put
+}
+
+fn mask(name: &[u8], board: Board, cell: u32) {
+    match board.cell_mask(cell) {
+        CellMask::Mask(mask) => line(name, cell as u64, mask as u64),
+        CellMask::BadClue(bad) => line(name, 3, bad as u64),
+        CellMask::BadMask(bad) => line(name, 9, bad as u64),
+        CellMask::NoCell(bad) => line(name, 5, bad as u64),
+    }
+}
+
+fn row_masks(name: &[u8], board: Board) {
+    mask(name, board, 0);
+    mask(name, board, 1);
+    mask(name, board, 2);
+    mask(name, board, 3);
+    mask(name, board, 4);
+    mask(name, board, 5);
+    mask(name, board, 6);
+    mask(name, board, 7);
+    mask(name, board, 8);
+}
+
+fn fewer(before: Board, after: Board) -> u64 {
+    let masks = before.masks;
+    let left = after.masks;
+    let many = cells::total(masks);
+    let few = cells::total(left);
+    if few <= many {
+        return (many - few) as u64;
+    }
+    729
+}
+
+fn flag(made: bool) -> u64 {
+    if made {
+        return 1;
+    }
+    0
+}
+
+fn progress(answer: Stepping) -> u64 {
+    match answer {
+        Stepping::Made(made) => flag(made),
+        Stepping::BadClue(_) => 3,
+        Stepping::BadMask(_) => 9,
+        Stepping::NoStep(_) => 20,
+    }
+}
+
+// The step on the board; the board after it.
+fn take(name: &[u8], which: u8, board: Board) -> Board {
+    let done = step(which, board);
+    let answer = done.answer;
+    let after = done.board;
+    io::write_all(STDOUT_FILENO, name);
+    number(which as u64);
+    number(progress(answer));
+    number(fewer(board, after));
+    end();
+    after
+}
+
+// Every pass, each on the same board.
+fn passes(name: &[u8], board: Board) {
+    take(name, 1, board);
+    take(name, 2, board);
+    take(name, 3, board);
+    take(name, 7, board);
+    take(name, 8, board);
+    take(name, 9, board);
+    take(name, 10, board);
+    take(name, 11, board);
+    take(name, 13, board);
+}
+
+fn settle(name: &[u8], board: Board) {
+    let done = step(12, board);
+    let sweeps = done.sweeps;
+    let removed = done.removed;
+    line(name, sweeps as u64, removed as u64);
+}
+
+fn report(cell: u8, digit: u8) {
+    number(cell as u64);
+    number(digit as u64);
+}
+
+// How many reports, and the first three.
+fn reports(name: &[u8], which: u8, board: Board) {
+    let done = step(which, board);
+    let found = done.reports;
+    io::write_all(STDOUT_FILENO, name);
+    number(found.count as u64);
+    let cells = found.cells;
+    let digits = found.digits;
+    report(cells[0], digits[0]);
+    report(cells[1], digits[1]);
+    report(cells[2], digits[2]);
+    end();
+}
+
+fn verify(name: &[u8], grid: [i32; 81]) {
+    io::write_all(STDOUT_FILENO, name);
+    if grid::verify_solution(&grid) {
+        io::write_all(STDOUT_FILENO, b" yes\n");
+    } else {
+        io::write_all(STDOUT_FILENO, b" no\n");
+    }
+}
+
+// The record in eight lent bytes that were 255, and the first four of them.
+fn record(name: &[u8], board: Board) {
+    let mut bytes = [255u8; 8];
+    match write_record(board, &mut bytes) {
+        RecordWriting::Written(length) => line(name, 0, length as u64),
+        RecordWriting::BadClue(cell) => line(name, 3, cell as u64),
+        RecordWriting::BadMask(cell) => line(name, 9, cell as u64),
+        RecordWriting::TooShort(lent) => line(name, 6, lent as u64),
+    }
+    io::write_all(STDOUT_FILENO, name);
+    report(bytes[0], bytes[1]);
+    report(bytes[2], bytes[3]);
+    end();
+}
+
+fn empty_grid() {
+    let dots = [b'.'; 81];
+    read(b"P1 read", &dots);
+    let board = fresh(&dots);
+    mask(b"P1 mask", board, 0);
+    mask(b"P1 mask", board, 40);
+    mask(b"P1 mask", board, 80);
+    take(b"P1 step", 4, board);
+    take(b"P1 step", 5, board);
+    take(b"P1 step", 6, board);
+    passes(b"P1 step", board);
+    settle(b"P1 settled", board);
+    record(b"P1 record", board);
+}
+
+fn stops() {
+    let dots = [b'.'; 81];
+    read(b"P2 read", &dots[..80]);
+    let mut last = dots;
+    last[80] = b'a';
+    read(b"P3 read", &last);
+    open(b"P4 open", with_clue([0; 81], 0, -1));
+    open(b"P4 open", with_clue([0; 81], 80, 10));
+}
+
+fn one_open() {
+    let board = fresh(
+        b".23456789456789123789123456231564897564897231897231564312645978645978312978312645",
+    );
+    mask(b"P5 mask", board, 0);
+    reports(b"P5 naked", 4, board);
+    reports(b"P5 hidden", 5, board);
+}
+
+fn filled() {
+    let a = clues_of(
+        b"123456789456789123789123456231564897564897231897231564312645978645978312978312645",
+    );
+    verify(b"P6 verify A", a);
+    verify(b"P6 verify 0", with_clue(a, 80, 0));
+    verify(b"P6 verify 10", with_clue(a, 80, 10));
+    verify(b"P6 verify -2147483648", with_clue(a, 80, -2147483648));
+    verify(b"P6 verify exchanged", with_clue(with_clue(a, 0, 2), 1, 1));
+}
+
+fn six_open() {
+    let board = fresh(
+        b"..3456789456789123789123456..1564897564897231897231564..2645978645978312978312645",
+    );
+    mask(b"P7 mask", board, 0);
+    mask(b"P7 mask", board, 1);
+    mask(b"P7 mask", board, 27);
+    mask(b"P7 mask", board, 28);
+    mask(b"P7 mask", board, 54);
+    mask(b"P7 mask", board, 55);
+    passes(b"P7 step", board);
+}
+
+fn pairs() {
+    let board = fresh(
+        b"...4567893.......................................................................",
+    );
+    mask(b"P8 mask", board, 0);
+    mask(b"P8 mask", board, 1);
+    mask(b"P8 mask", board, 2);
+    let after = take(b"P8 step", 1, board);
+    mask(b"P8 mask", after, 2);
+    take(b"P9 step", 6, board);
+}
+
+fn lines() {
+    let board = fresh(
+        b".........456......789............................................................",
+    );
+    let after = take(b"P10 step", 2, board);
+    take(b"P10 step", 2, after);
+    settle(b"P10 settled", board);
+}
+
+fn conflict() {
+    let text = b"55...............................................................................";
+    open(b"P11 open", clues_of(text));
+    let board = fresh(text);
+    row_masks(b"P11 mask", board);
+    let done = step(12, board);
+    row_masks(b"P11 settled", done.board);
+}
+
+fn main() {
+    empty_grid();
+    stops();
+    one_open();
+    filled();
+    six_open();
+    pairs();
+    lines();
+    conflict();
+}
