@@ -1,0 +1,7 @@
+pub mod Decimals
+pub mod Joins
+pub mod Cards
+pub mod Printed
+mod CellBytes
+mod Newlines
+mod Refusals

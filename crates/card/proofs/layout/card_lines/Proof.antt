@@ -1,0 +1,84 @@
+-- `card::layout::card_lines` meets its contract. Assumes nothing.
+use mathlib.Core.Path.{ap, _∙_}
+use mathlib.Core.List.{[], _++_}
+use Rattle.card.specs.Cards.{cardBytes, verdictWord}
+use Rattle.card.specs.Decimals.{decimal}
+use Rattle.card.specs.Layout.{lineOf, cluesLabel, reportedLabel, sweepsLabel, removedLabel, verdictLabel, gridLabel, gridBytes}
+use Rattle.card.specs.Lines.{linesOf, append}
+use Rattle.card.proofs.Joins.{joined}
+use borrow.Author.Needs.{needs}
+use Rattle.card.proofs.layout.card_lines.Statement.{statement}
+use Rattle.card.proofs.layout.card_lines.Tie as tie
+
+new-requires : tie.Need-new-requires
+new-requires c κs = search needs
+
+slice-aggregate-number-line : tie.Need-slice-aggregate-number-line
+slice-aggregate-number-line c = search needs
+
+number-line-requires : tie.Need-number-line-requires
+number-line-requires c κs = search needs
+
+slice-aggregate-number-line-2 : tie.Need-slice-aggregate-number-line-2
+slice-aggregate-number-line-2 c = search needs
+
+number-line-requires-2 : tie.Need-number-line-requires-2
+number-line-requires-2 c κs = search needs
+
+slice-aggregate-number-line-3 : tie.Need-slice-aggregate-number-line-3
+slice-aggregate-number-line-3 c = search needs
+
+number-line-requires-3 : tie.Need-number-line-requires-3
+number-line-requires-3 c κs = search needs
+
+slice-aggregate-number-line-4 : tie.Need-slice-aggregate-number-line-4
+slice-aggregate-number-line-4 c = search needs
+
+number-line-requires-4 : tie.Need-number-line-requires-4
+number-line-requires-4 c κs = search needs
+
+verdict-line-requires : tie.Need-verdict-line-requires
+verdict-line-requires c κs = search needs
+
+grid-line-requires : tie.Need-grid-line-requires
+grid-line-requires c κs = search needs
+
+returns : tie.Need-returns
+unfolding cardBytes
+returns c =
+    let verdict = c .before .before in
+    let removed = verdict .before in
+    let sweeps = removed .before .before in
+    let reported = sweeps .before .before in
+    let clues = reported .before .before in
+    let start = clues .before .before in
+    let card = start .before .before .args .card in
+    let a = lineOf cluesLabel (decimal (card .clues)) in
+    let b = lineOf reportedLabel (decimal (card .reported)) in
+    let d = lineOf sweepsLabel (decimal (card .sweeps)) in
+    let e = lineOf removedLabel (decimal (card .removed)) in
+    let f = lineOf verdictLabel (verdictWord (card .verdict)) in
+    let g = lineOf gridLabel (gridBytes (card .masks)) in
+    joined (a ++ b ++ d ++ e ++ f) g (linesOf [])
+    (joined (a ++ b ++ d ++ e) f (linesOf [])
+    (joined (a ++ b ++ d) e (linesOf [])
+    (joined (a ++ b) d (linesOf [])
+    (joined a b (linesOf []) (clues .number-line .ensures ∙ ap (append a) (start .new .ensures)) (reported .number-line2 .ensures))
+    (sweeps .number-line3 .ensures)) (removed .number-line4 .ensures)) (verdict .verdict-line .ensures)) (c .grid-line .ensures)
+
+pub card-lines-spec : {M : Type 1} → statement M
+card-lines-spec =
+    tie.close
+    (tie.spec
+    new-requires
+    slice-aggregate-number-line
+    number-line-requires
+    slice-aggregate-number-line-2
+    number-line-requires-2
+    slice-aggregate-number-line-3
+    number-line-requires-3
+    slice-aggregate-number-line-4
+    number-line-requires-4
+    verdict-line-requires
+    grid-line-requires
+    returns)

@@ -1,0 +1,24 @@
+-- `card::layout::number_line` meets its contract. Assumes nothing.
+use Rattle.card.specs.Decimals.{decimal}
+use Rattle.card.proofs.Joins.{line-joined}
+use borrow.Author.Needs.{needs}
+use Rattle.card.proofs.layout.number_line.Statement.{statement}
+use Rattle.card.proofs.layout.number_line.Tie as tie
+
+push-word-requires : tie.Need-push-word-requires
+push-word-requires c κs = search needs
+
+push-number-requires : tie.Need-push-number-requires
+push-number-requires c κs = search needs
+
+push-requires : tie.Need-push-requires
+push-requires c κs = search needs
+
+returns : tie.Need-returns
+returns c =
+    let a = c .before .before .before .before .args in
+    line-joined (a .label .now) (decimal (a .n)) (a .lines) (c .before .before .push-word .ensures) (c .before .push-number .ensures) (c .push .ensures)
+
+pub number-line-spec : {M : Type 1} → statement M
+number-line-spec =
+    tie.close (tie.spec push-word-requires push-number-requires push-requires returns)

@@ -1,0 +1,34 @@
+-- `card::layout::verdict_line` meets its contract. Assumes nothing.
+use Rattle.card.specs.Cards.{verdictWord}
+use Rattle.card.specs.Layout.{verdictLabel}
+use Rattle.card.proofs.Joins.{line-joined}
+use borrow.Author.Needs.{needs}
+use Rattle.card.proofs.layout.verdict_line.Statement.{statement}
+use Rattle.card.proofs.layout.verdict_line.Tie as tie
+
+slice-aggregate-push-word : tie.Need-slice-aggregate-push-word
+slice-aggregate-push-word c = search needs
+
+push-word-requires : tie.Need-push-word-requires
+push-word-requires c κs = search needs
+
+push-verdict-requires : tie.Need-push-verdict-requires
+push-verdict-requires c κs = search needs
+
+push-requires : tie.Need-push-requires
+push-requires c κs = search needs
+
+returns : tie.Need-returns
+returns c =
+    let a = c .before .before .before .before .args in
+    line-joined verdictLabel (verdictWord (a .verdict)) (a .lines) (c .before .before .push-word .ensures) (c .before .push-verdict .ensures) (c .push .ensures)
+
+pub verdict-line-spec : {M : Type 1} → statement M
+verdict-line-spec =
+    tie.close
+    (tie.spec
+    slice-aggregate-push-word
+    push-word-requires
+    push-verdict-requires
+    push-requires
+    returns)

@@ -1,0 +1,77 @@
+-- `card::lines::push_grid` meets its contract. The invariant: the cells that are left still make the whole grid. Assumes nothing.
+use mathlib.Core.Path.{_≡_, sym, ap, _∙_}
+use Prim.Native.Nat.{ℕ, _-_}
+use mathlib.Core.List.{List}
+use native.Mathlib.Omega.{arith}
+use borrow.Author.Needs.{needs}
+use Rattle.grid.specs.Cells.{cells}
+use Rattle.steps.specs.Boards.{at}
+use Rattle.steps.specs.Loops.{each, range}
+use Rattle.techniques.proofs.Loops.{turned, ended}
+use Rattle.card.specs.declared.lines.Lines.{Lines}
+use Rattle.card.specs.Layout.{cellByte, gridBytes}
+use Rattle.card.specs.Lines.{pushed, append}
+use Rattle.card.proofs.Joins.{append-each}
+use Rattle.card.proofs.lines.push_grid.Statement.{statement}
+use Rattle.card.proofs.lines.push_grid.Tie as tie
+
+-- one turn of the loop
+abbrev turn : List ℕ → ℕ → Lines → Lines
+turn m c q = pushed q (cellByte (at m c))
+
+abbrev Inv-loop : tie.InvT-loop
+Inv-loop masks longer₀ cell₀ longer cell =
+    each (turn masks) (range (81 - cell) cell) longer ≡ append (gridBytes masks) longer₀
+
+abbrev μ-loop : tie.MeasureT-loop
+μ-loop masks longer₀ cell₀ longer cell = 81 - cell
+
+loop-holds : tie.Need-loop-holds Inv-loop μ-loop
+unfolding cells
+loop-holds c = sym (append-each (λ i. cellByte (at (c .args .masks .now) i)) cells (c .args .lines))
+
+mul-cell-byte : tie.Need-mul-cell-byte Inv-loop μ-loop
+mul-cell-byte c = omega arith
+
+element-copy-out-cell-byte : tie.Need-element-copy-out-cell-byte Inv-loop μ-loop
+element-copy-out-cell-byte c = omega arith
+
+cell-byte-requires : tie.Need-cell-byte-requires Inv-loop μ-loop
+cell-byte-requires c κs = search needs
+
+push-requires : tie.Need-push-requires Inv-loop μ-loop
+push-requires c κs = search needs
+
+add-cell : tie.Need-add-cell Inv-loop μ-loop
+add-cell c = omega arith
+
+loop-less : tie.Need-loop-less Inv-loop μ-loop
+loop-less c = omega arith
+
+loop-again : tie.Need-loop-again Inv-loop μ-loop
+loop-again c =
+    let l = c .before .before .before .before in
+    let masks = l .before .args .masks .now in
+    turned (turn masks) 81 (l .loop .cell) (l .loop .longer) (c .before .before .before .loop-test .taken)
+    (c .push .ensures ∙ ap (pushed (l .loop .longer)) (c .before .cell-byte .ensures)) (l .loop .inv)
+
+returns : tie.Need-returns Inv-loop μ-loop
+returns c =
+    let l = c .before in
+    ended (turn (l .before .args .masks .now)) 81 (l .loop .cell) (l .loop .longer) (c .loop-test .left) (l .loop .inv)
+
+pub push-grid-spec : {M : Type 1} → statement M
+push-grid-spec =
+    tie.close
+    (tie.spec
+    Inv-loop
+    μ-loop
+    loop-holds
+    mul-cell-byte
+    element-copy-out-cell-byte
+    cell-byte-requires
+    push-requires
+    add-cell
+    loop-less
+    loop-again
+    returns)

@@ -1,0 +1,56 @@
+-- `card::lines::push_word` meets its contract. The invariant: the bytes from i on still make all of the word. Assumes nothing.
+use mathlib.Core.Path.{_≡_, refl, sym, ap, _∙_}
+use Prim.Native.Nat.{_-_, _+_}
+use native.Mathlib.Omega.{arith}
+use borrow.Author.Needs.{needs}
+use lib.ListN.{length, drop}
+use Rattle.card.specs.Lines.{append}
+use Rattle.card.proofs.Joins.{word-on, word-end}
+use Rattle.card.proofs.lines.push_word.Statement.{statement}
+use Rattle.card.proofs.lines.push_word.Tie as tie
+
+abbrev Inv-loop : tie.InvT-loop
+Inv-loop word longer₀ i₀ longer i = append (drop i word) longer ≡ append word longer₀
+
+abbrev μ-loop : tie.MeasureT-loop
+μ-loop word longer₀ i₀ longer i = length word - i
+
+loop-holds : tie.Need-loop-holds Inv-loop μ-loop
+loop-holds c = refl
+
+shared-slice-read-push : tie.Need-shared-slice-read-push Inv-loop μ-loop
+shared-slice-read-push c = omega arith
+
+push-requires : tie.Need-push-requires Inv-loop μ-loop
+push-requires c κs = search needs
+
+add-i : tie.Need-add-i Inv-loop μ-loop
+add-i c = omega arith
+
+loop-less : tie.Need-loop-less Inv-loop μ-loop
+loop-less c = omega arith
+
+loop-again : tie.Need-loop-again Inv-loop μ-loop
+loop-again c =
+    let l = c .before .before .before in
+    let word = l .before .before .args .word .now in
+    ap (append (drop (l .loop .i + 1) word)) (c .push .ensures) ∙ word-on word (l .loop .i) (l .loop .longer) (c .before .before .loop-test .taken) ∙ l .loop .inv
+
+returns : tie.Need-returns Inv-loop μ-loop
+returns c =
+    let l = c .before in
+    sym (word-end (l .before .before .args .word .now) (l .loop .i) (l .loop .longer) (c .loop-test .left)) ∙ l .loop .inv
+
+pub push-word-spec : {M : Type 1} → statement M
+push-word-spec =
+    tie.close
+    (tie.spec
+    Inv-loop
+    μ-loop
+    loop-holds
+    shared-slice-read-push
+    push-requires
+    add-i
+    loop-less
+    loop-again
+    returns)

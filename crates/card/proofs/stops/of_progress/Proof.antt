@@ -1,0 +1,34 @@
+-- `card::stops::of_progress` meets its contract, case by case. Assumes nothing.
+use mathlib.Core.Path.{sym, ap}
+use Prim.Native.Nat.{ℕ}
+use lib.IntN.{ℤ}
+use borrow.Author.Needs.{needs}
+use Rattle.progress.specs.declared.Progress.{Progress}
+use Rattle.progress.specs.Answers.{progressAnswer}
+use Rattle.card.specs.Answers.{stopIn}
+use Rattle.card.proofs.stops.of_progress.Statement.{statement}
+use Rattle.card.proofs.stops.of_progress.Tie as tie
+
+abbrev read : Progress → ℕ × ℤ
+read a = stopIn (progressAnswer a)
+
+enum-told : tie.Need-enum-told
+enum-told c = search needs
+
+enum-known-answer : tie.Need-enum-known-answer
+enum-known-answer c = search needs
+
+enum-known-answer-2 : tie.Need-enum-known-answer-2
+enum-known-answer-2 c = search needs
+
+returns : tie.Need-returns
+returns c = sym (ap read (c .enum-told .given .1))
+
+returns-2 : tie.Need-returns-2
+returns-2 c = sym (ap read (c .before .answer .given .1))
+
+returns-3 : tie.Need-returns-3
+returns-3 c = sym (ap read (c .before .answer2 .given .1))
+
+pub of-progress-spec : {M : Type 1} → statement M
+of-progress-spec = tie.close (tie.spec enum-told enum-known-answer enum-known-answer-2 returns returns-2 returns-3)

@@ -1,0 +1,28 @@
+-- `card::stops::of_reading` meets its contract, case by case. Assumes nothing.
+use mathlib.Core.Path.{sym, ap}
+use Prim.Native.Nat.{ℕ}
+use lib.IntN.{ℤ}
+use Rattle.board.specs.Boards.{noBoard}
+use Rattle.card.specs.declared.reading.Reading.{Reading}
+use Rattle.card.specs.Answers.{stopIn, readingAnswer}
+use borrow.Author.Needs.{needs}
+use Rattle.card.proofs.stops.of_reading.Statement.{statement}
+use Rattle.card.proofs.stops.of_reading.Tie as tie
+
+abbrev read : Reading → ℕ × ℤ
+read a = stopIn (readingAnswer a noBoard)
+
+enum-told : tie.Need-enum-told
+enum-told c = search needs
+
+enum-known-answer : tie.Need-enum-known-answer
+enum-known-answer c = search needs
+
+returns : tie.Need-returns
+returns c = sym (ap read (c .enum-told .given .1))
+
+returns-2 : tie.Need-returns-2
+returns-2 c = sym (ap read (c .before .answer .given .1))
+
+pub of-reading-spec : {M : Type 1} → statement M
+of-reading-spec = tie.close (tie.spec enum-told enum-known-answer returns returns-2)

@@ -1,0 +1,79 @@
+-- The card (module 15): what stands on it, and its bytes.
+use mathlib.Core.Bool.{cond}
+use mathlib.Core.List.{List, [], _∷_, _++_}
+use Prim.Native.Nat.{ℕ, _-_}
+use lib.Dec.{eqb}
+use lib.IntN.{ℤ}
+use lib.ListN.{length, getD, take}
+use Rattle.candidates.specs.Answer.{Answer, gives, stop}
+use Rattle.grid.specs.Cells.{cells}
+use Rattle.steps.specs.Boards.{givensOf, fresh}
+use Rattle.steps.specs.Calls.{advancedCall, settling, outcome}
+use Rattle.board.specs.Boards.{clueCount, verdictOf}
+use Rattle.board.specs.Boards as B
+use Rattle.board.specs.Texts.{parseOf}
+use Rattle.card.specs.declared.layout.Card.{Card}
+use Rattle.card.specs.declared.layout.Verdict.{Verdict}
+use Rattle.card.specs.declared.layout.Verdict.the-variants as verdict
+use Rattle.card.specs.Decimals.{decimal}
+use Rattle.card.specs.Layout.{lineOf, cluesLabel, reportedLabel, sweepsLabel, removedLabel, verdictLabel, gridLabel, gridBytes, refusalBytes}
+
+-- ---- what stands on a card
+
+-- how many bytes the text has: "drops one final newline (byte 10)"
+abbrev pub textLength : List ℕ → ℕ
+textLength input = cond (eqb (getD input (length input - 1) 0) 10) (length input - 1) (length input)
+
+abbrev pub textIn : List ℕ → List ℕ
+textIn input = take (textLength input) input
+
+abbrev pub verdictIn : B.Verdict → Verdict
+verdictIn B.Dead = verdict.Dead
+verdictIn B.Finished = verdict.Finished
+verdictIn B.Open = verdict.Open
+
+-- "clues; singles reported by `apply_advanced_techniques` on the fresh board; settling from fresh; verdict of the settled board; there each cell's only digit": g is what the cells are given, and f the fresh masks
+abbrev pub cardFrom : List ℕ → List ℕ → Card
+cardFrom g f =
+    let settled = outcome settling g f in
+    record {
+      clues = clueCount g cells;
+      reported = length (outcome advancedCall g f .reports);
+      sweeps = settled .sweeps;
+      removed = settled .removed;
+      verdict = verdictIn (verdictOf (settled .masks));
+      masks = settled .masks;
+    }
+
+unfoldable pub cardFor : List ℤ → Card
+cardFor clues = cardFrom (givensOf clues) (fresh (givensOf clues))
+
+-- the card of the clues, or the stop of the reader
+abbrev pub cardRead : Answer (List ℤ) → Answer Card
+cardRead (gives clues) = gives (cardFor clues)
+cardRead (stop n z) = stop n z
+
+unfoldable pub cardOf : List ℕ → Answer Card
+cardOf input = cardRead (parseOf (textIn input))
+
+-- ---- its bytes
+
+-- "dead", "finished", "open"
+abbrev pub verdictWord : Verdict → List ℕ
+verdictWord verdict.Dead = 100 ∷ 101 ∷ 97 ∷ 100 ∷ []
+verdictWord verdict.Finished = 102 ∷ 105 ∷ 110 ∷ 105 ∷ 115 ∷ 104 ∷ 101 ∷ 100 ∷ []
+verdictWord verdict.Open = 111 ∷ 112 ∷ 101 ∷ 110 ∷ []
+
+unfoldable pub cardBytes : Card → List ℕ
+cardBytes card =
+    lineOf cluesLabel (decimal (card .clues))
+    ++ lineOf reportedLabel (decimal (card .reported))
+    ++ lineOf sweepsLabel (decimal (card .sweeps))
+    ++ lineOf removedLabel (decimal (card .removed))
+    ++ lineOf verdictLabel (verdictWord (card .verdict))
+    ++ lineOf gridLabel (gridBytes (card .masks))
+
+-- "prints the lines below, or `refused N P`"
+abbrev pub printed : Answer Card → List ℕ
+printed (gives card) = cardBytes card
+printed (stop n z) = refusalBytes (n, z)

@@ -1,0 +1,5 @@
+pub mod Decimals
+pub mod Layout
+pub mod Lines
+pub mod Cards
+pub mod Answers
