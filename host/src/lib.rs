@@ -10,11 +10,21 @@ pub mod sides;
 
 pub type Clues = [i32; 81];
 pub type Masks = [u16; 81];
+/// Room for 324 reports, two bytes each.
+pub type ReportBytes = [u8; 648];
+type Answer = [i64; 4];
 
 extern "C" {
-    fn sudoku_verify(grid: *const [i32; 81]) -> bool;
-    fn sudoku_set(call: u8, mask: u16, digit: i32, answer: *mut [i64; 4]);
-    fn sudoku_next(mask: u16, place: u8, answer: *mut [i64; 4]);
+    fn sudoku_verify(grid: *const Clues) -> bool;
+    fn sudoku_set(call: u8, mask: u16, digit: i32, answer: *mut Answer);
+    fn sudoku_next(mask: u16, place: u8, answer: *mut Answer);
+    fn sudoku_read(text: *const u8, length: usize, clues: *mut Clues, answer: *mut Answer);
+    fn sudoku_open(clues: *const Clues, masks: *mut Masks, answer: *mut Answer);
+    fn sudoku_ask(question: u8, cell: u32, clues: *const Clues, masks: *const Masks, answer: *mut Answer);
+    fn sudoku_original_puzzle(clues: *const Clues, masks: *const Masks, puzzle: *mut Clues, answer: *mut Answer);
+    fn sudoku_get_candidates(clues: *const Clues, masks: *const Masks, candidates: *mut Masks, answer: *mut Answer);
+    fn sudoku_step(step: u8, clues: *const Clues, masks: *mut Masks, reports: *mut ReportBytes, answer: *mut Answer);
+    fn sudoku_run(steps: *const u8, length: usize, clues: *const Clues, masks: *mut Masks, answer: *mut Answer);
 }
 
 /// A refusal: the stop's number and what stands beside it.
@@ -23,6 +33,16 @@ pub struct Stop {
     pub number: i64,
     pub detail: i64,
 }
+
+/// The four numbers that a call writes: its two values, or the stop.
+fn answered(call: impl FnOnce(&mut Answer)) -> Result<(i64, i64), Stop> {
+    let mut answer = [0; 4];
+    call(&mut answer);
+    let [number, detail, value, second] = answer;
+    if number == 0 { Ok((value, second)) } else { Err(Stop { number, detail }) }
+}
+
+// ---- the candidate set
 
 /// The calls of the candidate set, by their numbers.
 #[derive(Clone, Copy, Debug)]
@@ -46,11 +66,6 @@ pub enum SetCall {
 pub struct SetAnswer {
     pub answer: Result<i64, Stop>,
     pub mask: u16,
-}
-
-pub fn verify(grid: &Clues) -> bool {
-    // SAFETY: a reference to 81 numbers is what the export reads.
-    unsafe { sudoku_verify(grid) }
 }
 
 pub fn set(call: SetCall, mask: u16, digit: i32) -> SetAnswer {
@@ -78,4 +93,55 @@ pub fn digits(mask: u16) -> Vec<i32> {
         found.push(digit as i32);
         (place, rest) = (after as u8, left as u16);
     }
+}
+
+// ---- grids, texts and boards: what is lent keeps its contents beside a stop
+// SAFETY of each call: the references have the lengths that the export states and do not overlap, and it keeps none of them.
+
+pub fn verify(grid: &Clues) -> bool {
+    unsafe { sudoku_verify(grid) }
+}
+
+/// The clues of a text, and how many they are.
+pub fn read(text: &[u8], clues: &mut Clues) -> Result<i64, Stop> {
+    Ok(answered(|answer| unsafe { sudoku_read(text.as_ptr(), text.len(), clues, answer) })?.0)
+}
+
+/// The fresh masks of the clues, and how many clues there are.
+pub fn open(clues: &Clues, masks: &mut Masks) -> Result<i64, Stop> {
+    Ok(answered(|answer| unsafe { sudoku_open(clues, masks, answer) })?.0)
+}
+
+fn ask(question: u8, cell: u32, clues: &Clues, masks: &Masks) -> Result<i64, Stop> {
+    Ok(answered(|answer| unsafe { sudoku_ask(question, cell, clues, masks, answer) })?.0)
+}
+
+pub fn clue_count(clues: &Clues, masks: &Masks) -> Result<i64, Stop> {
+    ask(0, 0, clues, masks)
+}
+
+pub fn verdict(clues: &Clues, masks: &Masks) -> Result<&'static str, Stop> {
+    Ok(["dead", "finished", "open"][ask(1, 0, clues, masks)? as usize])
+}
+
+pub fn cell_mask(clues: &Clues, masks: &Masks, cell: u32) -> Result<u16, Stop> {
+    Ok(ask(2, cell, clues, masks)? as u16)
+}
+
+pub fn original_puzzle(clues: &Clues, masks: &Masks, puzzle: &mut Clues) -> Result<(), Stop> {
+    answered(|answer| unsafe { sudoku_original_puzzle(clues, masks, puzzle, answer) }).map(drop)
+}
+
+pub fn get_candidates(clues: &Clues, masks: &Masks, candidates: &mut Masks) -> Result<(), Stop> {
+    answered(|answer| unsafe { sudoku_get_candidates(clues, masks, candidates, answer) }).map(drop)
+}
+
+/// A board call by its step number: the flag and the number of reports; for settling the sweeps and the removed candidates.
+pub fn step(step: u8, clues: &Clues, masks: &mut Masks, reports: &mut ReportBytes) -> Result<(i64, i64), Stop> {
+    answered(|answer| unsafe { sudoku_step(step, clues, masks, reports, answer) })
+}
+
+/// The masks after a list of steps from the fresh board of the clues.
+pub fn run(steps: &[u8], clues: &Clues, masks: &mut Masks) -> Result<(), Stop> {
+    answered(|answer| unsafe { sudoku_run(steps.as_ptr(), steps.len(), clues, masks, answer) }).map(drop)
 }

@@ -28,3 +28,15 @@ pub fn verify(grid: &Clues) -> bool {
 pub fn fresh(clues: &Clues) -> Masks {
     opened(clues).masks()
 }
+
+pub fn with_masks(clues: &Clues, masks: &Masks) -> SudokuSolver {
+    let mut solver = opened(clues);
+    solver.set_masks(masks);
+    solver
+}
+
+/// What `get_candidates` hands out, as masks.
+pub fn candidates(solver: &SudokuSolver) -> Masks {
+    let rows = solver.get_candidates();
+    std::array::from_fn(|cell| rows[cell / 9][cell % 9].mask)
+}

@@ -377,11 +377,11 @@ impl Board {
     }
 
     fn cross_of(&mut self, digit: i32, lines: usize, pair: [usize; 2], across: fn(usize) -> usize) {
-        let inside = pair.map(|line| unit(lines + line));
+        // no step of this pair changes its own two lines
+        let held: Vec<usize> = pair.iter().flat_map(|line| self.all_holders(&unit(lines + line), digit)).map(across).collect();
         for c1 in 0..9 {
             for c2 in c1 + 1..9 {
-                let beside = |&cell: &usize| self.holds(cell, digit) && across(cell) != c1 && across(cell) != c2;
-                if inside.iter().flatten().any(|cell| beside(cell)) {
+                if held.iter().any(|&at| at != c1 && at != c2) {
                     continue;
                 }
                 for line in (0..9).filter(|line| !pair.contains(line)) {

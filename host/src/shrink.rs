@@ -17,11 +17,13 @@ pub fn shrunk(case: Case, fault: &dyn Fn(&Case) -> Option<String>) -> (Case, Str
 fn smaller(case: &Case) -> impl Iterator<Item = Case> + '_ {
     let steps = (0..case.steps.len()).map(|at| changed(case, |less| _ = less.steps.remove(at)));
     let others = (0..case.others.len()).map(|at| changed(case, |less| _ = less.others.remove(at)));
+    let numbers = (0..case.numbers.len()).map(|at| changed(case, |less| _ = less.numbers.remove(at)));
+    let masks = (0..case.masks.len()).map(|at| changed(case, |less| _ = less.masks.remove(at)));
     let clues = (0..81).filter(|&cell| case.clues[cell] != 0).map(|cell| changed(case, |less| less.clues[cell] = 0));
     let kept = (0..81).filter(|&cell| case.kept[cell] != 511).map(|cell| changed(case, |less| less.kept[cell] = 511));
     let digits = (0..81).flat_map(|cell| (0..9).map(move |place| (cell, 1 << place)));
     let digits = digits.filter(|&(cell, digit)| case.kept[cell] & digit == 0).map(|(cell, digit)| changed(case, |less| less.kept[cell] |= digit));
-    steps.chain(others).chain(clues).chain(kept).chain(digits)
+    steps.chain(others).chain(numbers).chain(masks).chain(clues).chain(kept).chain(digits)
 }
 
 fn changed(case: &Case, change: impl FnOnce(&mut Case)) -> Case {

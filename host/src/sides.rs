@@ -6,8 +6,12 @@ use crate::{Clues, Masks, Stop};
 
 /// update_candidates, naked pairs, box-line, X-wing, both singles, apply_advanced_techniques; the chain pass.
 pub const PORTED: [u8; 8] = [0, 1, 2, 3, 4, 5, 6, CHAIN];
+/// The wide passes and settling.
+pub const WIDE: [u8; 6] = [7, 8, 9, 10, 11, SETTLING];
 /// All calls but the chain pass.
 pub const SOUND: [u8; 13] = [0, 1, 2, 3, 4, 5, 6, 7, 8, 9, 10, 11, SETTLING];
+/// Every step number.
+pub const STEPS: [u8; 14] = [0, 1, 2, 3, 4, 5, 6, 7, 8, 9, 10, 11, SETTLING, CHAIN];
 pub const SETTLING: u8 = 12;
 pub const CHAIN: u8 = 13;
 
@@ -21,9 +25,7 @@ pub struct Original(SudokuSolver);
 
 impl Side for Original {
     fn start(clues: &Clues, masks: &Masks) -> Self {
-        let mut solver = oracle::opened(clues);
-        solver.set_masks(masks);
-        Original(solver)
+        Original(oracle::with_masks(clues, masks))
     }
 
     fn step(&mut self, number: u8) -> Result<Outcome, Stop> {
@@ -63,5 +65,41 @@ impl Side for Plain {
             self.masks = outcome.masks;
         }
         answer
+    }
+}
+
+/// The engine itself, by its exports.
+pub struct Engine {
+    clues: Clues,
+    masks: Masks,
+}
+
+/// What was lent holds something else than the page says: no stop of the engine's.
+const BROKEN: Stop = Stop { number: i64::MIN, detail: 0 };
+/// What reports are lent holding.
+const LENT: u8 = 0xA5;
+
+impl Side for Engine {
+    fn start(clues: &Clues, masks: &Masks) -> Self {
+        Engine { clues: *clues, masks: *masks }
+    }
+
+    fn step(&mut self, number: u8) -> Result<Outcome, Stop> {
+        let before = self.masks;
+        let mut bytes = [LENT; 648];
+        let answer = crate::step(number, &self.clues, &mut self.masks, &mut bytes);
+        let (value, second) = match answer {
+            Err(_) if self.masks != before || bytes != [LENT; 648] => return Err(BROKEN),
+            Err(stop) => return Err(stop),
+            Ok(values) => values,
+        };
+        let counts = number == SETTLING;
+        let used = if counts { 0 } else { second as usize };
+        let reports = bytes.chunks(2).take(used).map(|report| (report[0] as usize, report[1] as i32)).collect();
+        if bytes[2 * used..].iter().any(|&byte| byte != 0) || !counts && !(0..2).contains(&value) {
+            return Err(BROKEN);
+        }
+        let (sweeps, removed) = if counts { (value as usize, second as usize) } else { (0, 0) };
+        Ok(Outcome { flag: !counts && value == 1, reports, sweeps, removed, masks: self.masks })
     }
 }

@@ -1,2 +1,5 @@
 mod Calls
 mod Numbers
+mod Fitting
+mod Cases
+mod StepNumbers

@@ -4,6 +4,8 @@ use mathlib.Core.List.{List, [], _∷_}
 use mathlib.Core.Option.{Option, none, some}
 use Prim.Native.Nat.{ℕ}
 use lib.IntN.{ℤ, pos, negsuc}
+use mir.Syntax.{w64}
+use mir.Val.{SFits}
 use Rattle.candidates.specs.Answer.{Answer, gives, stop}
 
 abbrev pub four : ℤ → ℤ → ℤ → ℤ → List ℤ
@@ -24,8 +26,9 @@ coded number (stop n z) mask = refused n z mask
 abbrev pub testNumber : Bool → ℤ
 testNumber t = cond t (pos 1) (pos 0)
 
-abbrev pub noNumber : Unit {0} → ℤ
-noNumber t = pos 0
+-- a value that is no number, or stands elsewhere
+abbrev pub noNumber : {A : Type 0} → A → ℤ
+noNumber a = pos 0
 
 -- a digit, or 0 for none
 abbrev pub digitOr0 : Option ℤ → ℤ
@@ -35,3 +38,8 @@ digitOr0 (some z) = z
 -- a call number that stands for nothing: -1 and the number
 abbrev pub unknown : ℕ → List ℤ
 unknown k = four (negsuc 0) (pos k) (pos 0) (pos 0)
+
+-- what stands beside a stop, and the number of a value, fit an `i64`
+abbrev pub Fitting : {A : Type 0} → (A → ℤ) → Answer A → Type 0
+Fitting number (gives a) = SFits w64 (number a)
+Fitting number (stop n z) = SFits w64 z

@@ -1,2 +1,4 @@
 pub mod Codes
 pub mod Sets
+pub mod Boards
+pub mod Steps

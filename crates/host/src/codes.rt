@@ -1,6 +1,8 @@
 // Answers as four numbers: the stop or 0, what stands beside it, the value, the mask.
 ghost use mathlib.Core.Path.{_≡_};
 ghost use lib.IntN.{pos};
+ghost use mir.Syntax.{w64};
+ghost use mir.Val.{SFits};
 ghost use Rattle.candidates.specs.Sets.{newAnswer, presenceAnswer, insertionAnswer, onlyAnswer};
 ghost use Rattle.host.specs.Codes.{four, given, refused, coded, testNumber, noNumber, digitOr0, unknown};
 ghost use Rattle.host.specs.Sets.{newSet};
@@ -35,6 +37,14 @@ pub fn of_bad_digit(digit: i32, mask: u16) -> [i64; 4]
     ensures { λ r. ⌜ r ≡ refused 4 digit mask ⌝ }
 {
     [4, wide(digit), 0, mask as i64]
+}
+
+// A stop beside which a place stands.
+pub fn of_stop(stop: i64, place: usize) -> [i64; 4]
+    requires { ⌜ SFits w64 (pos place) ⌝ }
+    ensures { λ r. ⌜ r ≡ four stop (pos place) (pos 0) (pos 0) ⌝ }
+{
+    [stop, place as i64, 0, 0]
 }
 
 pub fn of_unknown(call: u8) -> [i64; 4]

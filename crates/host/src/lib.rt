@@ -2,10 +2,18 @@
 // Nothing is owed by a caller beyond the lengths of what it lends, and each answer fixes all that was lent.
 ghost use mathlib.Core.Path.{_≡_};
 ghost use Rattle.grid.specs.Fillings.{verified};
+ghost use Rattle.steps.specs.Calls.{refusal};
+ghost use Rattle.board.specs.Boards.{handed};
+ghost use Rattle.host.specs.Boards.{asked, checkCode, keptCheck, openCode, openMasks, readClues, readCode};
 ghost use Rattle.host.specs.Sets.{setCall, nextCall};
+ghost use Rattle.host.specs.Steps.{runCode, runMasks, stepCode, stepMasks, stepReports};
+use board::Board;
 
-pub mod codes;
-pub mod sets;
+mod accessors;
+mod boards;
+mod codes;
+mod sets;
+mod step_calls;
 
 // Whether 81 numbers are a correct filling.
 #[no_mangle]
@@ -29,4 +37,125 @@ pub extern "C" fn sudoku_next(mask: u16, place: u8, answer: &mut [i64; 4])
     ensures { λ _. ⌜ now (answer .exit) ≡ nextCall mask place ⌝ }
 {
     *answer = sets::next_call(mask, place);
+}
+
+// The clues of a text.
+#[no_mangle]
+pub extern "C" fn sudoku_read(text: &[u8], clues: &mut [i32; 81], answer: &mut [i64; 4])
+    ensures { λ _. ⌜ (now (answer .exit) ≡ readCode (now (text .entry))) × (now (clues .exit) ≡ readClues (now (text .entry)) (now (clues .entry))) ⌝ }
+{
+    let parsed = board::text::parse_string(text);
+    let parsing = parsed.answer;
+    let read = parsed.clues;
+    *answer = boards::of_parsing(parsing, read);
+    *clues = boards::read_into(parsing, read, *clues);
+}
+
+// The fresh masks of 81 clues.
+#[no_mangle]
+pub extern "C" fn sudoku_open(clues: &[i32; 81], masks: &mut [u16; 81], answer: &mut [i64; 4])
+    ensures { λ _. ⌜ (now (answer .exit) ≡ openCode (now (clues .entry))) × (now (masks .exit) ≡ openMasks (now (clues .entry)) (now (masks .entry))) ⌝ }
+{
+    let opened = Board::new(*clues);
+    let opening = opened.answer;
+    let board = opened.board;
+    *answer = boards::of_opening(opening, board);
+    *masks = boards::open_into(opening, board, *masks);
+}
+
+// A question to a board by its number; `cell` is the cell whose mask is asked for.
+#[no_mangle]
+pub extern "C" fn sudoku_ask(
+    question: u8,
+    cell: u32,
+    clues: &[i32; 81],
+    masks: &[u16; 81],
+    answer: &mut [i64; 4],
+)
+    ensures { λ _. ⌜ now (answer .exit) ≡ asked question (handed (now (clues .entry)) (now (masks .entry))) cell ⌝ }
+{
+    let board = Board {
+        clues: *clues,
+        masks: *masks,
+    };
+    *answer = accessors::ask(question, board, cell);
+}
+
+// The clues of a board.
+#[no_mangle]
+pub extern "C" fn sudoku_original_puzzle(
+    clues: &[i32; 81],
+    masks: &[u16; 81],
+    puzzle: &mut [i32; 81],
+    answer: &mut [i64; 4],
+)
+    ensures { λ _. ⌜ (now (answer .exit) ≡ checkCode (refusal (handed (now (clues .entry)) (now (masks .entry))))) × (now (puzzle .exit) ≡ keptCheck (refusal (handed (now (clues .entry)) (now (masks .entry)))) (now (clues .entry)) (now (puzzle .entry))) ⌝ }
+{
+    let board = Board {
+        clues: *clues,
+        masks: *masks,
+    };
+    let found = board.original_puzzle();
+    let check = found.answer;
+    let grid = found.clues;
+    *answer = accessors::of_check(check);
+    *puzzle = accessors::puzzle_into(check, grid, *puzzle);
+}
+
+// The masks of a board.
+#[no_mangle]
+pub extern "C" fn sudoku_get_candidates(
+    clues: &[i32; 81],
+    masks: &[u16; 81],
+    candidates: &mut [u16; 81],
+    answer: &mut [i64; 4],
+)
+    ensures { λ _. ⌜ (now (answer .exit) ≡ checkCode (refusal (handed (now (clues .entry)) (now (masks .entry))))) × (now (candidates .exit) ≡ keptCheck (refusal (handed (now (clues .entry)) (now (masks .entry)))) (now (masks .entry)) (now (candidates .entry))) ⌝ }
+{
+    let board = Board {
+        clues: *clues,
+        masks: *masks,
+    };
+    let found = board.get_candidates();
+    let check = found.answer;
+    let sets = found.masks;
+    *answer = accessors::of_check(check);
+    *candidates = accessors::candidates_into(check, sets, *candidates);
+}
+
+// A board call by its step number.
+#[no_mangle]
+pub extern "C" fn sudoku_step(
+    step: u8,
+    clues: &[i32; 81],
+    masks: &mut [u16; 81],
+    reports: &mut [u8; 648],
+    answer: &mut [i64; 4],
+)
+    ensures { λ _. ⌜ (now (answer .exit) ≡ stepCode step (handed (now (clues .entry)) (now (masks .entry)))) × (now (masks .exit) ≡ stepMasks step (handed (now (clues .entry)) (now (masks .entry)))) × (now (reports .exit) ≡ stepReports step (handed (now (clues .entry)) (now (masks .entry))) (now (reports .entry))) ⌝ }
+{
+    let written = step_calls::step(step, *clues, *masks, *reports);
+    let numbers = written.answer;
+    let left = written.masks;
+    let found = written.reports;
+    *answer = numbers;
+    *masks = left;
+    *reports = found;
+}
+
+// A list of steps from the fresh board of the clues.
+#[no_mangle]
+pub extern "C" fn sudoku_run(
+    steps: &[u8],
+    clues: &[i32; 81],
+    masks: &mut [u16; 81],
+    answer: &mut [i64; 4],
+)
+    ensures { λ _. ⌜ (now (answer .exit) ≡ runCode (now (clues .entry)) (now (steps .entry))) × (now (masks .exit) ≡ runMasks (now (clues .entry)) (now (steps .entry)) (now (masks .entry))) ⌝ }
+{
+    let done = calls::replay(*clues, steps);
+    let replaying = done.answer;
+    let board = done.board;
+    *answer = step_calls::of_replaying(replaying, board);
+    *masks = step_calls::run_into(replaying, board, *masks);
 }

@@ -2,7 +2,7 @@
 //!
 //!     compare --seed N --seconds S [--lists N]
 //!
-//! Runs until the seconds have passed (or, with --lists, until so many lists were compared). The status is 0 where no difference
+//! Runs until the seconds have passed (or, with --lists, until so many lists of ported calls were compared). The status is 0 where no difference
 //! was found; the last line says what was compared and how often. A difference is printed with its smallest case.
 
 use std::io::{IsTerminal, Write};
@@ -12,8 +12,8 @@ use sudoku_host::cases::{self, Case};
 use sudoku_host::oracle::{self, SudokuCandidateSet, SudokuSolver};
 use sudoku_host::random::Random;
 use sudoku_host::shrink::shrunk;
-use sudoku_host::sides::{Original, Plain};
-use sudoku_host::{digits, grids, plain, set, verify, SetAnswer, SetCall, Stop};
+use sudoku_host::sides::{Engine, Original, Plain, Side, CHAIN, PORTED};
+use sudoku_host::{digits, grids, plain, read, set, verify, Clues, SetAnswer, SetCall, Stop};
 
 struct Options {
     seed: u64,
@@ -28,13 +28,17 @@ struct Counts {
     texts: u64,
     lists: u64,
     calls: u64,
+    boards: u64,
+    damaged: u64,
+    runs: u64,
     pairs: u64,
 }
 
 impl std::fmt::Display for Counts {
     fn fmt(&self, out: &mut std::fmt::Formatter) -> std::fmt::Result {
-        let Counts { sets, grids, texts, lists, calls, pairs } = self;
-        write!(out, "{sets} set calls, {grids} filled grids, {texts} texts, {lists} lists of {calls} ported calls, {pairs} pairs of lists settled")
+        let Counts { sets, grids, texts, lists, calls, boards, damaged, runs, pairs } = self;
+        write!(out, "{sets} set calls, {grids} filled grids, {texts} texts, {lists} lists of {calls} ported calls, ")?;
+        write!(out, "{boards} boards through the wide passes, {damaged} damaged boards, {runs} runs of lists, {pairs} pairs of lists settled")
     }
 }
 
@@ -82,8 +86,11 @@ fn run(options: &Options, counts: &mut Counts) -> Result<(), String> {
         some_grids(&mut random, counts)?;
         some_texts(&mut random, counts)?;
         a_list(&cases::ported_case(&mut random), counts)?;
-        if round % 8 == 0 {
-            two_lists(&mut random, counts)?;
+        a_damaged_board(&mut random, counts)?;
+        match round % 4 {
+            0 | 2 => a_wide_board(&mut random, counts)?,
+            1 => two_lists(&mut random, counts)?,
+            _ => a_run(&mut random, counts)?,
         }
         round += 1;
         progress.show(counts);
@@ -179,47 +186,80 @@ fn some_grids(random: &mut Random, counts: &mut Counts) -> Result<(), String> {
     Ok(())
 }
 
+/// The engine and the plain implementation on any bytes; the original on what a `&str` can hold.
 fn some_texts(random: &mut Random, counts: &mut Counts) -> Result<(), String> {
     let text = grids::text(random);
+    let mut clues = [7; 81];
+    let ours = read(&text, &mut clues);
+    let plain = plain::read_text(&text);
+    counts.texts += 1;
+    let alike = match plain {
+        Ok(grid) => ours == Ok(counted(&grid)) && clues == grid,
+        Err(stop) => ours == Err(stop) && clues == [7; 81],
+    };
+    same(alike, || format!("text {text:?}: engine {ours:?}, plain {plain:?}"))?;
     let Ok(words) = std::str::from_utf8(&text) else { return Ok(()) };
     let theirs = SudokuSolver::parse_string(words);
-    let ours = plain::read_text(&text);
-    counts.texts += 1;
     let alike = match (&ours, &theirs) {
-        (Ok(clues), Ok(rows)) => *clues == oracle::flat(rows) && counted(clues) == oracle::opened(clues).clue_count(),
+        (Ok(count), Ok(rows)) => clues == oracle::flat(rows) && *count == oracle::opened(&clues).clue_count() as i64,
         (Err(stop), Err(message)) => message.ends_with(&format!(" {}", stop.detail)) && (stop.number == 1) == message.starts_with("Expected"),
         _ => false,
     };
-    same(alike, || format!("text {words:?}: plain {ours:?}, original {theirs:?}"))
+    same(alike, || format!("text {words:?}: engine {ours:?}, original {theirs:?}"))
 }
 
-fn counted(clues: &sudoku_host::Clues) -> usize {
-    clues.iter().filter(|&&clue| clue != 0).count()
+fn counted(clues: &Clues) -> i64 {
+    clues.iter().filter(|&&clue| clue != 0).count() as i64
 }
 
 // ---- lists of calls
 
 fn published(counts: &mut Counts) -> Result<(), String> {
     for text in grids::PUBLISHED {
-        for step in sudoku_host::sides::PORTED {
-            let steps = vec![step, 1, 2, 3, 4, 5, step];
-            a_list(&Case { clues: grids::of_text(text), kept: cases::EVERYTHING, steps, others: Vec::new() }, counts)?;
+        for step in PORTED {
+            a_list(&Case::fresh(grids::of_text(text), vec![step, 1, 2, 3, 4, 5, step]), counts)?;
         }
     }
     Ok(())
 }
 
+/// A list of ported calls on all three sides.
 fn a_list(case: &Case, counts: &mut Counts) -> Result<(), String> {
-    let fault = |case: &Case| cases::fresh_differs(case).or_else(|| cases::differ::<Original, Plain>(case));
     counts.lists += 1;
     counts.calls += case.steps.len() as u64;
-    sound(case, "original and plain", &fault)
+    sound(case, "fresh masks", &cases::fresh_differs)?;
+    sound(case, "accessors", &cases::accessors_differ)?;
+    sound(case, "engine and original", &cases::differ::<Engine, Original>)?;
+    sound(case, "original and plain", &cases::differ::<Original, Plain>)
+}
+
+/// The wide passes and settling, for which the original has no counterpart.
+fn a_wide_board(random: &mut Random, counts: &mut Counts) -> Result<(), String> {
+    counts.boards += 1;
+    sound(&cases::wide_case(random), "engine and plain", &cases::differ::<Engine, Plain>)
+}
+
+/// A board that may be refused: the stop and its cell; and a number that is no step's.
+fn a_damaged_board(random: &mut Random, counts: &mut Counts) -> Result<(), String> {
+    let case = cases::damaged_case(random);
+    counts.damaged += 1;
+    sound(&case, "engine and plain", &cases::differ::<Engine, Plain>)?;
+    sound(&case, "accessors", &cases::accessors_differ)?;
+    let number = random.within(CHAIN as usize + 1, 255) as u8;
+    let (clues, masks) = case.board();
+    let ours = Engine::start(&clues, &masks).step(number);
+    same(ours == Err(Stop { number: -1, detail: number as i64 }), || format!("step {number}: engine {ours:?}\n{case}"))
+}
+
+fn a_run(random: &mut Random, counts: &mut Counts) -> Result<(), String> {
+    counts.runs += 1;
+    sound(&cases::run_case(random), "a list at once and one by one", &cases::run_differs)
 }
 
 fn two_lists(random: &mut Random, counts: &mut Counts) -> Result<(), String> {
     let (case, filling) = cases::sound_case(random);
     counts.pairs += 1;
-    sound(&case, "demand 3 on plain", &|case| cases::unsound(case, filling.as_ref()))
+    sound(&case, "demand 3 on the engine", &|case| cases::unsound::<Engine>(case, filling.as_ref()))
 }
 
 fn sound(case: &Case, what: &str, fault: &dyn Fn(&Case) -> Option<String>) -> Result<(), String> {

@@ -2,8 +2,9 @@
 //!
 //!     measure SIDE CALL ROUNDS
 //!
-//! SIDE is original, plain or engine; CALL a step number, `verify`, `read` or `set N` written setN. A round is 64 boards. What a
-//! call costs is the difference of two runs, divided by the difference of their calls:
+//! SIDE is original, plain or engine; CALL a step number, 255 for no step, or one of `verify`, `read`, `open`, `count` and `setN`
+//! (0 insert, 1 remove, 2 contains, 3 len, 4 single_candidate). A round is 64 boards. What a call costs is the difference of two runs,
+//! divided by the difference of their calls; for a step also less what making the board costs, which 255 has alone:
 //!
 //!     valgrind --tool=callgrind --callgrind-out-file=/dev/null target/release/measure original 1 100
 
@@ -12,7 +13,7 @@ use std::hint::black_box;
 use sudoku_host::oracle::{self, SudokuCandidateSet, SudokuSolver};
 use sudoku_host::random::Random;
 use sudoku_host::sides::{Original, Plain, Side};
-use sudoku_host::{cases, grids, plain, set, verify, Clues, Masks, SetCall};
+use sudoku_host::{clue_count, grids, open, plain, read, set, step, verify, Clues, Masks, SetCall};
 
 const BOARDS: usize = 64;
 
@@ -24,16 +25,23 @@ fn main() {
     match (side.as_str(), call.as_str()) {
         (_, "verify") => verifying(side, &mut random, rounds),
         (_, "read") => reading(side, &mut random, rounds),
+        (_, "open") => opening(side, &mut random, rounds),
+        (_, "count") => counting(side, &mut random, rounds),
         (_, call) if call.starts_with("set") => setting(side, call[3..].parse().unwrap_or_else(|_| usage()), rounds),
-        ("original", step) => stepping::<Original>(&mut random, step, rounds),
-        ("plain", step) => stepping::<Plain>(&mut random, step, rounds),
+        ("original", step) => stepping::<Original>(&mut random, number(step), rounds),
+        ("plain", step) => stepping::<Plain>(&mut random, number(step), rounds),
+        ("engine", step) => engine_stepping(&mut random, number(step), rounds),
         _ => usage(),
     }
 }
 
 fn usage() -> ! {
-    eprintln!("measure original|plain|engine STEP|verify|read|setN ROUNDS");
+    eprintln!("measure original|plain|engine STEP|verify|read|open|count|setN ROUNDS");
     std::process::exit(2)
+}
+
+fn number(step: &str) -> u8 {
+    step.parse().unwrap_or_else(|_| usage())
 }
 
 /// Puzzles and the boards on the way through them.
@@ -41,8 +49,7 @@ fn boards(random: &mut Random) -> Vec<(Clues, Masks)> {
     let mixed = (0..BOARDS).map(|_| {
         let filling = grids::filling(random);
         let clues = grids::blanked(random, &filling, 20, 45);
-        let case = cases::Case { clues, kept: cases::EVERYTHING, steps: Vec::new(), others: Vec::new() };
-        let mut masks = case.start();
+        let mut masks = plain::fresh(&clues);
         for step in [1, 2, 3].into_iter().take(random.below(4)) {
             masks = plain::step(step, &clues, &masks).unwrap().masks;
         }
@@ -51,8 +58,7 @@ fn boards(random: &mut Random) -> Vec<(Clues, Masks)> {
     mixed.collect()
 }
 
-fn stepping<S: Side>(random: &mut Random, step: &str, rounds: usize) {
-    let step: u8 = step.parse().unwrap_or_else(|_| usage());
+fn stepping<S: Side>(random: &mut Random, step: u8, rounds: usize) {
     for (clues, masks) in boards(random) {
         for _ in 0..rounds {
             let mut side = S::start(&clues, &masks);
@@ -60,6 +66,20 @@ fn stepping<S: Side>(random: &mut Random, step: &str, rounds: usize) {
                 black_box(side.step(black_box(step))).ok();
             }
             black_box(&side as *const S);
+        }
+    }
+}
+
+/// The export alone, its board check included.
+fn engine_stepping(random: &mut Random, number: u8, rounds: usize) {
+    let mut reports = [0; 648];
+    for (clues, masks) in boards(random) {
+        for _ in 0..rounds {
+            let mut after = masks;
+            if number != 255 {
+                black_box(step(black_box(number), &clues, &mut after, &mut reports)).ok();
+            }
+            black_box((&after, &reports));
         }
     }
 }
@@ -80,17 +100,45 @@ fn verifying(side: &str, random: &mut Random, rounds: usize) {
 
 fn reading(side: &str, random: &mut Random, rounds: usize) {
     let texts: Vec<String> = (0..BOARDS).map(|_| grids::blanked(random, &grids::of_text(grids::GRID_A), 20, 45).map(|clue| clue.to_string()).concat()).collect();
+    let mut clues = [0; 81];
     for _ in 0..rounds {
         for text in &texts {
             match side {
                 "original" => drop(black_box(SudokuSolver::parse_string(black_box(text)))),
+                "engine" => drop(black_box(read(black_box(text.as_bytes()), &mut clues))),
                 _ => drop(black_box(plain::read_text(black_box(text.as_bytes())))),
             }
         }
     }
 }
 
-/// 0 insert, 1 remove, 2 contains, 3 len, 4 single_candidate.
+/// `new`: the original also makes its rows of sets.
+fn opening(side: &str, random: &mut Random, rounds: usize) {
+    let mut masks = [0; 81];
+    for (clues, _) in boards(random) {
+        for _ in 0..rounds {
+            match side {
+                "original" => drop(black_box(oracle::opened(black_box(&clues)))),
+                "engine" => drop(black_box(open(black_box(&clues), &mut masks))),
+                _ => drop(black_box(plain::open(black_box(&clues)))),
+            }
+        }
+    }
+}
+
+/// `clue_count`, for the engine with its board check.
+fn counting(side: &str, random: &mut Random, rounds: usize) {
+    for (clues, masks) in boards(random) {
+        let solver = oracle::with_masks(&clues, &masks);
+        for _ in 0..rounds {
+            match side {
+                "engine" => drop(black_box(clue_count(black_box(&clues), &masks))),
+                _ => drop(black_box(black_box(&solver).clue_count())),
+            }
+        }
+    }
+}
+
 fn setting(side: &str, call: usize, rounds: usize) {
     let ours = [SetCall::Insert, SetCall::Remove, SetCall::Contains, SetCall::Len, SetCall::SingleCandidate];
     for round in 0..rounds * BOARDS {

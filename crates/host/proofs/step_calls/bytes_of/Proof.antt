@@ -1,0 +1,109 @@
+-- The invariant: the reports that are left still make the whole.
+use mathlib.Core.Path.{_≡_, refl, sym, ap, _∙_}
+use mathlib.Core.Bool.{Bool, true, false, cond}
+use mathlib.Core.List.{List}
+use Prim.Native.Nat.{ℕ, _-_, _≤_}
+use native.Mathlib.Omega.{arith}
+use borrow.Author.Needs.{needs}
+use borrow.Author.Tests.{ltb-true}
+use lib.Dec.{ltb}
+use lib.ListN.{replicate}
+use Rattle.steps.specs.Loops.{each, range}
+use Rattle.techniques.proofs.Loops.{turned, ended}
+use Rattle.host.specs.Steps.{putReport, reportBytes, used}
+use Rattle.host.proofs.step_calls.bytes_of.Statement.{statement}
+use Rattle.host.proofs.step_calls.bytes_of.Tie as tie
+
+abbrev Inv-loop : tie.InvT-loop
+Inv-loop cells digits count bytes₀ report₀ bytes report =
+    (report ≤ count) × (count ≤ 324)
+    × (each (putReport cells digits) (range (count - report) report) bytes ≡ each (putReport cells digits) (range count 0) (replicate 648 0))
+
+abbrev μ-loop : tie.MeasureT-loop
+μ-loop cells digits count bytes₀ report₀ bytes report = count - report
+
+room : (n : ℕ) → used n ≤ 324
+room n = go (ltb n 324) refl
+  where
+    go : (t : Bool) → ltb n 324 ≡ t → cond t n 324 ≤ 324
+    go true e = omega (arith, ltb-true n 324 e)
+    go false e = omega arith
+
+used-requires : tie.Need-used-requires Inv-loop μ-loop
+used-requires c κs = search needs
+
+loop-holds : tie.Need-loop-holds Inv-loop μ-loop
+loop-holds c =
+    let q = c .before .before .before .args .reports in
+    let n = c .used .result in
+    let all : n - 0 ≡ n = omega arith in (
+      omega arith,
+      omega (arith, c .used .ensures, room (q .count)),
+      ap (λ (k : ℕ). each (putReport (q .cells) (q .digits)) (range k 0) (replicate 648 0)) all,
+    )
+
+array-read-bytes : tie.Need-array-read-bytes Inv-loop μ-loop
+array-read-bytes c = omega arith
+
+mul-bytes : tie.Need-mul-bytes Inv-loop μ-loop
+mul-bytes c = omega arith
+
+array-write-bytes : tie.Need-array-write-bytes Inv-loop μ-loop
+array-write-bytes c = omega arith
+
+array-read-bytes-2 : tie.Need-array-read-bytes-2 Inv-loop μ-loop
+array-read-bytes-2 c = omega arith
+
+mul-bytes-2 : tie.Need-mul-bytes-2 Inv-loop μ-loop
+mul-bytes-2 c = omega arith
+
+add-bytes : tie.Need-add-bytes Inv-loop μ-loop
+add-bytes c = omega arith
+
+array-write-bytes-2 : tie.Need-array-write-bytes-2 Inv-loop μ-loop
+array-write-bytes-2 c = omega arith
+
+add-report : tie.Need-add-report Inv-loop μ-loop
+add-report c = omega arith
+
+loop-less : tie.Need-loop-less Inv-loop μ-loop
+loop-less c = omega arith
+
+loop-again : tie.Need-loop-again Inv-loop μ-loop
+loop-again c =
+    let l = c .before in
+    let u = l .before in
+    let q = u .before .before .before .args .reports in (
+      omega arith,
+      omega arith,
+      turned (putReport (q .cells) (q .digits)) (u .used .result) (l .loop .report) (l .loop .bytes) (omega arith) refl (l .loop .inv .2),
+    )
+
+returns : tie.Need-returns Inv-loop μ-loop
+unfolding reportBytes
+returns c =
+    let l = c .before in
+    let u = l .before in
+    let q = u .before .before .before .args .reports in
+    ended (putReport (q .cells) (q .digits)) (u .used .result) (l .loop .report) (l .loop .bytes) (c .loop-test .left) (l .loop .inv .2)
+    ∙ ap (λ (k : ℕ). each (putReport (q .cells) (q .digits)) (range k 0) (replicate 648 0)) (u .used .ensures)
+
+pub bytes-of-spec : {M : Type 1} → statement M
+bytes-of-spec =
+    tie.close
+    (tie.spec
+    Inv-loop
+    μ-loop
+    used-requires
+    loop-holds
+    array-read-bytes
+    mul-bytes
+    array-write-bytes
+    array-read-bytes-2
+    mul-bytes-2
+    add-bytes
+    array-write-bytes-2
+    add-report
+    loop-less
+    loop-again
+    returns)

@@ -1,0 +1,129 @@
+// The board calls by their step numbers, one and lists of them: the four numbers, the masks, and the reports as bytes.
+ghost use mathlib.Core.Path.{_≡_};
+ghost use lib.IntN.{pos};
+ghost use mir.Syntax.{w64};
+ghost use mir.Val.{SFits};
+ghost use Rattle.board.specs.Boards.{boardOf, handed};
+ghost use Rattle.calls.specs.Replays.{replayingAnswer};
+ghost use Rattle.calls.specs.StepNumbers.{steppingAnswer};
+ghost use Rattle.host.specs.Boards.{kept};
+ghost use Rattle.host.specs.Codes.{Fitting, coded, noNumber};
+ghost use Rattle.host.specs.Steps.{partsCode, reportBytes, stepCode, stepMasks, stepReports, used, valuesCode};
+use crate::codes;
+use board::Board;
+use calls::Replaying;
+use calls::Stepping;
+use techniques::singles::Reports;
+
+// The number of settling, whose values are what it counts.
+const SETTLING: u8 = 12;
+
+fn of_values(number: u8, made: bool, reports: usize, sweeps: usize, removed: usize) -> [i64; 4]
+    requires { ⌜ SFits w64 (pos reports) × SFits w64 (pos sweeps) × SFits w64 (pos removed) ⌝ }
+    ensures { λ r. ⌜ r ≡ valuesCode number made reports sweeps removed ⌝ }
+{
+    if number == SETTLING {
+        return [0, 0, sweeps as i64, removed as i64];
+    }
+    [0, 0, codes::of_test(made), reports as i64]
+}
+
+pub fn of_stepping(
+    number: u8,
+    stepping: Stepping,
+    reports: usize,
+    sweeps: usize,
+    removed: usize,
+) -> [i64; 4]
+    requires { ⌜ Fitting noNumber (steppingAnswer stepping) × SFits w64 (pos reports) × SFits w64 (pos sweeps) × SFits w64 (pos removed) ⌝ }
+    ensures { λ r. ⌜ r ≡ partsCode number (steppingAnswer stepping) reports sweeps removed ⌝ }
+{
+    match stepping {
+        Stepping::Made(made) => of_values(number, made, reports, sweeps, removed),
+        Stepping::BadClue(cell) => codes::of_stop(3, cell),
+        Stepping::BadMask(cell) => codes::of_stop(9, cell),
+        Stepping::NoStep(_) => codes::of_unknown(number),
+    }
+}
+
+pub fn reports_into(stepping: Stepping, found: [u8; 648], lent: [u8; 648]) -> [u8; 648]
+    ensures { λ r. ⌜ r ≡ kept (λ flag. found) (steppingAnswer stepping) lent ⌝ }
+{
+    match stepping {
+        Stepping::Made(_) => found,
+        Stepping::BadClue(_) => lent,
+        Stepping::BadMask(_) => lent,
+        Stepping::NoStep(_) => lent,
+    }
+}
+
+pub fn of_replaying(replaying: Replaying, board: Board) -> [i64; 4]
+    requires { ⌜ Fitting noNumber (replayingAnswer replaying (boardOf board)) ⌝ }
+    ensures { λ r. ⌜ r ≡ coded noNumber (replayingAnswer replaying (boardOf board)) 0 ⌝ }
+{
+    match replaying {
+        Replaying::Done => codes::of_given(0, 0),
+        Replaying::BadClue(cell) => codes::of_stop(3, cell),
+        Replaying::NoStep(index) => codes::of_stop(20, index),
+    }
+}
+
+pub fn run_into(replaying: Replaying, board: Board, lent: [u16; 81]) -> [u16; 81]
+    ensures { λ r. ⌜ r ≡ kept (λ b. b .masks) (replayingAnswer replaying (boardOf board)) lent ⌝ }
+{
+    match replaying {
+        Replaying::Done => board.masks,
+        Replaying::BadClue(_) => lent,
+        Replaying::NoStep(_) => lent,
+    }
+}
+
+fn used(count: usize) -> usize
+    ensures { λ r. ⌜ r ≡ used count ⌝ }
+{
+    if count < 324 {
+        return count;
+    }
+    324
+}
+
+// Two bytes a report, and zeros after the last.
+pub fn bytes_of(reports: Reports) -> [u8; 648]
+    ensures { λ r. ⌜ r ≡ reportBytes reports ⌝ }
+{
+    let cells = reports.cells;
+    let digits = reports.digits;
+    let count = used(reports.count);
+    let mut bytes = [0u8; 648];
+    let mut report: usize = 0;
+    while report < count {
+        bytes[2 * report] = cells[report];
+        bytes[2 * report + 1] = digits[report];
+        report += 1;
+    }
+    bytes
+}
+
+// What a step writes.
+pub struct Written {
+    pub answer: [i64; 4],
+    pub masks: [u16; 81],
+    pub reports: [u8; 648],
+}
+
+pub fn step(number: u8, clues: [i32; 81], masks: [u16; 81], lent: [u8; 648]) -> Written
+    ensures { λ r. ⌜ (r .answer ≡ stepCode number (handed clues masks)) × (r .masks ≡ stepMasks number (handed clues masks)) × (r .reports ≡ stepReports number (handed clues masks) lent) ⌝ }
+{
+    let done = calls::step(number, Board { clues, masks });
+    let stepping = done.answer;
+    let found = done.reports;
+    let board = done.board;
+    let answer = of_stepping(number, stepping, found.count, done.sweeps, done.removed);
+    let reports = reports_into(stepping, bytes_of(found), lent);
+    let after = board.masks;
+    Written {
+        answer,
+        masks: after,
+        reports,
+    }
+}
