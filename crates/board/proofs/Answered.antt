@@ -7,10 +7,9 @@ use Prim.Native.Nat.{ℕ, suc, _+_, _-_, _<_, _≤_}
 use native.Mathlib.Omega.{arith}
 use borrow.Author.Tests.{not-true, not-false, lt-ltb, le-ltb, eqb-true}
 use lib.Dec.{eqb, ltb}
-use lib.IntN.{ℤ, pos}
+use lib.IntN.{pos}
 use Rattle.candidates.specs.Answer.{gives, stop}
-use Rattle.candidates.specs.Masks.{nine, count, lowest, minus}
-use Rattle.candidates.specs.Sets.{onlyOf}
+use Rattle.candidates.specs.Masks.{nine, count, minus}
 use Rattle.candidates.proofs.Order.{sub-le, sub-of-minus}
 use Rattle.candidates.proofs.Tests.{cond-true, cond-false}
 use Rattle.grid.specs.Cells.{cells}
@@ -25,7 +24,7 @@ use Rattle.steps.proofs.Fresh.{freshAt-small}
 use Rattle.steps.proofs.Loops.{first-none, upTo-in}
 use Rattle.board.specs.Answers.{beside, passes}
 use Rattle.board.specs.Boards.{handed, firstBadClue, clueCount, maskOr5, Finished, Open, Dead, noneEmpty, allSingle, verdictOf, verdictRead}
-use Rattle.board.proofs.Searches.{all-cells}
+use Rattle.grid.proofs.Cells.{all-cells}
 
 -- p is what the check answered, o what it must answer, and t whether it refused nothing
 module _ {p o : Option (ℕ × ℕ)} {t : Bool} (check : p ≡ o) (is : t ≡ passes p) where
@@ -89,21 +88,6 @@ module _ (m : List ℕ) (c : ℕ) where
   cell-past h = sym (cond-false (ltb c 81) (gives (at m c)) (stop 5 (pos c)) (le-ltb c 81 h))
 
 -- ---- the verdict
-
-module _ (x : ℕ) where
-  pub one-digit : {z : ℤ} → some z ≡ onlyOf x → true ≡ eqb (count (nine x)) 1
-  one-digit {z} e = go (eqb (count (nine x)) 1) e
-    where
-      go : (t : Bool) → some z ≡ cond t (some (pos (lowest (nine x) + 1))) none → true ≡ t
-      go true e = refl
-      go false e = let w : _≡_ {A = ℕ} 0 1 = cc in absurd (omega arith)
-
-  pub not-one : none ≡ onlyOf x → false ≡ eqb (count (nine x)) 1
-  not-one e = go (eqb (count (nine x)) 1) e
-    where
-      go : (t : Bool) → none ≡ cond t (some (pos (lowest (nine x) + 1))) none → false ≡ t
-      go true e = let w : _≡_ {A = ℕ} 0 1 = cc in absurd (omega arith)
-      go false e = refl
 
 module _ (m : List ℕ) where
   pub is-dead : noneEmpty m ≡ false → Dead ≡ verdictRead m

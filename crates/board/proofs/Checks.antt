@@ -16,7 +16,7 @@ use Rattle.steps.specs.Calls.{badMask, refusal, opened}
 use Rattle.steps.specs.Loops.{first}
 use Rattle.steps.proofs.Fresh.{fresh-at}
 use Rattle.board.specs.Boards.{handed, stops, firstBadClue, misfitOf, firstMisfit, openedOr, openOf}
-use Rattle.board.proofs.Searches.{first-cells}
+use Rattle.steps.proofs.Searches.{first-cells}
 
 -- ---- one mask
 

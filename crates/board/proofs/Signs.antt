@@ -1,18 +1,16 @@
 -- A clue as a caller gives it, any signed number: too low, too high, or a digit. Assumes nothing.
-use mathlib.Core.Path.{_≡_, refl, sym, ap, _∙_, subst}
+use mathlib.Core.Path.{_≡_, refl, sym, ap, _∙_}
 use mathlib.Core.Bool.{Bool, true, false, not, true≢false}
-use mathlib.Core.List.{[], _∷_}
-use Prim.Native.Nat.{ℕ, _≤_, _<_}
+use Prim.Native.Nat.{_≤_, _<_}
 use native.Mathlib.Decide.{decLt}
 use native.Mathlib.Omega.{arith}
 use borrow.Author.Tests.{ltb-true, ltb-false, lt-ltb, le-ltb, le-leb, lt-leb}
-use lib.Dec.{T, leb, ltb, lit<}
+use lib.Dec.{T, leb, ltb}
 use lib.IntN.{ℤ, pos, negsuc, natAbs}
 use lib.Signed.{ltZ, nonNeg}
 use Rattle.candidates.proofs.Tests.{cond-true, cond-false}
 use Rattle.steps.specs.Boards.{digitOf}
 use Rattle.steps.specs.Calls.{badClue}
-use Rattle.steps.proofs.Check.{given-clue, clues-givens}
 
 pub low : (z : ℤ) → ltZ z (pos 0) ≡ true → badClue z ≡ true
 low (pos n) t = absurd (omega (arith, ltb-true n 0 t))
@@ -45,6 +43,3 @@ clue (pos n) l h =
     let k : n ≤ 9 = ltb-false 9 n h in
     record { positive = tt; small = k; is = sym (cond-true (leb n 9) n 0 (le-leb n 9 k)) }
 clue (negsuc n) l h = absurd (true≢false l)
-
-pub digit-small : (z : ℤ) → digitOf z ≤ 9
-digit-small z = subst (λ (d : ℕ). d ≤ 9) (given-clue (z ∷ []) 0 (lit< tt)) (clues-givens (z ∷ []) .small 0)

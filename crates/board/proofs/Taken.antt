@@ -6,21 +6,20 @@ use mathlib.Core.List.{List, [], _∷_, map, List·Memᴰ, List·Memᴰ·not-nil
 use Prim.Native.Nat.{ℕ, _+_, _-_, _<_}
 use native.Mathlib.Decide.{ℕ-discrete, decLt}
 use native.Mathlib.Omega.{arith}
-use borrow.Author.Tests.{eqb-true, eq-eqb}
+use borrow.Author.Tests.{eq-eqb}
 use lib.ListN.{length, getD, set, replicate, length-set, getD-replicate}
 use lib.Seq.{set-out, getD-set-same, getD-set-other}
-use Rattle.candidates.specs.Masks.{Sub, union, single}
+use Rattle.candidates.specs.Masks.{Sub, minus, union, single}
 use Rattle.candidates.proofs.Order.{sub-refl, sub-trans, sub-antisym, sub-none, union-left, union-right, union-sub}
 use Rattle.candidates.proofs.Tests.{by-test, cond-true}
 use Rattle.grid.specs.Cells.{cell, row, col, box, peers, cells}
 use Rattle.grid.specs.Units.{inUnit}
-use Rattle.grid.proofs.Cells.{row-below, col-below, box-below, row-of, col-of, cell-of, cell-lt, peer-sees, sees-peer, sees-shared, share-sees}
-use Rattle.grid.proofs.Units.{Kind, row-unit, col-unit, box-unit, kind, in-row, in-col, in-box, member-in}
+use Rattle.grid.proofs.Cells.{map-cells, row-below, col-below, box-below, row-of, col-of, cell-of, cell-lt, peer-sees, sees-peer, sees-shared, share-sees}
+use Rattle.grid.proofs.Units.{by-unit, Kind, kind, in-row, in-col, in-box, member-in}
 use Rattle.steps.specs.Boards.{given, isOpen, givenMask, taken, freshAt, fresh}
 use Rattle.steps.specs.Loops.{each, upTo}
 use Rattle.steps.proofs.Loops.{each-keeps, in-upTo, upTo-in}
 use Rattle.board.specs.Fresh.{joinAt, boxUnit, joinUnits, joinGiven, joinRow, unitSets, seen, freshMask, freshRow}
-use Rattle.board.proofs.Searches.{map-cells}
 
 -- ---- a union over a list
 
@@ -73,13 +72,8 @@ module _ (r k : ℕ) (h : r < 9) (l : k < 9) where
       ap (λ (u : ℕ). inUnit u (cell r k)) box-is ∙ in-box (box (cell r k)) (cell r k) b ∙ eq-eqb (box (cell r k)) (box (cell r k)) refl
 
   -- and no others
-  by-unit : (P : ℕ → Type 0) → P r → P (9 + k) → P (boxUnit r k) → (u : ℕ) → Kind u → inUnit u (cell r k) ≡ true → P u
-  by-unit P p q t u (row-unit v m) e =
-      subst P (sym (row-of r k l) ∙ eqb-true (row (cell r k)) v (sym (in-row v (cell r k) m) ∙ e)) p
-  by-unit P p q t u (col-unit v m) e =
-      subst (λ (w : ℕ). P (9 + w)) (sym (col-of r k l) ∙ eqb-true (col (cell r k)) v (sym (in-col v (cell r k) m) ∙ e)) q
-  by-unit P p q t u (box-unit v m) e =
-      subst (λ (w : ℕ). P (18 + w)) (eqb-true (box (cell r k)) v (sym (in-box v (cell r k) m) ∙ e)) (subst P box-is t)
+  of-three : (P : ℕ → Type 0) → P r → P (9 + k) → P (boxUnit r k) → (u : ℕ) → Kind u → inUnit u (cell r k) ≡ true → P u
+  of-three P p q t = by-unit P (cell r k) (subst P (sym (row-of r k l)) p) (subst (λ (w : ℕ). P (9 + w)) (sym (col-of r k l)) q) (subst P box-is t)
 
 -- ---- sets that digits join
 
@@ -130,7 +124,7 @@ module _ (r k x : ℕ) where
     units-have : (u : ℕ) (s : List ℕ) → length s ≡ 27 → Kind u → inUnit u (cell r k) ≡ true → Sub x (getD (joinUnits r k x s) u 0)
     unfolding joinUnits
     units-have u s n =
-        by-unit r k h l (λ u. Sub x (getD (joinUnits r k x s) u 0))
+        of-three r k h l (λ u. Sub x (getD (joinUnits r k x s) u 0))
         (sub-trans (join-has r x s (omega arith)) (sub-trans (join-grows (9 + k) x a r) (join-grows (boxUnit r k) x b r)))
         (sub-trans (join-has (9 + k) x a (omega (arith, length-set s r (union (getD s r 0) x)))) (join-grows (boxUnit r k) x b (9 + k)))
         (join-has (boxUnit r k) x b (omega (arith, length-set s r (union (getD s r 0) x), length-set a (9 + k) (union (getD a (9 + k) 0) x)))) u
@@ -214,7 +208,7 @@ module _ (g : List ℕ) (r k : ℕ) (h : r < 9) (l : k < 9) where
 
   in-three : (u : ℕ) → Kind u → inUnit u c ≡ true → Sub (getD (unitSets g) u 0) three
   in-three =
-      by-unit r k h l (λ u. Sub (getD (unitSets g) u 0) (seen (unitSets g) r k)) (sub-trans (union-left a b) (union-left (union a b) d))
+      of-three r k h l (λ u. Sub (getD (unitSets g) u 0) (seen (unitSets g) r k)) (sub-trans (union-left a b) (union-left (union a b) d))
       (sub-trans (union-right a b) (union-left (union a b) d)) (union-right (union a b) d)
     where
       a : ℕ
@@ -256,8 +250,8 @@ module _ (g : List ℕ) (r k : ℕ) (h : r < 9) (l : k < 9) where
   fresh-mask : freshMask (given g c) three ≡ freshAt g c
   fresh-mask = go (isOpen g c) refl
     where
-      go : (t : Bool) → isOpen g c ≡ t → cond (isOpen g c) (511 - three) (givenMask g c) ≡ cond (isOpen g c) (511 - taken g c) (givenMask g c)
-      go true o = ap (λ (x : ℕ). cond (isOpen g c) (511 - x) (givenMask g c)) (sub-antisym (three-peers o) peers-three)
+      go : (t : Bool) → isOpen g c ≡ t → cond (isOpen g c) (minus 511 three) (givenMask g c) ≡ cond (isOpen g c) (minus 511 (taken g c)) (givenMask g c)
+      go true o = ap (λ (x : ℕ). cond (isOpen g c) (minus 511 x) (givenMask g c)) (sub-antisym (three-peers o) peers-three)
       go false o = rw o
 
 -- ---- row by row

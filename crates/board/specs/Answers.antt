@@ -1,9 +1,8 @@
 -- The paper's stop numbers and details for each case of each answer of this crate.
 use mathlib.Core.Bool.{Bool, true, false}
-use mathlib.Core.List.{List}
 use mathlib.Core.Option.{Option, none, some}
 use Prim.Native.Nat.{ℕ}
-use lib.IntN.{ℤ, pos}
+use lib.IntN.{pos}
 use Rattle.candidates.specs.Answer.{Answer, gives, stop}
 use Rattle.steps.specs.Boards as S
 use Rattle.board.specs.Boards.{Verdict, Dead, Finished, Open}
@@ -19,12 +18,6 @@ use Rattle.board.specs.declared.Found.the-variants as found
 use Rattle.board.specs.declared.Found.{Found}
 use Rattle.board.specs.declared.Opening.the-variants as opening
 use Rattle.board.specs.declared.Opening.{Opening}
-use Rattle.board.specs.declared.Parsing.the-variants as parsing
-use Rattle.board.specs.declared.Parsing.{Parsing}
-use Rattle.board.specs.declared.TextByte.the-variants as text
-use Rattle.board.specs.declared.TextByte.{TextByte}
-use Rattle.board.specs.declared.Writing.the-variants as writing
-use Rattle.board.specs.declared.Writing.{Writing}
 
 -- what a call hands back beside its answer: the value, and z where it is refused
 abbrev pub beside : {A : Type 0} → Answer A → A → A
@@ -47,16 +40,6 @@ abbrev pub passes : Option (ℕ × ℕ) → Bool
 passes none = true
 passes (some r) = false
 
--- a cell's digit, 0 where it is open, or no cell
-abbrev pub textCell : TextByte → Option ℕ
-textCell (text.Cell d) = some d
-textCell text.Other = none
-
-abbrev pub parsingAnswer : Parsing → List ℤ → Answer (List ℤ)
-parsingAnswer parsing.Read clues = gives clues
-parsingAnswer (parsing.WrongLength n) clues = stop 1 (pos n)
-parsingAnswer (parsing.BadByte i) clues = stop 2 (pos i)
-
 abbrev pub openingAnswer : Opening → S.Board → Answer S.Board
 openingAnswer opening.Opened b = gives b
 openingAnswer (opening.BadClue c) b = stop 3 (pos c)
@@ -78,8 +61,3 @@ verdictAnswer verdict.Finished = gives Finished
 verdictAnswer verdict.Open = gives Open
 verdictAnswer (verdict.BadClue c) = stop 3 (pos c)
 verdictAnswer (verdict.BadMask c) = stop 9 (pos c)
-
-abbrev pub writingAnswer : Writing → Answer ℕ
-writingAnswer (writing.Written n) = gives n
-writingAnswer (writing.TooShort n) = stop 6 (pos n)
-writingAnswer (writing.BadClue c) = stop 3 (pos c)

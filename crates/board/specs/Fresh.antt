@@ -4,7 +4,7 @@ use mathlib.Core.List.{List}
 use Prim.Native.Nat.{ℕ, _+_, _*_, _-_, _/_}
 use lib.Dec.{eqb}
 use lib.ListN.{getD, set, replicate}
-use Rattle.candidates.specs.Masks.{union, single}
+use Rattle.candidates.specs.Masks.{minus, union, single}
 use Rattle.grid.specs.Cells.{cell}
 use Rattle.steps.specs.Boards.{given, givenMask, isOpen}
 use Rattle.steps.specs.Loops.{each, upTo}
@@ -43,7 +43,7 @@ seen sets r k = union (union (getD sets r 0) (getD sets (9 + k) 0)) (getD sets (
 
 -- the fresh mask of a cell, from its given digit and the digits that it sees
 abbrev pub freshMask : ℕ → ℕ → ℕ
-freshMask d s = cond (eqb d 0) (511 - s) (digitMask d)
+freshMask d s = cond (eqb d 0) (minus 511 s) (digitMask d)
 
 unfoldable pub freshRow : List ℕ → List ℕ → ℕ → List ℕ → List ℕ
 freshRow g sets r m = each (λ k m. set m (cell r k) (freshMask (given g (cell r k)) (seen sets r k))) (upTo 9) m

@@ -1,4 +1,3 @@
 pub mod Boards
 pub mod Fresh
-pub mod Texts
 pub mod Answers

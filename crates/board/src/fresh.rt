@@ -86,10 +86,7 @@ fn fresh_mask(digit: u8, seen: u16) -> u16
     if digit != 0 {
         return given_mask(digit);
     }
-    if seen < 512 {
-        return masks::lose(511, seen);
-    }
-    0
+    masks::lose(511, seen)
 }
 
 fn fresh_row(givens: &[u8; 81], sets: &[u16; 27], masks: &mut [u16; 81], row: usize)

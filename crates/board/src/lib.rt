@@ -1,4 +1,4 @@
-// The board: 81 clues and 81 masks, read, opened, checked and written (modules 2, 12 and 13).
+// The board: 81 clues and 81 masks, opened, checked and judged (modules 2 and 13).
 // A call that is handed a board checks it first: stop 3, then stop 9.
 
 ghost use mathlib.Core.Path.{_≡_};
@@ -12,7 +12,6 @@ use candidates::masks;
 
 pub mod clues;
 pub mod fresh;
-pub mod text;
 mod verdicts;
 
 // A board. A clue is 0 where its cell is open; a mask holds the cell's candidates.
@@ -32,25 +31,6 @@ pub enum Checked {
     Good,
     BadClue(usize),
     BadMask(usize),
-}
-
-// What a byte of a text is: a cell, with its digit or 0 where it is open, or any other byte.
-pub enum TextByte {
-    Cell(u8),
-    Other,
-}
-
-// What `parse_string` answers: the clues are read, or the length, or the index of the first other byte.
-pub enum Parsing {
-    Read,
-    WrongLength(usize),
-    BadByte(usize),
-}
-
-// A text that was read; zeros beside a refusal.
-pub struct Parsed {
-    pub answer: Parsing,
-    pub clues: [i32; 81],
 }
 
 // What `Board::new` answers.
@@ -105,13 +85,6 @@ pub enum BoardVerdict {
     Open,
     BadClue(usize),
     BadMask(usize),
-}
-
-// What `write_text` answers: the bytes written, the lent length that is too short, or the first cell of stop 3.
-pub enum Writing {
-    Written(usize),
-    TooShort(usize),
-    BadClue(usize),
 }
 
 // Whether a mask holds what the fresh one lacks, or stands in a clue cell and differs from it.

@@ -7,11 +7,10 @@ use board::CellMask;
 use board::Checked;
 use board::Counting;
 use board::Opening;
-use board::Parsing;
-use board::Writing;
 use board::clues;
-use board::text;
 use libc::STDOUT_FILENO;
+use text::Parsing;
+use text::Writing;
 
 const NUMBERS: [i32; 7] = [-2147483648, -1, 0, 1, 9, 10, 2147483647];
 

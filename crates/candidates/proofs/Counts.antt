@@ -1,20 +1,20 @@
 -- How many digits a mask holds, and its lowest one. Assumes nothing.
 use mathlib.Core.Path.{_≡_, refl, sym, ap, _∙_, subst}
-use mathlib.Core.Bool.{Bool, true, false, cond}
+use mathlib.Core.Bool.{true, false, cond}
 use mathlib.Core.Logic.{_≢_}
-use Prim.Native.Nat.{ℕ, zero, suc, _+_, _-_, _*_, _/_, _%_, _^_, _≤_, _<_, min, zero-le}
-use native.Mathlib.Nat.{le-refl, pow-suc, not-suc-le-zero, add-zero, zero-add, div-one}
+use Prim.Native.Nat.{ℕ, zero, suc, _+_, _-_, _*_, _/_, _%_, _^_, _≤_, _<_, min}
+use native.Mathlib.Nat.{le-refl, pow-suc, not-suc-le-zero, add-zero, zero-add}
 use native.Mathlib.Numerals.{add-one}
 use native.Mathlib.Decide.{decLt}
 use native.Mathlib.Omega.{arith}
 use borrow.Author.Tests.{lt-ltb}
 use lib.Arith.{bin-ind}
 use lib.Bits.{bitAnd, and-step, and-self, and-zero-r}
-use lib.Count.{ones, ones-step, ones-cat, ones-le, trailingZeros, trailing-le, under}
+use lib.Count.{ones, ones-step, ones-cat, trailingZeros, trailing-le, under}
 use lib.Dec.{eqb, ltb}
 use lib.Pow.{pow-pos, shr-shr}
-use Rattle.candidates.specs.Masks.{bit, has, minus, union, count, single, firstPlace, lowest, tail, Sub}
-use Rattle.candidates.proofs.Membership.{bit-and, bit-union, bit-minus, bit-none, bit-power, bit-other, minus-half, minus-low, ext}
+use Rattle.candidates.specs.Masks.{bit, has, minus, count, single, firstPlace, lowest, tail, Sub}
+use Rattle.candidates.proofs.Membership.{bit-and, bit-minus, bit-none, bit-power, minus-half, minus-low, ext}
 use Rattle.candidates.proofs.Order.{sub-le, sub-of-and}
 use Rattle.candidates.proofs.Tests.{by-test, cond-true, cond-false, eqb-iff}
 

@@ -5,9 +5,9 @@ use mathlib.Core.Bool.{Bool, true, false, cond, true≢false}
 use Prim.Native.Nat.{ℕ, zero, suc, _+_, _^_, _≤_, _<_}
 use native.Mathlib.Decide.{ℕ-discrete}
 use native.Mathlib.Omega.{arith}
-use Rattle.candidates.specs.Masks.{has, minus, union, count, firstPlace, lowest, tail, Sub}
+use Rattle.candidates.specs.Masks.{has, minus, union, count, firstPlace, lowest, tail}
 use Rattle.candidates.proofs.Counts.{count-minus, count-zero, count-some, count-power, sub-and, lowest-le, lowest-lt, tail-rest}
-use Rattle.candidates.proofs.Held.{Held, held-ext, sub-held, none-held, held-power, held-minus, held-union, held-both, power-sub}
+use Rattle.candidates.proofs.Held.{Held, held-ext, none-held, held-power, held-minus, held-union, held-both, power-sub}
 
 -- d and no other
 pub record One (x d : ℕ) : Type 0 where

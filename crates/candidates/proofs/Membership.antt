@@ -10,10 +10,10 @@ use native.Mathlib.Decide.{ℕ-discrete}
 use lib.Arith.{bin-ind, digits-div}
 use lib.Bits.{bitAnd, bitOr, and-step, or-step, and-shr, or-shr, and-mask, and-le-l, or-shifted-r}
 use borrow.Author.Tests.{lt-ltb}
-use lib.Dec.{T, eqb, ltb, eqb→eq, lit<}
+use lib.Dec.{eqb, ltb, eqb→eq, lit<}
 use lib.Pow.{pow-mono, shr-shr}
 use Rattle.candidates.specs.Masks.{bit, minus, union, single, nine, gather}
-use Rattle.candidates.proofs.Tests.{allBelow, below, by-test, cond-true}
+use Rattle.candidates.proofs.Tests.{below, by-test, cond-true}
 
 -- ---- a bit of a half
 
@@ -77,6 +77,9 @@ bit-high x n d h k = ap (λ (m : ℕ). m % 2) (div-eq-of-lt (lt-of-lt-of-le h (p
 
 double : (p : ℕ) → 2 ^ suc p / 2 ≡ 2 ^ p
 double p = omega (arith, pow-suc 2 p)
+
+pub single-power : (d : ℕ) → d < 16 → single d ≡ 2 ^ d
+single-power d h = cond-true (ltb d 16) (2 ^ d) 0 (lt-ltb d 16 h)
 
 pub bit-power : (d : ℕ) → bit (2 ^ d) d ≡ 1
 bit-power zero = refl

@@ -51,6 +51,11 @@ abbrev pub onlyAnswer : SingleCandidate → Option ℤ
 onlyAnswer (only.Digit z) = some z
 onlyAnswer only.Nothing = none
 
+-- its digit, 0 for none
+abbrev pub digitOr0 : Option ℤ → ℤ
+digitOr0 (some z) = z
+digitOr0 none = pos 0
+
 -- a digit, and the mask and the place that the iterator goes on with
 abbrev pub nextAnswer : NextCandidate → Option (ℤ × ℕ × ℕ)
 nextAnswer (next.Digit z rest) = some (z, rest .mask, rest .current)

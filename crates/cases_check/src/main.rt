@@ -3,13 +3,12 @@
 use board::Board;
 use board::CellMask;
 use board::Opening;
-use board::Parsing;
-use board::text;
 use calls::Stepping;
 use calls::step;
 use libc::STDOUT_FILENO;
 use record::RecordWriting;
 use record::write_record;
+use text::Parsing;
 
 fn number(n: u64) {
     io::write_all(STDOUT_FILENO, b" ");

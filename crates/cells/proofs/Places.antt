@@ -2,10 +2,9 @@
 -- a digit. Assumes nothing.
 use mathlib.Core.Path.{_≡_, refl, sym, ap, _∙_}
 use mathlib.Core.Bool.{Bool, true, false, cond, _&&_}
-use mathlib.Core.List.{List, [], _∷_, map, List·Memᴰ, List·Memᴰ·head, List·Memᴰ·tail}
+use mathlib.Core.List.{List, [], _∷_, List·Memᴰ, List·Memᴰ·head, List·Memᴰ·tail}
 use Prim.Native.Nat.{ℕ, zero, suc, _^_, _+_, _<_}
 use native.Mathlib.Decide.{ℕ-discrete}
-use native.Mathlib.Nat.{zero-add}
 use native.Mathlib.Omega.{arith}
 use borrow.Author.Tests.{lt-ltb, ne-eqb}
 use lib.Bits.{bitAnd, and-zero-r}
@@ -14,7 +13,7 @@ use lib.ListN.{length, getD}
 use Rattle.candidates.specs.Masks.{bit, has, gather}
 use Rattle.candidates.proofs.Membership.{bit-none}
 use Rattle.candidates.proofs.Tests.{cond-true, cond-false}
-use Rattle.grid.proofs.Lists.{at-range}
+use Rattle.grid.proofs.Lists.{at-upTo, map-same}
 use Rattle.grid.specs.Units.{unit, unitCell}
 use Rattle.grid.proofs.Units.{unit-length, cell-below}
 use Rattle.steps.specs.Boards.{at, isOpen}
@@ -53,10 +52,13 @@ unfolding each
 each-places f [] z s = refl
 each-places f (x ∷ xs) z s = each-places f xs z (f x s) ∙ sym (each-later (λ i. f (getD (x ∷ xs) i z)) (length xs) 0 (f x s))
 
-pub each-cells : {S : Type 0} (f : ℕ → S → S) (u : ℕ) → u < 27 → (s : S) → each f (unit u) s ≡ each (λ i. f (unitCell u i)) (upTo 9) s
+each-cells : {S : Type 0} (f : ℕ → S → S) (u : ℕ) → u < 27 → (s : S) → each f (unit u) s ≡ each (λ i. f (unitCell u i)) (upTo 9) s
 each-cells f u h s = each-places f (unit u) 81 s ∙ ap (λ (n : ℕ). each (λ i. f (unitCell u i)) (range n 0) s) (unit-length u h)
 
 -- ---- losses
+
+pub lose-cell : (free : ℕ → Bool) (c k : ℕ) (m : List ℕ) → c < 81 → loseIn free c k m ≡ loseAt free c k m
+lose-cell free c k m h = cond-true (ltb c 81) (loseAt free c k m) m (lt-ltb c 81 h)
 
 module _ (free : ℕ → Bool) (u : ℕ) (h : u < 27) (places k : ℕ) (loss : ℕ → ℕ) (same : (i : ℕ) → i < 9 → loss (unitCell u i) ≡ cond (has places i) k 0) where
   one-place : (i : ℕ) → i < 9 → (m : List ℕ) → cond (has places i) (loseIn free (unitCell u i) k m) m ≡ loseAt free (unitCell u i) (loss (unitCell u i)) m
@@ -67,7 +69,7 @@ module _ (free : ℕ → Bool) (u : ℕ) (h : u < 27) (places k : ℕ) (loss : �
 
       go : (t : Bool) → has places i ≡ t → cond (has places i) (loseIn free c k m) m ≡ loseAt free c (loss c) m
       go true t =
-          cond-true (has places i) (loseIn free c k m) m t ∙ cond-true (ltb c 81) (loseAt free c k m) m (lt-ltb c 81 (cell-below u i h l))
+          cond-true (has places i) (loseIn free c k m) m t ∙ lose-cell free c k m (cell-below u i h l)
           ∙ sym (ap (λ (x : ℕ). loseAt free c x m) (same i l ∙ cond-true (has places i) k 0 t))
       go false t =
           cond-false (has places i) (loseIn free c k m) m t ∙ sym (lose-none free c 0 m (λ _. and-zero-r (at m c)))
@@ -100,14 +102,7 @@ open-mask g m c h = go (ltb c 81) (lt-ltb c 81 h)
 
 pub unit-mask : (g m : List ℕ) (u i : ℕ) → i < 9 → at (unitMasks g m u) i ≡ openMask g m (unitCell u i)
 unfolding unitMasks
-unit-mask g m u i h = at-range (λ i. openMask g m (unitCell u i)) 0 9 0 i h ∙ ap (λ (j : ℕ). openMask g m (unitCell u j)) (zero-add i)
-
-pub map-same : {A B : Type 0} (f g : A → B) (xs : List A) → ((x : A) → List·Memᴰ x xs → f x ≡ g x) → map f xs ≡ map g xs
-map-same f g [] h = refl
-map-same f g (x ∷ xs) h =
-    let p = h x (List·Memᴰ·head refl) in
-    let q = map-same f g xs (λ y k. h y (List·Memᴰ·tail k)) in
-    cc
+unit-mask g m u i h = at-upTo (λ i. openMask g m (unitCell u i)) 0 9 i h
 
 -- masks that agree on the unit's cells
 pub unit-masks-same : (g m n : List ℕ) (u : ℕ) → ((i : ℕ) → i < 9 → at m (unitCell u i) ≡ at n (unitCell u i)) → unitMasks g m u ≡ unitMasks g n u
@@ -118,7 +113,7 @@ unit-masks-same g m n u h =
 
 -- ---- the places that hold a digit
 
-gather-same : (f g : ℕ → Bool) (n : ℕ) → ((i : ℕ) → i < n → f i ≡ g i) → gather f n ≡ gather g n
+pub gather-same : (f g : ℕ → Bool) (n : ℕ) → ((i : ℕ) → i < n → f i ≡ g i) → gather f n ≡ gather g n
 unfolding gather
 gather-same f g zero h = refl
 gather-same f g (suc n) h =

@@ -3,20 +3,18 @@ use mathlib.Core.Path.{_≡_, sym, ap, _∙_}
 use mathlib.Core.Bool.{cond}
 use mathlib.Core.List.{List, [], map}
 use Prim.Native.Nat.{ℕ, _+_, _*_, _-_, _/_, _%_, _≤_, _<_}
-use native.Mathlib.Nat.{zero-add}
 use native.Mathlib.Omega.{arith}
 use borrow.Author.Tests.{lt-ltb, le-ltb}
 use lib.Dec.{eqb, eqb→eq, ltb}
 use lib.ListN.{getD, replicate, List·getD-eq-default}
 use Rattle.candidates.proofs.Tests.{below-both, cond-true, cond-false}
 use Rattle.grid.specs.Units.{units, unit, unitCell}
-use Rattle.grid.proofs.Lists.{at-range}
+use Rattle.grid.proofs.Lists.{at-upTo, map-same}
 use Rattle.grid.proofs.Units.{cell-below}
 use Rattle.steps.specs.Boards.{at}
 use Rattle.steps.specs.Loops.{upTo}
 use Rattle.steps.proofs.Loops.{in-upTo}
 use Rattle.cells.specs.Places.{maskAt, allMasks, spacedMasks}
-use Rattle.cells.proofs.Places.{map-same}
 
 abbrev spaced : ℕ → ℕ → ℕ → ℕ → ℕ
 spaced s a d i = s + a * (i % 3) + d * (i / 3)
@@ -38,7 +36,7 @@ module _ (m : List ℕ) (u : ℕ) where
   pub all-mask : (i : ℕ) → u < 27 → i < 9 → at (allMasks m u) i ≡ at m (unitCell u i)
   unfolding allMasks
   all-mask i h l =
-      at-range (λ j. maskAt m (unitCell u j)) 0 9 0 i l ∙ ap (λ (j : ℕ). maskAt m (unitCell u j)) (zero-add i)
+      at-upTo (λ j. maskAt m (unitCell u j)) 0 9 i l
       ∙ mask-at m (unitCell u i) (cell-below u i h l)
 
   in-table : (s a d : ℕ) → u < 27 → ((i : ℕ) → i < 9 → unitCell u i ≡ spaced s a d i) → spacedMasks m s a d ≡ allMasks m u

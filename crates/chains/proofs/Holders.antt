@@ -4,16 +4,15 @@ use mathlib.Core.Bool.{Bool, true, false, cond, not, _&&_}
 use mathlib.Core.List.{List, [], _∷_, _++_, List·Memᴰ, List·Memᴰ·head, List·Memᴰ·tail}
 use mathlib.Core.Option.{Option, none, some}
 use Prim.Native.Nat.{ℕ, zero, suc, _+_, _-_, _≤_, _<_}
-use native.Mathlib.Nat.{zero-add}
 use native.Mathlib.Decide.{decLt}
 use native.Mathlib.Omega.{arith}
 use borrow.Author.Tests.{ltb-true, lt-ltb, le-ltb, le-leb, lt-leb}
-use lib.Dec.{eqb, ltb, leb}
+use lib.Dec.{ltb, leb}
 use lib.ListN.{length, List·getD-eq-default}
 use Rattle.candidates.proofs.Tests.{by-test, cond-true, cond-false}
 use Rattle.grid.specs.Cells.{row, col, box, sees, cells, peers}
 use Rattle.grid.specs.Units.{units, unit, inUnit}
-use Rattle.grid.proofs.Lists.{at-range}
+use Rattle.grid.proofs.Lists.{at-upTo}
 use Rattle.grid.proofs.Units.{unit-is}
 use Rattle.steps.specs.Boards.{at}
 use Rattle.steps.specs.Chains.{orElse, firstSome, onPath, weakLinks, twoHolders, strongLinks, links, elimination, enter, chainEnd}
@@ -85,8 +84,7 @@ counted hs counts u e = go (decLt u 27)
     go : Dec (u < 27) → cond (ltb u 27) (at counts u) 0 ≡ length (select (inUnit u) hs)
     go (yes h) =
         cond-true (ltb u 27) (at counts u) 0 (lt-ltb u 27 h) ∙ ap (λ (l : List ℕ). at l u) e
-        ∙ at-range (λ u. length (select (inUnit u) hs)) 0 27 0 u h
-        ∙ ap (λ (v : ℕ). length (select (inUnit v) hs)) (zero-add u)
+        ∙ at-upTo (λ u. length (select (inUnit u) hs)) 0 27 u h
     go (no n) =
         cond-false (ltb u 27) (at counts u) 0 (le-ltb u 27 (omega arith))
         ∙ sym (ap (λ (l : List ℕ). length l) (select-none (inUnit u) (past-rule u (omega arith)) hs))

@@ -1,7 +1,4 @@
 // Lists of cells.
-ghost use mathlib.Core.Path.{_≡_};
-ghost use mathlib.Core.List.{[]};
-ghost use Prim.Native.Nat.{_≤_};
 ghost use Rattle.grid.specs.Cells.{cells};
 ghost use Rattle.steps.specs.Loops.{select};
 ghost use Rattle.steps.specs.Ported.{holds};

@@ -2,16 +2,17 @@
 use mathlib.Core.Path.{_≡_, refl, sym, ap, _∙_}
 use mathlib.Core.Logic.{_≢_}
 use mathlib.Core.Bool.{Bool, true, false, not, _&&_, _||_, false≢true}
-use mathlib.Core.List.{List·Memᴰ}
+use mathlib.Core.List.{List·Memᴰ, map}
 use Prim.Native.Nat.{ℕ, _+_, _<_}
 use native.Mathlib.Omega.{arith}
 use borrow.Author.Tests.{eqb-true, eq-eqb, ne-eqb}
 use lib.Dec.{eqb, eqb→eq, eqb-refl}
-use lib.ListN.{length}
+use lib.ListN.{length, getD}
 use Rattle.grid.specs.Cells.{cell, row, col, box, aligned, sees, cells, peers}
+use Rattle.grid.specs.Lists.{all}
 use Rattle.grid.specs.Units.{inUnit, ShareUnit}
 use Rattle.candidates.proofs.Tests.{below, T-true, both-right, eqb-sym}
-use Rattle.grid.proofs.Lists.{mem-select, select-mem, mem-range, range-mem}
+use Rattle.grid.proofs.Lists.{mem-select, select-mem, mem-range, range-mem, at-upTo, all-same, map-same}
 use Rattle.grid.proofs.Units.{in-row, in-col, in-box, Kind, row-unit, col-unit, box-unit, kind, in-member, member-in}
 
 -- ---- a cell and its row, column and box
@@ -36,6 +37,21 @@ col-of r k h = omega arith
 
 pub cell-lt : (r k : ℕ) → r < 9 → k < 9 → cell r k < 81
 cell-lt r k h l = omega arith
+
+-- ---- all cells
+
+module _ {A : Type 0} where
+  pub at-cells : (d : A) (f : ℕ → A) (c : ℕ) → c < 81 → getD (map f cells) c d ≡ f c
+  unfolding cells
+  at-cells d f c h = at-upTo f d 81 c h
+
+  pub map-cells : (f g : ℕ → A) → ((c : ℕ) → c < 81 → f c ≡ g c) → map f cells ≡ map g cells
+  unfolding cells
+  map-cells f g h = map-same f g cells (λ c k. h c (mem-range 81 0 c k .1))
+
+pub all-cells : (f g : ℕ → Bool) → ((c : ℕ) → c < 81 → f c ≡ g c) → all f cells ≡ all g cells
+unfolding cells
+all-cells f g h = all-same f g cells (λ c k. h c (mem-range 81 0 c k .1))
 
 -- ---- seeing
 

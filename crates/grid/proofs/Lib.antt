@@ -1,4 +1,5 @@
 pub mod Lists
+pub mod Fills
 pub mod Units
 pub mod Cells
 pub mod Pigeonhole

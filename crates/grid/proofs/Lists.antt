@@ -2,16 +2,15 @@
 use mathlib.Core.Path.{_≡_, refl, sym, ap, _∙_}
 use mathlib.Core.Logic.{_≢_, ⊎-elim}
 use mathlib.Core.Bool.{Bool, true, false, cond, not, _&&_, _||_, false≢true}
-use mathlib.Core.List.{List, [], _∷_, _++_, map, List·Memᴰ, List·Memᴰ·head, List·Memᴰ·tail, List·Memᴰ·cases-cons, List·Memᴰ·not-nil}
+use mathlib.Core.List.{List, [], _∷_, map, List·Memᴰ, List·Memᴰ·head, List·Memᴰ·tail, List·Memᴰ·cases-cons, List·Memᴰ·not-nil}
 use Prim.Native.Nat.{ℕ, zero, suc, _+_, _-_, _≤_, _<_}
-use native.Mathlib.Nat.{not-suc-le-zero, le-of-suc-le-suc, add-zero, add-suc, suc-add}
+use native.Mathlib.Nat.{not-suc-le-zero, le-of-suc-le-suc, zero-add, add-zero, add-suc, suc-add}
 use native.Mathlib.Numerals.{add-one}
 use native.Mathlib.Decide.{ℕ-discrete}
 use native.Mathlib.Omega.{arith}
 use borrow.Author.Tests.{eqb-true, eq-eqb}
 use lib.IntN.{ℤ, pos, negsuc}
-use lib.ListN.{length, getD, set, length-append}
-use lib.Seq.{set-at, append-snoc}
+use lib.ListN.{length, getD}
 use Rattle.grid.specs.Lists.{range, select, all, each}
 use Rattle.grid.specs.Fillings.{sameNumber, holds, distinct}
 use Rattle.candidates.proofs.Tests.{both, both-left, both-right}
@@ -38,11 +37,14 @@ getD-any (x ∷ xs) (suc i) d e h = getD-any xs i d e (le-of-suc-le-suc h)
 
 -- ---- ranges and selections
 
-pub at-range {ℓ} : {A : Type ℓ} (f : ℕ → A) (z : A) (n k i : ℕ) → i < n → getD (map f (range n k)) i z ≡ f (k + i)
+at-range {ℓ} : {A : Type ℓ} (f : ℕ → A) (z : A) (n k i : ℕ) → i < n → getD (map f (range n k)) i z ≡ f (k + i)
 at-range f z zero k i h = absurd (not-suc-le-zero h)
 at-range f z (suc n) k zero h = ap f (sym (add-zero k))
 at-range f z (suc n) k (suc i) h =
     at-range f z n (suc k) i (le-of-suc-le-suc h) ∙ ap f (suc-add k i ∙ sym (add-suc k i))
+
+pub at-upTo {ℓ} : {A : Type ℓ} (f : ℕ → A) (z : A) (n i : ℕ) → i < n → getD (map f (range n 0)) i z ≡ f i
+at-upTo f z n i h = at-range f z n 0 i h ∙ ap f (zero-add i)
 
 pub range-mem : (n k c : ℕ) → k ≤ c → c < k + n → List·Memᴰ c (range n k)
 range-mem zero k c h l = absurd (omega arith)
@@ -110,17 +112,6 @@ all-stop f n i h e = ap (all f) (range-on n i h) ∙ ap (λ (t : Bool). t && all
 pub all-end : (f : ℕ → Bool) (n i : ℕ) → n ≤ i → all f (range (n - i) i) ≡ true
 all-end f n i h = ap (all f) (range-end n i h)
 
--- an array whose elements are set one after the other
-pub each-set : (f : ℕ → ℕ) (n k : ℕ) (xs ys : List ℕ) → length xs ≡ k → length ys ≡ n → each (λ c m. set m c (f c)) (range n k) (xs ++ ys) ≡ xs ++ map f (range n k)
-unfolding each
-each-set f zero k xs [] h l = refl
-each-set f zero k xs (y ∷ ys) h l = absurd (omega arith)
-each-set f (suc n) k xs [] h l = absurd (omega arith)
-each-set f (suc n) k xs (y ∷ ys) h l =
-    ap (each (λ c m. set m c (f c)) (range n (suc k))) (set-at xs y ys (f k) k h ∙ sym (append-snoc xs (f k) ys))
-    ∙ each-set f n (suc k) (xs ++ (f k ∷ [])) ys (length-append xs (f k ∷ []) ∙ omega arith) (omega arith)
-    ∙ append-snoc xs (f k) (map f (range n (suc k)))
-
 -- ---- a test of every element
 
 pub all-at {ℓ} : {A : Type ℓ} (f : A → Bool) (l : List A) (d : A) → all f l ≡ true → (i : ℕ) → i < length l → f (getD l i d) ≡ true
@@ -131,6 +122,17 @@ all-at f (x ∷ xs) d e (suc i) h = all-at f xs d (both-right (f x) (all f xs) e
 pub at-all {ℓ} : {A : Type ℓ} (f : A → Bool) (l : List A) (d : A) → ((i : ℕ) → i < length l → f (getD l i d) ≡ true) → all f l ≡ true
 at-all f [] d h = refl
 at-all f (x ∷ xs) d h = both (h 0 (omega arith)) (at-all f xs d (λ i k. h (suc i) (omega arith)))
+
+-- tests and values that agree on the members
+pub all-same : {A : Type 0} (f g : A → Bool) (xs : List A) → ((x : A) → List·Memᴰ x xs → f x ≡ g x) → all f xs ≡ all g xs
+all-same f g [] h = refl
+all-same f g (x ∷ xs) h =
+    ap (λ (t : Bool). t && all f xs) (h x (List·Memᴰ·head refl)) ∙ ap (λ (t : Bool). g x && t) (all-same f g xs (λ y k. h y (List·Memᴰ·tail k)))
+
+pub map-same : {A B : Type 0} (f g : A → B) (xs : List A) → ((x : A) → List·Memᴰ x xs → f x ≡ g x) → map f xs ≡ map g xs
+map-same f g [] h = refl
+map-same {A} {B} f g (x ∷ xs) h =
+    ap (λ (y : B). y ∷ map f xs) (h x (List·Memᴰ·head refl)) ∙ ap (λ (ys : List B). g x ∷ ys) (map-same f g xs (λ y k. h y (List·Memᴰ·tail k)))
 
 all-from : (f : ℕ → Bool) (n k : ℕ) → all f (range n k) ≡ true → (i : ℕ) → k ≤ i → i < k + n → f i ≡ true
 all-from f zero k e i h l = absurd (omega arith)

@@ -5,16 +5,15 @@ use mathlib.Core.Logic.{_≢_}
 use mathlib.Core.Bool.{true, cond}
 use mathlib.Core.List.{List, [], map, List·Memᴰ, Memᴰ·cast}
 use Prim.Native.Nat.{ℕ, _+_, _-_, _*_, _%_, _≤_, _<_}
-use native.Mathlib.Nat.{zero-add}
 use native.Mathlib.Decide.{decLt}
 use native.Mathlib.Omega.{arith}
-use borrow.Author.Tests.{lt-ltb, le-ltb}
+use borrow.Author.Tests.{lt-ltb, le-ltb, eqb-true}
 use lib.Dec.{eqb, ltb, eqb→eq, ltb→lt}
 use lib.ListN.{length, getD, replicate, getD-replicate, List·getD-eq-default}
 use Rattle.grid.specs.Lists.{range, select}
 use Rattle.grid.specs.Cells.{row, col, box, cells}
 use Rattle.grid.specs.Units.{units, unit, unitCell, unitCells, inUnit, Member}
-use Rattle.grid.proofs.Lists.{getD-any, at-range, mem-place, place-mem}
+use Rattle.grid.proofs.Lists.{getD-any, at-upTo, mem-place, place-mem}
 use Rattle.candidates.proofs.Tests.{allBelow, below, below-both, implies, implied, T-true, cond-true, cond-false}
 
 -- ---- a unit is the list of the cells that the rule names
@@ -27,7 +26,7 @@ pub unit-is : (u : ℕ) → u < 27 → unit u ≡ select (inUnit u) cells
 unfolding unit
 unit-is u h =
     ap (λ (t : List (List ℕ)). getD t u []) table
-    ∙ at-range (λ u. select (inUnit u) cells) [] 27 0 u h ∙ ap (λ (v : ℕ). select (inUnit v) cells) (zero-add u)
+    ∙ at-upTo (λ u. select (inUnit u) cells) [] 27 u h
 
 -- ---- a unit as an array holds it
 
@@ -158,3 +157,18 @@ kind u h = go (decLt u 9) (decLt u 18)
     go (yes k) d = row-unit u k
     go (no k) (yes l) = subst Kind (omega arith) (col-unit (u - 9) (omega arith))
     go (no k) (no l) = subst Kind (omega arith) (box-unit (u - 18) (omega arith))
+
+-- a cell is in its row, its column and its box, and in no other unit
+pub by-unit : (P : ℕ → Type 0) (c : ℕ) → P (row c) → P (9 + col c) → P (18 + box c) → (u : ℕ) → Kind u → inUnit u c ≡ true → P u
+by-unit P c p q t u (row-unit r h) e = subst P (eqb-true (row c) r (sym (in-row r c h) ∙ e)) p
+by-unit P c p q t u (col-unit k h) e = subst (λ (v : ℕ). P (9 + v)) (eqb-true (col c) k (sym (in-col k c h) ∙ e)) q
+by-unit P c p q t u (box-unit b h) e = subst (λ (v : ℕ). P (18 + v)) (eqb-true (box c) b (sym (in-box b c h) ∙ e)) t
+
+-- the column of the cell at a place of a row, and the row of one of a column
+pub col-place : (r i : ℕ) → r < 9 → i < 9 → col (unitCell r i) ≡ i
+unfolding unit units
+col-place r i h l = eqb→eq (col (unitCell r i)) i (below-both 9 9 (λ r i. eqb (col (unitCell r i)) i) tt r i h l)
+
+pub row-place : (c i : ℕ) → c < 9 → i < 9 → row (unitCell (9 + c) i) ≡ i
+unfolding unit units
+row-place c i h l = eqb→eq (row (unitCell (9 + c) i)) i (below-both 9 9 (λ c i. eqb (row (unitCell (9 + c) i)) i) tt c i h l)

@@ -3,7 +3,7 @@ use mathlib.Core.Path.{_≡_, refl, sym, ap, _∙_}
 use mathlib.Core.Logic.{_≢_, _⊎_, inl, inr, ⊎-elim}
 use mathlib.Core.Bool.{Bool, true, false, _&&_}
 use mathlib.Core.List.{List, []}
-use Prim.Native.Nat.{ℕ, zero, suc, _+_, _-_, _^_, _≤_, _<_}
+use Prim.Native.Nat.{ℕ, zero, suc, _+_, _-_, _≤_, _<_}
 use native.Mathlib.Decide.{ℕ-discrete, decLt}
 use native.Mathlib.Omega.{arith}
 use borrow.Author.Tests.{eqb-true, eq-eqb, lt-ltb, le-ltb}
@@ -17,10 +17,11 @@ use Rattle.grid.specs.Fillings.{numberAt, verified}
 use Rattle.candidates.specs.Masks.{union, single}
 use Rattle.candidates.specs.Sets.{place}
 use Rattle.grid.specs.Seen.{numberMask, numberMasks, gathered, complete}
-use Rattle.candidates.proofs.Tests.{both, both-right, bool-iff, cond-true}
+use Rattle.candidates.proofs.Tests.{both, both-right, bool-iff}
 use Rattle.candidates.specs.Masks.{bit}
-use Rattle.candidates.proofs.Membership.{bit-union, bit-power, bit-other, bit-none, bit-all, bit-high, ext}
-use Rattle.grid.proofs.Lists.{at-range, each-set, each-on, each-end, all-range, range-all}
+use Rattle.candidates.proofs.Membership.{bit-union, bit-power, bit-other, bit-none, bit-all, bit-high, ext, single-power}
+use Rattle.grid.proofs.Fills.{each-set}
+use Rattle.grid.proofs.Lists.{at-upTo, each-on, each-end, all-range, range-all}
 use Rattle.grid.proofs.Units.{cell-below}
 use Rattle.grid.proofs.Pigeonhole.{Injects, onto, onto-injects}
 use Rattle.grid.proofs.Fillings.{placeAt, verified-complete, complete-verified}
@@ -29,9 +30,6 @@ place-le : (z : ℤ) → place z ≤ 9
 place-le (pos zero) = omega arith
 place-le (pos (suc n)) = omega arith
 place-le (negsuc n) = omega arith
-
-single-is : (d : ℕ) → d < 16 → single d ≡ 2 ^ d
-single-is d h = cond-true (ltb d 16) (2 ^ d) 0 (lt-ltb d 16 h)
 
 -- ---- a mask that gathers the places that f gives
 
@@ -42,14 +40,14 @@ module _ (f : ℕ → ℕ) (small : (i : ℕ) → f i < 16) where
   step-own : (s i : ℕ) → bit (union s (single (f i))) (f i) ≡ 1
   step-own s i =
       bit-union s (single (f i)) (f i)
-      ∙ omega (arith, ap (λ (m : ℕ). bit m (f i)) (single-is (f i) (small i)), bit-power (f i))
+      ∙ omega (arith, ap (λ (m : ℕ). bit m (f i)) (single-power (f i) (small i)), bit-power (f i))
 
   step-keeps : (s i d : ℕ) → bit s d ≤ bit (union s (single (f i))) d
   step-keeps s i d = omega (arith, bit-union s (single (f i)) d)
 
   step-other : (s i d : ℕ) → f i ≢ d → bit (union s (single (f i))) d ≡ bit s d
   step-other s i d n =
-      bit-union s (single (f i)) d ∙ omega (arith, ap (λ (m : ℕ). bit m d) (single-is (f i) (small i)), bit-other (f i) d n)
+      bit-union s (single (f i)) d ∙ omega (arith, ap (λ (m : ℕ). bit m d) (single-power (f i) (small i)), bit-other (f i) d n)
 
   keeps : (n k s d : ℕ) → bit s d ≤ bit (gather n k s) d
   unfolding each gather
@@ -105,7 +103,7 @@ module _ (f : ℕ → ℕ) (small : (i : ℕ) → f i < 16) where
 
 mask-at : (g : List ℤ) (c : ℕ) → c < 81 → getD (numberMasks g) c 0 ≡ numberMask (numberAt g c)
 unfolding numberMasks cells
-mask-at g c h = at-range (λ c. numberMask (numberAt g c)) 0 81 0 c h ∙ ap (λ (d : ℕ). numberMask (numberAt g d)) (omega arith)
+mask-at g c h = at-upTo (λ c. numberMask (numberAt g c)) 0 81 c h
 
 same-steps : (f h : ℕ → ℕ) (n k s : ℕ) → ((i : ℕ) → i < k + n → f i ≡ h i) → each (λ i m. union m (f i)) (range n k) s ≡ each (λ i m. union m (h i)) (range n k) s
 unfolding each

@@ -6,12 +6,11 @@
 // number, its flag, a checksum of the masks after it, and each report, its cell and its digit.
 use board::Board;
 use board::Opening;
-use board::Parsing;
-use board::text;
 use calls::Stepping;
 use libc::STDIN_FILENO;
 use libc::STDOUT_FILENO;
 use techniques::singles::Reports;
+use text::Parsing;
 
 const PRIME: u64 = 72057594037927931;
 

@@ -1,25 +1,25 @@
 -- The check of a handed board: it admits just the boards whose clues are 0 to 9 and whose masks are admissible. Assumes nothing.
 use mathlib.Core.Path.{_≡_, refl, sym, ap, _∙_, subst}
 use mathlib.Core.Bool.{Bool, true, false, not, _&&_, _||_, true≢false}
-use mathlib.Core.List.{List, [], _∷_, map, List·Memᴰ}
+use mathlib.Core.List.{List, List·Memᴰ}
 use mathlib.Core.Option.{Option, none, some}
-use Prim.Native.Nat.{ℕ, zero, suc, _+_, _≤_, _<_, zero-le}
-use native.Mathlib.Nat.{not-suc-le-zero}
+use Prim.Native.Nat.{ℕ, _≤_, _<_, zero-le}
 use native.Mathlib.Decide.{decLt}
 use native.Mathlib.Omega.{arith}
-use borrow.Author.Tests.{eqb-true, eq-eqb, leb-true, le-leb}
+use borrow.Author.Tests.{eqb-true, eq-eqb, leb-true, not-false}
 use lib.Dec.{eqb, leb}
 use lib.IntN.{ℤ, pos, negsuc}
-use lib.ListN.{length, getD, length-map, List·getD-eq-default}
+use lib.ListN.{length, getD, List·getD-eq-default}
 use Rattle.candidates.specs.Masks.{Sub, minus}
-use Rattle.candidates.proofs.Tests.{by-test}
+use Rattle.candidates.proofs.Tests.{by-test, cond-true}
 use Rattle.candidates.proofs.Order.{sub-none, sub-of-minus, minus-of-sub}
 use Rattle.grid.specs.Cells.{cells}
-use Rattle.steps.specs.Boards.{Board, at, digitOf, givensOf, given, isOpen, freshAt, fresh, Givens, Under, Admissible}
+use Rattle.grid.proofs.Cells.{at-cells}
+use Rattle.steps.specs.Boards.{Board, at, digitOf, givensOf, given, isOpen, freshAt, fresh, Givens, Admissible}
 use Rattle.steps.specs.Calls.{badClue, misfit, badMask, firstStop, refusal}
 use Rattle.steps.specs.Demand3.{Clues}
 use Rattle.steps.specs.Loops.{first}
-use Rattle.steps.proofs.Fresh.{at-cells, fresh-at, fresh-out}
+use Rattle.steps.proofs.Fresh.{fresh-at, fresh-out}
 use Rattle.steps.proofs.Loops.{first-none, none-first, in-upTo, upTo-in}
 
 in-cells : (c : ℕ) → c < 81 → List·Memᴰ c cells
@@ -32,9 +32,13 @@ cells-in c k = in-upTo 81 c k
 
 -- ---- clues and givens
 
-digit-small : (z : ℤ) → digitOf z ≤ 9
+pub digit-small : (z : ℤ) → digitOf z ≤ 9
 digit-small (pos n) = by-test (λ (k : ℕ). k ≤ 9) (leb n 9) n 0 (λ t. leb-true n 9 t) (λ t. zero-le)
 digit-small (negsuc n) = zero-le
+
+pub good-digit : (z : ℤ) → badClue z ≡ false → pos (digitOf z) ≡ z
+good-digit (pos n) e = ap pos (cond-true (leb n 9) n 0 (not-false (leb n 9) e))
+good-digit (negsuc n) e = absurd (true≢false e)
 
 pub givens-length : (clues : List ℤ) → length (givensOf clues) ≡ 81
 unfolding givensOf cells
@@ -42,7 +46,7 @@ givens-length clues = refl
 
 pub given-clue : (clues : List ℤ) (c : ℕ) → c < 81 → given (givensOf clues) c ≡ digitOf (getD clues c (pos 0))
 unfolding givensOf
-given-clue clues c h = at-cells (λ c. digitOf (getD clues c (pos 0))) c h
+given-clue clues c h = at-cells 0 (λ c. digitOf (getD clues c (pos 0))) c h
 
 pub clues-givens : (clues : List ℤ) → Givens (givensOf clues)
 clues-givens clues = record { size = givens-length clues; small = λ c. go c (decLt c 81) }

@@ -3,7 +3,7 @@ use mathlib.Core.Path.{_≡_, refl, sym, ap, _∙_, subst}
 use mathlib.Core.Logic.{_≢_}
 use mathlib.Core.Bool.{Bool, true, false, cond, not, true≢false}
 use mathlib.Core.List.{List, map}
-use Prim.Native.Nat.{ℕ, zero, suc, _+_, _-_, _^_, _≤_, _<_}
+use Prim.Native.Nat.{ℕ, zero, suc, _-_, _^_, _≤_, _<_}
 use native.Mathlib.Decide.{decLt}
 use native.Mathlib.Omega.{arith}
 use borrow.Author.Tests.{eqb-true, eqb-false}
@@ -17,7 +17,7 @@ use Rattle.grid.specs.Cells.{cells, sees}
 use Rattle.grid.specs.Fillings.{numberAt, Correct}
 use Rattle.candidates.specs.Sets.{place}
 use Rattle.grid.specs.Units.{unitCell, Member}
-use Rattle.grid.proofs.Cells.{sees-shared}
+use Rattle.grid.proofs.Cells.{at-cells, sees-shared}
 use Rattle.grid.proofs.Fillings.{number-of, place-lt, correct-complete}
 use Rattle.grid.proofs.Pigeonhole.{onto}
 use Rattle.grid.proofs.Units.{at-place}
@@ -27,7 +27,6 @@ use Rattle.steps.specs.Demand3.{Clues}
 use Rattle.steps.specs.Fillings.{KeepsClues, InMasks}
 use Rattle.steps.proofs.Check.{clues-givens, given-clue}
 use Rattle.steps.proofs.Fillings.{Filling, filling-still}
-use Rattle.steps.proofs.Fresh.{at-cells}
 use Rattle.steps.proofs.FreshDigits.{fresh-open, fresh-clue}
 use Rattle.steps.proofs.Reach.{Reach, reach-keeps}
 
@@ -59,7 +58,7 @@ filled-length p = refl
 
 filled-at : (p : ℕ → ℕ) (c : ℕ) → c < 81 → at (filled p) c ≡ 2 ^ p c
 unfolding filled
-filled-at p c h = at-cells (λ c. 2 ^ p c) c h
+filled-at p c h = at-cells 0 (λ c. 2 ^ p c) c h
 
 filled-out : (p : ℕ → ℕ) (c : ℕ) → 81 ≤ c → at (filled p) c ≡ 0
 filled-out p c h = List·getD-eq-default (filled p) 0 {n = c} (omega (arith, filled-length p))

@@ -1,14 +1,13 @@
 -- Masks of one digit: what they share with the masks that steps read and lose. Assumes nothing.
 use mathlib.Core.Path.{_≡_, sym, ap, _∙_}
 use mathlib.Core.Logic.{_≢_, _⊎_, inl, inr}
-use Prim.Native.Nat.{ℕ, _-_, _^_, _≤_, _<_, min}
-use native.Mathlib.Decide.{ℕ-discrete, decLt}
+use Prim.Native.Nat.{ℕ, _-_, _^_, _<_}
+use native.Mathlib.Decide.{ℕ-discrete}
 use native.Mathlib.Omega.{arith}
 use lib.Bits.{bitAnd, or-lt}
-use lib.Dec.{lit<}
-use lib.Pow.{pow-lt, pow-mono}
-use Rattle.candidates.specs.Masks.{bit, minus, union, Sub}
-use Rattle.candidates.proofs.Membership.{bit-and, bit-union, bit-none, bit-power, bit-other, bit-all, bit-high, ext}
+use lib.Pow.{pow-lt}
+use Rattle.candidates.specs.Masks.{bit}
+use Rattle.candidates.proofs.Membership.{bit-and, bit-union, bit-none, bit-power, bit-other, bit-all, ext}
 use Rattle.candidates.proofs.Order.{sub-all}
 use Rattle.candidates.proofs.Counts.{bit-except}
 use Rattle.steps.specs.Instances.{only, both, except}

@@ -1,19 +1,17 @@
 -- No step costs a correct filling: the one-digit masks of a filling are left alone by every instance. Assumes nothing.
 use mathlib.Core.Path.{_≡_, refl, sym, ap, _∙_, subst}
-use mathlib.Core.Logic.{_≢_, _⊎_, inl, inr, ⊎-elim}
+use mathlib.Core.Logic.{_≢_, _⊎_, inl, inr}
 use mathlib.Core.Bool.{Bool, true, false, cond, _||_, true≢false}
-use mathlib.Core.List.{List, [], _∷_, _++_, map, List·Memᴰ, List·Memᴰ·head, List·Memᴰ·tail, List·Memᴰ·append-cases, List·Memᴰ·eq-of-singleton, Memᴰ·append-left, Memᴰ·append-right}
-use Prim.Native.Nat.{ℕ, _+_, _-_, _*_, _/_, _%_, _^_, _≤_, _<_}
-use native.Mathlib.Decide.{ℕ-discrete}
+use mathlib.Core.List.{List, [], _∷_, _++_, List·Memᴰ, List·Memᴰ·head, List·Memᴰ·tail, List·Memᴰ·append-cases, List·Memᴰ·eq-of-singleton, Memᴰ·append-left, Memᴰ·append-right}
+use Prim.Native.Nat.{ℕ, _+_, _^_, _<_}
 use native.Mathlib.Omega.{arith}
-use borrow.Author.Tests.{eqb-true, eqb-false, ltb-true}
+use borrow.Author.Tests.{eqb-true, eqb-false}
 use lib.Bits.{bitAnd}
-use lib.Dec.{eqb, ltb}
-use lib.ListN.{length}
+use lib.Dec.{eqb}
 use Rattle.candidates.specs.Masks.{bit}
 use Rattle.candidates.proofs.Membership.{bit-none, bit-power, bit-other}
-use Rattle.candidates.proofs.Tests.{by-test, cond-true, cond-false}
-use Rattle.grid.specs.Cells.{row, col, sees, peers}
+use Rattle.candidates.proofs.Tests.{by-test}
+use Rattle.grid.specs.Cells.{row, col, peers}
 use Rattle.grid.specs.Units.{unit, unitCell, inUnit, Member}
 use Rattle.grid.proofs.Cells.{peer-sees, sees-shared}
 use Rattle.grid.proofs.Units.{cell-below, at-place, member-below, member-in, in-member, member-mem, mem-member, cells-differ, in-row, in-col}
@@ -21,7 +19,7 @@ use Rattle.steps.specs.Boards.{at, isOpen}
 use Rattle.steps.specs.Instances.{only, both, except, lineOf, loneStep, placeStep, pairStep, lockedStep, crossStep, stepOf}
 use Rattle.steps.specs.Steps.{Step, lacks, applies}
 use Rattle.steps.proofs.Digits.{apart-bit, bit-apart, bit-both, inside-only, inside-both, outside-only}
-use Rattle.steps.proofs.Instances.{Within, listed}
+use Rattle.steps.proofs.Instances.{Within, listed, line-below}
 use Rattle.steps.proofs.Loops.{all-member}
 use Rattle.steps.proofs.Reach.{Still}
 use Rattle.steps.proofs.Steps.{Closed, closed-by}
@@ -204,9 +202,6 @@ module _ (p : ℕ → ℕ) (F : Filling p) (z : List ℕ) (one : (c : ℕ) → c
               go e f he hf pe pf ef eh fh (inr i) (inr j) m = clash y e f hy he hf i j ef pe pf
 
 -- ---- every instance
-
-line-below : (b k : ℕ) → b < 9 → k < 6 → lineOf b k < 27
-line-below b k hb hk = by-test (λ (l : ℕ). l < 27) (ltb k 3) (3 * (b / 3) + k) (9 + (3 * (b % 3) + (k - 3))) (λ t. omega (arith, ltb-true k 3 t)) (λ t. omega arith)
 
 rows-apart : (r s e : ℕ) → r < s → s < 9 → inUnit r e ≡ true → inUnit s e ≡ true → ⊥
 rows-apart r s e rs hs i j =

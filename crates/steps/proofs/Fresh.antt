@@ -1,28 +1,21 @@
 -- Fresh masks: one for each cell, of the nine digits, and what an admissible board's masks can hold. Assumes nothing.
-use mathlib.Core.Path.{_≡_, refl, sym, ap, _∙_, subst}
-use mathlib.Core.Bool.{Bool, true, false, cond}
-use mathlib.Core.List.{List, [], _∷_, map}
-use Prim.Native.Nat.{ℕ, zero, suc, _+_, _-_, _*_, _^_, _≤_, _<_, zero-le}
-use native.Mathlib.Nat.{le-refl, not-suc-le-zero, zero-add}
+use mathlib.Core.Path.{_≡_, refl, sym, subst}
+use mathlib.Core.List.{List, [], _∷_}
+use Prim.Native.Nat.{ℕ, suc, _-_, _*_, _^_, _≤_, _<_, zero-le}
+use native.Mathlib.Nat.{lt-of-le-of-lt}
 use native.Mathlib.Decide.{decLt}
 use native.Mathlib.Omega.{arith}
-use borrow.Author.Tests.{lt-ltb, le-ltb, eqb-false}
-use lib.Count.{ones, ones-le}
-use lib.Dec.{eqb, ltb, lit<, lit≤}
-use lib.ListN.{length, getD, length-map, List·getD-eq-default}
+use lib.Count.{ones-le}
+use lib.Dec.{ltb, lit<}
+use lib.ListN.{length, List·getD-eq-default}
 use lib.Pow.{pow-mono}
-use Rattle.candidates.specs.Masks.{count, single}
-use Rattle.candidates.proofs.Order.{sub-le}
-use Rattle.candidates.proofs.Tests.{by-test, cond-true, cond-false}
+use Rattle.candidates.specs.Masks.{minus, single}
+use Rattle.candidates.proofs.Order.{minus-sub, sub-le}
+use Rattle.candidates.proofs.Tests.{by-test}
 use Rattle.grid.specs.Cells.{cells}
-use Rattle.grid.proofs.Lists.{at-range}
+use Rattle.grid.proofs.Cells.{at-cells}
 use Rattle.steps.specs.Boards.{at, given, isOpen, givenMask, taken, freshAt, fresh, Givens, Under, Admissible, total}
 use Rattle.steps.proofs.Masks.{under-refl}
-
--- the value that a map over the cells has at a cell
-pub at-cells : (f : ℕ → ℕ) (c : ℕ) → c < 81 → getD (map f cells) c 0 ≡ f c
-unfolding cells
-at-cells f c h = at-range f 0 81 0 c h ∙ ap f (zero-add c)
 
 module _ (g : List ℕ) where
   pub fresh-length : length (fresh g) ≡ 81
@@ -31,7 +24,7 @@ module _ (g : List ℕ) where
 
   pub fresh-at : (c : ℕ) → c < 81 → at (fresh g) c ≡ freshAt g c
   unfolding fresh
-  fresh-at c h = at-cells (freshAt g) c h
+  fresh-at c h = at-cells 0 (freshAt g) c h
 
   pub fresh-out : (c : ℕ) → 81 ≤ c → at (fresh g) c ≡ 0
   fresh-out c h = List·getD-eq-default (fresh g) 0 (subst (λ (n : ℕ). n ≤ c) (sym fresh-length) h)
@@ -50,7 +43,7 @@ module _ (g : List ℕ) where
 
     pub freshAt-small : (c : ℕ) → freshAt g c < 512
     freshAt-small c =
-        by-test (λ (x : ℕ). x < 512) (isOpen g c) (511 - taken g c) (givenMask g c) (λ t. omega arith) (λ t. givenMask-small c)
+        by-test (λ (x : ℕ). x < 512) (isOpen g c) (minus 511 (taken g c)) (givenMask g c) (λ t. lt-of-le-of-lt (sub-le (minus-sub 511 (taken g c))) (lit< tt)) (λ t. givenMask-small c)
 
     pub fresh-small : (c : ℕ) → at (fresh g) c < 512
     fresh-small c = go (decLt c 81)

@@ -1,5 +1,5 @@
 -- Which digits the fresh masks hold: a clue cell its own, an open cell those that no cell that it sees is given. Assumes nothing.
-use mathlib.Core.Path.{_≡_, refl, sym, ap, _∙_, subst}
+use mathlib.Core.Path.{_≡_, refl, sym, _∙_, subst}
 use mathlib.Core.Logic.{_⊎_, _↔_, inl, inr, ⊎-elim}
 use mathlib.Core.Bool.{Bool, true, false}
 use mathlib.Core.List.{List, [], _∷_, List·Memᴰ, List·Memᴰ·head, List·Memᴰ·tail, List·Memᴰ·not-nil, List·Memᴰ·cases-cons}
@@ -8,7 +8,6 @@ use native.Mathlib.Omega.{arith}
 use borrow.Author.Tests.{eqb-true, eq-eqb, eqb-false, lt-ltb}
 use lib.Dec.{ltb, lit<}
 use Rattle.candidates.specs.Masks.{bit, union, minus, single}
-use Rattle.candidates.proofs.Counts.{sub-and}
 use Rattle.candidates.proofs.Membership.{bit-all}
 use Rattle.candidates.proofs.Tests.{cond-true, cond-false}
 use Rattle.grid.specs.Cells.{sees, peers}
@@ -16,7 +15,7 @@ use Rattle.grid.proofs.Cells.{peer-sees, sees-peer}
 use Rattle.steps.specs.Boards.{given, isOpen, givenMask, taken, fresh, Givens}
 use Rattle.steps.specs.Loops.{each}
 use Rattle.steps.specs.Published.{Candidate, FreshCandidate}
-use Rattle.candidates.proofs.Held.{Held, sub-held, none-held, held-below, held-power, held-minus, held-union}
+use Rattle.candidates.proofs.Held.{Held, none-held, held-below, held-power, held-minus, held-union}
 use Rattle.steps.proofs.Fresh.{fresh-at}
 
 -- what a loop of unions gathers
@@ -76,30 +75,21 @@ module _ (g : List ℕ) (ok : Givens g) where
       seen : (e : ℕ) → List·Memᴰ e (peers c) → Held (givenMask g e) d → (e : ℕ) × (e < 81) × (sees c e ≡ true) × (given g e ≡ suc d)
       seen e k t = (e, peer-sees c e k .0, peer-sees c e k .1, held-given e d .0 t)
 
-  taken-digit : (c d : ℕ) → Held (taken g c) d → d < 9
-  taken-digit c d t =
-      let w = held-taken c d .0 t in
-      omega (arith, w .3, ok .small (w .0))
-
   -- the digits that are not taken
-  held-rest : (c d : ℕ) → Held (511 - taken g c) d ↔ ((d < 9) × ¬ (Held (taken g c) d))
-  held-rest c d = subst (λ (x : ℕ). Held x d ↔ ((d < 9) × ¬ (Held (taken g c) d))) rest
-      (λ t. down (held-minus 511 (taken g c) d .0 t), λ w. held-minus 511 (taken g c) d .1 (held-all (w .0), w .1))
+  held-rest : (c d : ℕ) → Held (minus 511 (taken g c)) d ↔ ((d < 9) × ¬ (Held (taken g c) d))
+  held-rest c d = (λ t. down (held-minus 511 (taken g c) d .0 t), λ w. held-minus 511 (taken g c) d .1 (held-all (w .0), w .1))
     where
       held-all : {k : ℕ} → k < 9 → Held 511 k
       held-all {k} h = eq-eqb (bit 511 k) 1 (bit-all k h)
-
-      rest : minus 511 (taken g c) ≡ 511 - taken g c
-      rest = ap (λ (x : ℕ). 511 - x) (sub-and (sub-held (taken g c) 511 (λ k t. held-all (taken-digit c k t))))
 
       down : Held 511 d × ¬ (Held (taken g c) d) → (d < 9) × ¬ (Held (taken g c) d)
       down w = (held-below 511 9 d (lit< tt) (w .0), w .1)
 
   pub fresh-clue : (c d : ℕ) → c < 81 → isOpen g c ≡ false → Candidate (fresh g) c d ↔ (given g c ≡ suc d)
-  fresh-clue c d h f = subst (λ (x : ℕ). Held x d ↔ (given g c ≡ suc d)) (sym (fresh-at g c h ∙ cond-false (isOpen g c) (511 - taken g c) (givenMask g c) f)) (held-given c d)
+  fresh-clue c d h f = subst (λ (x : ℕ). Held x d ↔ (given g c ≡ suc d)) (sym (fresh-at g c h ∙ cond-false (isOpen g c) (minus 511 (taken g c)) (givenMask g c) f)) (held-given c d)
 
   pub fresh-open : (c d : ℕ) → c < 81 → isOpen g c ≡ true → Candidate (fresh g) c d ↔ FreshCandidate g c d
-  fresh-open c d h f = subst (λ (x : ℕ). Held x d ↔ FreshCandidate g c d) (sym (fresh-at g c h ∙ cond-true (isOpen g c) (511 - taken g c) (givenMask g c) f))
+  fresh-open c d h f = subst (λ (x : ℕ). Held x d ↔ FreshCandidate g c d) (sym (fresh-at g c h ∙ cond-true (isOpen g c) (minus 511 (taken g c)) (givenMask g c) f))
       (λ t. down (held-rest c d .0 t), λ w. held-rest c d .1 (w .digit, λ t. up w (held-taken c d .0 t)))
     where
       down : (d < 9) × ¬ (Held (taken g c) d) → FreshCandidate g c d

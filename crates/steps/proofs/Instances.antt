@@ -1,9 +1,12 @@
 -- The numbers of a listed instance are within their bounds: what holds of every instance within them holds of every listed one. Assumes nothing.
-use mathlib.Core.Path.{_≡_, sym, subst}
+use mathlib.Core.Path.{sym, subst}
 use mathlib.Core.List.{List, [], _∷_, List·Memᴰ, List·Memᴰ·append-cases, List·Memᴰ·eq-of-singleton}
 use mathlib.Core.Logic.{⊎-elim}
-use Prim.Native.Nat.{ℕ, _<_}
-use Rattle.steps.specs.Instances.{Instance, lone, place, pair, pointing, cross, exchanged, lones, places, pairs, pointings, crosses}
+use Prim.Native.Nat.{ℕ, _+_, _-_, _*_, _/_, _%_, _<_}
+use native.Mathlib.Omega.{arith}
+use lib.Dec.{ltb}
+use Rattle.candidates.proofs.Tests.{by-test}
+use Rattle.steps.specs.Instances.{Instance, lone, place, pair, pointing, cross, exchanged, lineOf, lones, places, pairs, pointings, crosses}
 use Rattle.steps.specs.Loops.{for, upTo, above}
 use Rattle.steps.specs.Passes.{Kind, Lone, Place, Pair, Pointing, Cross, instances}
 use Rattle.steps.proofs.Loops.{for-all, in-upTo, in-above}
@@ -46,3 +49,7 @@ module _ (P : Instance → Type 0) where
       turned =
           below 9 _ λ d hd. below 9 _ λ r hr. later r 9 _ λ s rs hs. below 9 _ λ a ha. later a 9 _ λ b ab hb. λ x.
           one x (exchanged d r s a b) (w .onExchanged d r s a b hd rs hs ab hb)
+
+-- the lines that meet a box are units
+pub line-below : (b k : ℕ) → b < 9 → k < 6 → lineOf b k < 27
+line-below b k h l = by-test (λ (v : ℕ). v < 27) (ltb k 3) (3 * (b / 3) + k) (9 + (3 * (b % 3) + (k - 3))) (λ t. omega arith) (λ t. omega arith)

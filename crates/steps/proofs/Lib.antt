@@ -1,4 +1,5 @@
 pub mod Loops
+pub mod Searches
 pub mod Masks
 pub mod Steps
 pub mod Reach

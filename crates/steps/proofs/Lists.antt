@@ -1,19 +1,17 @@
 -- Demand 3 is met: `demand3`, whose statement is specs/Demand3.antt. Assumes nothing.
-use mathlib.Core.Path.{_≡_, refl, sym, ap, _∙_, subst}
-use mathlib.Core.Logic.{_≢_, _↔_, _⊎_, inl, inr, ⊎-elim}
-use mathlib.Core.Bool.{Bool, true, false, not, true≢false}
+use mathlib.Core.Path.{_≡_, refl, sym, _∙_, subst}
+use mathlib.Core.Logic.{_⊎_, inl, inr, ⊎-elim}
+use mathlib.Core.Bool.{true, false, not, true≢false}
 use mathlib.Core.List.{List, [], _∷_}
 use mathlib.Core.Option.{Option, none, some}
-use Prim.Native.Nat.{ℕ, _+_, _-_, _≤_, _<_}
+use Prim.Native.Nat.{ℕ}
 use native.Mathlib.Omega.{arith}
 use borrow.Author.Tests.{not-true}
 use lib.IntN.{ℤ}
-use lib.ListN.{length}
 use Rattle.candidates.proofs.Tests.{by-test}
-use Rattle.grid.specs.Fillings.{verified}
 use Rattle.grid.proofs.Fillings.{verified-correct}
 use Rattle.candidates.proofs.Tests.{both-left, both-right}
-use Rattle.steps.specs.Boards.{Board, givensOf, fresh, Givens, Under, Admissible, total}
+use Rattle.steps.specs.Boards.{Board, givensOf, fresh, Givens, Admissible}
 use Rattle.steps.specs.Calls.{Call, updateCandidates, nakedPairsCall, boxLineCall, xWingCall, nakedSinglesCall, hiddenSinglesCall, advancedCall, wide, settling, chainCall, isChain, withoutChain, outcome, advanced, checked, answer, left, refusal, run, opened}
 use Rattle.steps.specs.Demand3.{Clues, SettledBoard, Ends, Settles, Demand3}
 use Rattle.steps.specs.Passes.{Settled, settle}

@@ -1,10 +1,10 @@
 -- Laws of the loops: what each member of a list does, and what a list made by loops holds. Assumes nothing.
-use mathlib.Core.Path.{_≡_, refl, sym, ap, _∙_, subst}
-use mathlib.Core.Bool.{Bool, true, false, cond, true≢false}
-use mathlib.Core.Logic.{_⊎_, inl, inr, ⊎-elim}
+use mathlib.Core.Path.{_≡_, refl, ap, _∙_, subst}
+use mathlib.Core.Bool.{Bool, true, false, cond}
+use mathlib.Core.Logic.{⊎-elim}
 use mathlib.Core.List.{List, [], _∷_, _++_, List·Memᴰ, List·Memᴰ·head, List·Memᴰ·tail, List·Memᴰ·not-nil, List·Memᴰ·cases-cons, List·Memᴰ·append-cases, Memᴰ·append-left, Memᴰ·append-right}
 use mathlib.Core.Option.{Option, none, some}
-use Prim.Native.Nat.{ℕ, _+_, _-_, _≤_, _<_, zero-le}
+use Prim.Native.Nat.{ℕ, _+_, _-_, _<_, zero-le}
 use native.Mathlib.Omega.{arith}
 use Rattle.candidates.proofs.Tests.{both, both-left, both-right}
 use Rattle.grid.proofs.Lists.{range-mem, mem-range}
@@ -15,6 +15,11 @@ module _ {A S : Type 0} (f : A → S → S) where
   unfolding each
   each-append [] ys s = refl
   each-append (x ∷ xs) ys s = each-append xs ys (f x s)
+
+  pub each-idle : (xs : List A) (s : S) → ((x : A) → List·Memᴰ x xs → f x s ≡ s) → each f xs s ≡ s
+  unfolding each
+  each-idle [] s h = refl
+  each-idle (x ∷ xs) s h = ap (each f xs) (h x (List·Memᴰ·head refl)) ∙ each-idle xs s (λ y k. h y (List·Memᴰ·tail k))
 
   -- what each member keeps, the whole loop keeps
   pub each-keeps : (P : S → Type 0) (xs : List A) → ((x : A) → List·Memᴰ x xs → (s : S) → P s → P (f x s)) → (s : S) → P s → P (each f xs s)
@@ -47,6 +52,15 @@ module _ {A B : Type 0} where
   for-in (z ∷ zs) h x y k l =
       ⊎-elim (λ e. Memᴰ·append-left (for zs h) (subst (λ (w : A). List·Memᴰ y (h w)) e l)) (λ r. Memᴰ·append-right (h z) (for-in zs h x y r l))
       (List·Memᴰ·cases-cons k)
+
+-- a loop whose members give the same
+pub for-same : {A B : Type 0} (f g : A → List B) (xs : List A) → ((x : A) → List·Memᴰ x xs → f x ≡ g x) → for xs f ≡ for xs g
+unfolding for
+for-same f g [] h = refl
+for-same f g (x ∷ xs) h =
+    let p = h x (List·Memᴰ·head refl) in
+    let r = for-same f g xs (λ y k. h y (List·Memᴰ·tail k)) in
+    cc
 
 -- members of the two loops over numbers
 pub in-upTo : (n i : ℕ) → List·Memᴰ i (upTo n) → i < n

@@ -2,14 +2,14 @@
 use mathlib.Core.Path.{_≡_, refl, sym, ap, _∙_, subst}
 use mathlib.Core.Logic.{⊎-elim}
 use mathlib.Core.Bool.{Bool, true, false, cond, not, _&&_, _||_, true≢false}
-use mathlib.Core.List.{List, [], _∷_, _++_, List·Memᴰ, List·Memᴰ·head, List·Memᴰ·append-cases, Memᴰ·append-left, Memᴰ·append-right}
+use mathlib.Core.List.{List, [], _∷_, List·Memᴰ, List·Memᴰ·head, Memᴰ·append-left, Memᴰ·append-right}
 use Prim.Native.Nat.{ℕ, _+_, _≤_, _<_}
 use native.Mathlib.Nat.{zero-add}
 use native.Mathlib.Omega.{arith}
 use borrow.Author.Tests.{eqb-true, eq-eqb, leb-true}
 use lib.Bits.{bitAnd}
 use lib.Dec.{eqb, leb}
-use Rattle.candidates.specs.Masks.{bit, count, lowest, tail}
+use Rattle.candidates.specs.Masks.{count, lowest, tail}
 use Rattle.candidates.proofs.Counts.{and-except}
 use Rattle.candidates.proofs.FewDigits.{Pair as TwoDigits, count-pair}
 use Rattle.candidates.proofs.Held.{Held, held-below, held-both}

@@ -3,9 +3,8 @@ use mathlib.Core.Path.{_≡_, refl, sym, ap, _∙_, subst}
 use mathlib.Core.Logic.{_↔_, inl, inr}
 use mathlib.Core.Bool.{Bool, true, false, true≢false}
 use mathlib.Core.List.{List, [], _∷_, List·Memᴰ, List·Memᴰ·head, List·Memᴰ·tail}
-use Prim.Native.Nat.{ℕ, _+_, _-_, _*_, _/_, _%_, _≤_, _<_}
+use Prim.Native.Nat.{ℕ, _+_, _<_}
 use native.Mathlib.Omega.{arith}
-use lib.Dec.{ltb}
 use Rattle.candidates.proofs.Order.{sub-le}
 use Rattle.candidates.proofs.Tests.{by-test}
 use Rattle.grid.specs.Units.{unit, unitCell}
@@ -21,6 +20,7 @@ use Rattle.steps.proofs.Loops.{in-upTo, in-above}
 use Rattle.steps.proofs.Losses.{without-same}
 use Rattle.steps.proofs.Published.{naked-pair, naked-pair-loses, naked-pair-none, pointing, pointing-loses, pointing-none, Line, x-wing, x-wing-loses, x-wing-none}
 use Rattle.steps.proofs.Steps.{all-under}
+use Rattle.steps.proofs.Instances.{line-below}
 
 -- ---- turns
 
@@ -108,9 +108,6 @@ module _ (g : List ℕ) where
       turn u i j h r m small = (naked-pair-turn u i j (omega arith) (omega arith) (omega arith) m small, pair-small u (unitCell u i) (unitCell u j) m small)
 
   -- ---- box-line
-
-  line-below : (b k : ℕ) → b < 9 → k < 6 → lineOf b k < 27
-  line-below b k h l = by-test (λ (v : ℕ). v < 27) (ltb k 3) (3 * (b / 3) + k) (9 + (3 * (b % 3) + (k - 3))) (λ t. omega arith) (λ t. omega arith)
 
   pub box-line-turn : (b d k : ℕ) → b < 9 → k < 6 → (m n : List ℕ) → PointingTurn g (18 + b) (lineOf b k) d m n ↔ (n ≡ boxLineAt g (18 + b) (lineOf b k) d m)
   box-line-turn b d k h l m =

@@ -1,10 +1,10 @@
 -- Masks that wide instances reach from others, and what follows for settled masks: the order of the instances has no bearing on where they end. Assumes nothing.
-use mathlib.Core.Path.{_≡_, refl, sym, ap, _∙_, subst}
-use mathlib.Core.Bool.{Bool, false}
+use mathlib.Core.Path.{_≡_, refl, sym, _∙_, subst}
+use mathlib.Core.Bool.{false}
 use mathlib.Core.List.{List, [], _∷_, List·Memᴰ, List·Memᴰ·head, List·Memᴰ·tail}
 use Prim.Native.Nat.{ℕ}
 use lib.ListN.{length}
-use Rattle.steps.specs.Boards.{at, isOpen, fresh, Under, Admissible}
+use Rattle.steps.specs.Boards.{at, isOpen, Under, Admissible}
 use Rattle.steps.specs.Instances.{Instance, stepOf}
 use Rattle.steps.specs.Loops.{each}
 use Rattle.steps.specs.Passes.{Kind, kinds, instances, instanceTaken, pass, sweep, Settled}

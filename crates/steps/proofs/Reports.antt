@@ -1,28 +1,33 @@
 -- Singles: each test is the published single, and the reports are just those singles. Assumes nothing.
-use mathlib.Core.Path.{_≡_, refl, sym, ap}
+use mathlib.Core.Path.{_≡_, refl, sym, ap, _∙_}
 use mathlib.Core.Logic.{_↔_}
-use mathlib.Core.Bool.{Bool, true, false, cond, true≢false}
+use mathlib.Core.Bool.{Bool, true, false, cond, _&&_, true≢false}
 use mathlib.Core.List.{List, [], _∷_, _++_, map, List·Memᴰ, List·Memᴰ·head, List·Memᴰ·not-nil, List·Memᴰ·eq-of-singleton}
-use Prim.Native.Nat.{ℕ, zero, suc, _+_, _<_, zero-le}
+use mathlib.Core.Option.{Option, none, some}
+use Prim.Native.Nat.{ℕ, zero, suc, _+_, _<_}
 use native.Mathlib.Nat.{not-suc-le-zero}
 use native.Mathlib.Numerals.{add-one}
 use native.Mathlib.Omega.{arith}
-use borrow.Author.Tests.{eqb-true, eq-eqb}
+use borrow.Author.Tests.{eqb-true, eq-eqb, ne-eqb}
 use lib.Dec.{eqb}
+use lib.IntN.{ℤ, pos, natAbs}
 use lib.ListN.{length, getD}
-use Rattle.candidates.specs.Masks.{count, lowest}
+use Rattle.candidates.specs.Masks.{nine, count, lowest}
+use Rattle.candidates.specs.Sets.{onlyOf}
 use Rattle.grid.specs.Cells.{cells}
 use Rattle.grid.specs.Lists.{range, select}
 use Rattle.grid.specs.Units.{unitCell}
 use Rattle.grid.proofs.Lists.{mem-range, mem-select, place-mem}
-use Rattle.candidates.proofs.Tests.{both, both-left, both-right}
+use Rattle.candidates.proofs.Tests.{cond-true, cond-false}
 use Rattle.steps.specs.Boards.{at, isOpen}
+use Rattle.steps.specs.Calls.{isSome}
 use Rattle.steps.specs.Loops.{for, upTo}
 use Rattle.steps.specs.Ported.{spots}
-use Rattle.steps.specs.Published.{NakedSingle, HiddenSingle, Rising}
-use Rattle.steps.specs.Singles.{Report, reportIf, isNakedSingle, nakedSingles, hiddenSingles}
-use Rattle.candidates.proofs.FewDigits.{one-count, count-one}
-use Rattle.steps.proofs.Loops.{in-for, for-in, in-upTo, upTo-in}
+use Rattle.steps.specs.Published.{Open, NakedSingle, HiddenSingle, Rising}
+use Rattle.steps.specs.Singles.{Report, reportIf, reportOnly, nakedAt, nakedSingles, hiddenSingles}
+use Rattle.candidates.proofs.FewDigits.{One, one-count, count-one}
+use Rattle.candidates.proofs.Only.{Says, single-says, single-is}
+use Rattle.steps.proofs.Loops.{in-for, for-in, for-same, in-upTo, upTo-in}
 use Rattle.steps.proofs.Spots.{spots-small, one-hidden, hidden-one}
 
 -- ---- one report, where a test holds
@@ -44,57 +49,80 @@ one-report false x k c d = (λ l. absurd (List·Memᴰ·not-nil l), λ w. absurd
 
 -- ---- naked singles
 
+-- a report of cell x is of x, and of the digit that an open x answers
+one-only : (g m : List ℕ) (x c d : ℕ) → List·Memᴰ (reportOf c d) (nakedAt g m x) ↔ ((c ≡ x) × Open g x × (onlyOf (at m x) ≡ some (pos (suc d))))
+one-only g m x c d = go (isOpen g x)
+  where
+    told : (o : Option ℤ) → Says (at m x) o → List·Memᴰ (reportOf c d) (reportOnly x o) → (c ≡ x) × (o ≡ some (pos (suc d)))
+    told none w l = absurd (List·Memᴰ·not-nil l)
+    told (some z) w l =
+        let e = List·Memᴰ·eq-of-singleton l in
+        let q : suc d ≡ suc (w .place) = ap (λ (r : Report). r .digit) e ∙ ap natAbs (w .digit) in
+        (ap (λ (r : Report). r .cell) e, ap some (w .digit ∙ ap pos (sym q)))
+
+    tell : (o : Option ℤ) → c ≡ x → o ≡ some (pos (suc d)) → List·Memᴰ (reportOf c d) (reportOnly x o)
+    tell o p e = rw (e, p) (List·Memᴰ·head refl)
+
+    go : (t : Bool) → List·Memᴰ (reportOf c d) (cond t (reportOnly x (onlyOf (at m x))) []) ↔ ((c ≡ x) × (t ≡ true) × (onlyOf (at m x) ≡ some (pos (suc d))))
+    go true = (λ l. let w = told (onlyOf (at m x)) (single-says (at m x) refl) l in (w .0, refl, w .1), λ w. tell (onlyOf (at m x)) (w .0) (w .2))
+    go false = (λ l. absurd (List·Memᴰ·not-nil l), λ w. absurd (true≢false (sym (w .1))))
+
 module _ (g m : List ℕ) (small : (c : ℕ) → at m c < 512) where
-  one-naked : (c : ℕ) → isNakedSingle g m c ≡ true → NakedSingle g m c (lowest (at m c))
-  one-naked c t =
-      let o = count-one (at m c) (omega (arith, small c)) (eqb-true (count (at m c)) 1 (both-right (isOpen g c) (eqb (count (at m c)) 1) t)) in
-      record { holder = record { free = both-left (isOpen g c) (eqb (count (at m c)) 1) t; held = o .held }; alone = o .alone }
+  all-nine : (c : ℕ) → nine (at m c) ≡ at m c
+  all-nine c = omega (arith, small c)
 
-  naked-one : {c d : ℕ} → NakedSingle g m c d → isNakedSingle g m c ≡ true
-  naked-one {c} s = both (s .holder .free) (eq-eqb (count (at m c)) 1 (one-count (record { held = s .holder .held; alone = s .alone })))
-
-  pub naked-single : (c : ℕ) → (isNakedSingle g m c ≡ true) ↔ ((d : ℕ) × NakedSingle g m c d)
-  naked-single c = (λ t. (lowest (at m c), one-naked c t), λ w. naked-one (w .1))
-
-  -- its digit is the lowest one
-  pub naked-digit : {c d : ℕ} → NakedSingle g m c d → d ≡ lowest (at m c)
-  naked-digit {c} s = sym (s .alone (lowest (at m c)) (one-naked c (naked-one s) .holder .held))
+  -- a naked single is an open cell whose set answers the digit
+  pub naked-single : (c d : ℕ) → (Open g c × (onlyOf (at m c) ≡ some (pos (suc d)))) ↔ NakedSingle g m c d
+  naked-single c d = (λ w. one (w .0) (rw (all-nine c) at (single-is (at m c) d .0 (w .1))), λ s. (s .holder .free, single-is (at m c) d .1 (rw (all-nine c) (record { held = s .holder .held; alone = s .alone }))))
+    where
+      one : Open g c → One (at m c) d → NakedSingle g m c d
+      one t o = record { holder = record { free = t; held = o .held }; alone = o .alone }
 
   -- the reports are the naked singles
   pub naked-reports : (c d : ℕ) → List·Memᴰ (reportOf c d) (nakedSingles g m) ↔ ((c < 81) × NakedSingle g m c d)
   unfolding nakedSingles cells
-  naked-reports c d = (λ k. from (in-for cells one (reportOf c d) k), λ w. into (w .0) (w .1))
+  naked-reports c d = (λ k. from (in-for cells (nakedAt g m) (reportOf c d) k), λ w. into (w .0) (naked-single c d .1 (w .1)))
     where
-      one : ℕ → List Report
-      one c = reportIf (isNakedSingle g m c) c (lowest (at m c))
+      into : c < 81 → Open g c × (onlyOf (at m c) ≡ some (pos (suc d))) → List·Memᴰ (reportOf c d) (for cells (nakedAt g m))
+      into h s = for-in cells (nakedAt g m) c (reportOf c d) (upTo-in 81 c h) (one-only g m c c d .1 (refl, s .0, s .1))
 
-      into : c < 81 → NakedSingle g m c d → List·Memᴰ (reportOf c d) (for cells one)
-      into h s =
-          for-in cells one c (reportOf c d) (upTo-in 81 c (omega arith))
-          (one-report (isNakedSingle g m c) c (lowest (at m c)) c d .1 (naked-one s, refl, naked-digit s))
-
-      from : (x : ℕ) × List·Memᴰ x cells × List·Memᴰ (reportOf c d) (one x) → (c < 81) × NakedSingle g m c d
+      from : (x : ℕ) × List·Memᴰ x cells × List·Memᴰ (reportOf c d) (nakedAt g m x) → (c < 81) × NakedSingle g m c d
       from w =
-          let x = w .0 in
-          let r = one-report (isNakedSingle g m x) x (lowest (at m x)) c d .0 (w .2) in
-          rw (r .2, r .1) (in-upTo 81 x (w .1), one-naked x (r .0))
+          let r = one-only g m (w .0) c d .0 (w .2) in
+          rw (r .0) (in-upTo 81 (w .0) (w .1), naked-single (w .0) d .0 (r .1, r .2))
 
--- their cells are those that pass the test, in the order of the cells
-listed-cells : (f : ℕ → Bool) (h : ℕ → ℕ) (l : List ℕ) → map (λ (r : Report). r .cell) (for l λ c. reportIf (f c) c (h c)) ≡ select f l
+  -- by count: an open cell with one candidate reports its lowest
+  pub naked-counted : nakedSingles g m ≡ for cells λ c. reportIf (isOpen g c && eqb (count (at m c)) 1) c (lowest (at m c))
+  unfolding nakedSingles
+  naked-counted = for-same (nakedAt g m) (λ c. reportIf (isOpen g c && eqb (count (at m c)) 1) c (lowest (at m c))) cells (λ c k. go c (isOpen g c) (onlyOf (at m c)) (single-says (at m c) refl))
+    where
+      go : (c : ℕ) (t : Bool) (o : Option ℤ) → Says (at m c) o → cond t (reportOnly c o) [] ≡ reportIf (t && eqb (count (at m c)) 1) c (lowest (at m c))
+      go c true (some z) w =
+          let o : One (at m c) (w .place) = rw (all-nine c) at (w .one) in
+          let low : lowest (at m c) ≡ w .place = o .alone (lowest (at m c)) (count-one (at m c) (omega (arith, small c)) (one-count o) .held) in
+          let digit : natAbs z ≡ suc (w .place) = ap natAbs (w .digit) in
+          let e : natAbs z ≡ lowest (at m c) + 1 = omega arith in
+          ap (λ (n : ℕ). record { cell = c; digit = n } ∷ []) e
+          ∙ sym (cond-true (eqb (count (at m c)) 1) (record { cell = c; digit = lowest (at m c) + 1 } ∷ []) [] (eq-eqb (count (at m c)) 1 (one-count o)))
+      go c true none w =
+          sym (cond-false (eqb (count (at m c)) 1) (record { cell = c; digit = lowest (at m c) + 1 } ∷ []) [] (ne-eqb (count (at m c)) 1 (rw (all-nine c) at w)))
+      go c false o w = refl
+
+-- their cells are those that have one, in the order of the cells
+listed-cells : (g m l : List ℕ) → map (λ (r : Report). r .cell) (for l (nakedAt g m)) ≡ select (λ c. isSome (nakedAt g m c)) l
 unfolding for
-listed-cells f h [] = refl
-listed-cells f h (c ∷ cs) = go (f c) (listed-cells f h cs)
+listed-cells g m [] = refl
+listed-cells g m (c ∷ cs) = go (isOpen g c) (onlyOf (at m c)) (listed-cells g m cs)
   where
-    rest : List Report
-    rest = for cs λ c. reportIf (f c) c (h c)
+    go : (t : Bool) (o : Option ℤ) → map (λ (r : Report). r .cell) (for cs (nakedAt g m)) ≡ select (λ c. isSome (nakedAt g m c)) cs
+        → map (λ (r : Report). r .cell) (cond t (reportOnly c o) [] ++ for cs (nakedAt g m)) ≡ cond (isSome (cond t (reportOnly c o) [])) (c ∷ select (λ c. isSome (nakedAt g m c)) cs) (select (λ c. isSome (nakedAt g m c)) cs)
+    go true (some z) ih = ap (λ (l : List ℕ). c ∷ l) ih
+    go true none ih = ih
+    go false o ih = ih
 
-    go : (t : Bool) → map (λ (r : Report). r .cell) rest ≡ select f cs → map (λ (r : Report). r .cell) (reportIf t c (h c) ++ rest) ≡ cond t (c ∷ select f cs) (select f cs)
-    go true ih = ap (λ (l : List ℕ). c ∷ l) ih
-    go false ih = ih
-
-pub naked-cells : (g m : List ℕ) → map (λ (r : Report). r .cell) (nakedSingles g m) ≡ select (isNakedSingle g m) cells
+pub naked-cells : (g m : List ℕ) → map (λ (r : Report). r .cell) (nakedSingles g m) ≡ select (λ c. isSome (nakedAt g m c)) cells
 unfolding nakedSingles
-naked-cells g m = listed-cells (isNakedSingle g m) (λ c. lowest (at m c)) cells
+naked-cells g m = listed-cells g m cells
 
 rising-cons : {x : ℕ} {l : List ℕ} → ((y : ℕ) → List·Memᴰ y l → x < y) → Rising l → Rising (x ∷ l)
 rising-cons {x} {l} h r = record { rise = go }
@@ -115,8 +143,8 @@ select-rises f (suc n) k = go (f k) (select-rises f n (suc k))
 pub naked-rising : (g m : List ℕ) → Rising (map (λ (r : Report). r .cell) (nakedSingles g m))
 naked-rising g m = rw (naked-cells g m) (all)
   where
-    all : Rising (select (isNakedSingle g m) cells)
-    all = unfold cells in select-rises (isNakedSingle g m) 81 0
+    all : Rising (select (λ c. isSome (nakedAt g m c)) cells)
+    all = unfold cells in select-rises (λ c. isSome (nakedAt g m c)) 81 0
 
 -- ---- hidden singles
 

@@ -1,21 +1,18 @@
 -- Settling: it ends settled, with the sweeps and removals that it reports. Assumes nothing.
 use mathlib.Core.Path.{_≡_, refl, sym, ap, _∙_, subst}
 use mathlib.Core.Logic.{_≢_}
-use mathlib.Core.Bool.{Bool, true, false, cond}
+use mathlib.Core.Bool.{false}
 use mathlib.Core.List.{List, [], _∷_, List·Memᴰ, List·Memᴰ·head, List·Memᴰ·tail, List·Memᴰ·not-nil, List·Memᴰ·cases-cons}
 use mathlib.Core.Logic.{⊎-elim}
-use Prim.Native.Nat.{ℕ, zero, suc, _+_, _-_, _*_, _≤_, _<_}
+use Prim.Native.Nat.{ℕ, zero, suc, _+_, _-_, _≤_, _<_}
 use native.Mathlib.Omega.{arith}
-use lib.Count.{ones-le}
-use lib.ListN.{length, getD}
-use Rattle.candidates.specs.Masks.{count}
-use Rattle.candidates.proofs.Order.{sub-le}
+use lib.ListN.{length}
 use Rattle.candidates.proofs.Tests.{by-test}
-use Rattle.steps.specs.Boards.{at, isOpen, fresh, Under, Admissible, total, sameMasks}
+use Rattle.steps.specs.Boards.{isOpen, Under, total, sameMasks}
 use Rattle.steps.specs.Instances.{Instance, stepOf}
 use Rattle.steps.specs.Loops.{each}
 use Rattle.steps.specs.Passes.{Kind, Lone, Place, Pair, Pointing, Cross, kinds, instances, instanceTaken, pass, sweep, Settled, Sweeps, settleIn, swept}
-use Rattle.steps.proofs.Masks.{under-refl, under-trans, under-eq, under-antisym, total-under, total-less, same-refl, same-eq, differ}
+use Rattle.steps.proofs.Masks.{under-refl, under-trans, under-antisym, total-less, same-eq, differ}
 use Rattle.steps.proofs.Reach.{Reach, reach-trans, reach-under, reach-length, pass-reach, sweep-reach}
 use Rattle.steps.proofs.Steps.{take-under, take-length}
 

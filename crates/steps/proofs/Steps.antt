@@ -1,21 +1,20 @@
 -- What holds of every step: it shrinks, it is monotone, and clue cells keep their masks. Assumes nothing.
 use mathlib.Core.Path.{_≡_, refl, sym, ap, _∙_, subst}
 use mathlib.Core.Logic.{_≢_}
-use mathlib.Core.Bool.{Bool, true, false, cond, true≢false}
+use mathlib.Core.Bool.{Bool, true, false}
 use mathlib.Core.List.{List, [], _∷_, List·Memᴰ, List·Memᴰ·head, List·Memᴰ·tail}
-use Prim.Native.Nat.{ℕ, _-_, _≤_, _<_}
+use Prim.Native.Nat.{ℕ, _≤_, _<_}
 use native.Mathlib.Decide.{ℕ-discrete, decLt}
 use native.Mathlib.Omega.{arith}
 use borrow.Author.Tests.{eqb-true, eq-eqb}
-use lib.Bits.{bitAnd, and-zero-l}
-use lib.Dec.{eqb}
-use lib.ListN.{length, getD, set, length-set, List·getD-eq-default}
+use lib.Bits.{bitAnd}
+use lib.ListN.{length, set, length-set, List·getD-eq-default}
 use lib.Seq.{getD-set-same, getD-set-other, set-out, set-getD}
 use Rattle.candidates.specs.Masks.{Sub, minus}
-use Rattle.candidates.proofs.Order.{sub-refl, sub-trans, minus-sub, minus-mono, minus-none, apart-sub}
-use Rattle.candidates.proofs.Tests.{by-test, cond-true, cond-false}
+use Rattle.candidates.proofs.Order.{sub-refl, minus-sub, minus-mono, minus-none, apart-sub}
+use Rattle.candidates.proofs.Tests.{by-test}
 use Rattle.steps.specs.Boards.{at, Under}
-use Rattle.steps.specs.Loops.{each, all}
+use Rattle.steps.specs.Loops.{each}
 use Rattle.steps.specs.Steps.{Step, lacks, applies, loseAt, loseAll, take}
 use Rattle.steps.proofs.Loops.{all-member, member-all}
 use Rattle.steps.proofs.Masks.{under-refl, under-trans}

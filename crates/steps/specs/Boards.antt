@@ -7,7 +7,7 @@ use Prim.Native.Nat.{ℕ, _+_, _-_, _≤_}
 use lib.Dec.{eqb, leb}
 use lib.IntN.{ℤ, pos, negsuc}
 use lib.ListN.{length, getD}
-use Rattle.candidates.specs.Masks.{union, count, single, Sub}
+use Rattle.candidates.specs.Masks.{minus, union, count, single, Sub}
 use Rattle.grid.specs.Cells.{cells, peers}
 use Rattle.steps.specs.Loops.{each}
 
@@ -52,7 +52,7 @@ taken g c = each (λ e k. union k (givenMask g e)) (peers c) 0
 
 -- "A clue cell's mask is its digit alone"; "an open cell holds d exactly if no peer's clue is d"
 abbrev pub freshAt : List ℕ → ℕ → ℕ
-freshAt g c = cond (isOpen g c) (511 - taken g c) (givenMask g c)
+freshAt g c = cond (isOpen g c) (minus 511 (taken g c)) (givenMask g c)
 
 unfoldable pub fresh : List ℕ → List ℕ
 fresh g = map (freshAt g) cells

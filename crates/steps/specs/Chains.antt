@@ -5,7 +5,7 @@ use mathlib.Core.Option.{Option, none, some}
 use Prim.Native.Nat.{ℕ, zero, suc, _+_}
 use lib.Dec.{eqb, leb}
 use lib.ListN.{length}
-use Rattle.grid.specs.Cells.{row, col, box, aligned, sees, cells, peers}
+use Rattle.grid.specs.Cells.{row, col, box, sees, cells, peers}
 use Rattle.grid.specs.Units.{unit}
 use Rattle.steps.specs.Boards.{isOpen}
 use Rattle.steps.specs.Instances.{only}

@@ -1,6 +1,6 @@
 -- The wide passes and settling (modules 8 and 9).
 use mathlib.Core.Path.{_≡_}
-use mathlib.Core.Bool.{Bool, true, false, cond, not}
+use mathlib.Core.Bool.{Bool, cond, not}
 use mathlib.Core.List.{List, [], _∷_, List·Memᴰ}
 use Prim.Native.Nat.{ℕ, zero, suc, _+_, _-_}
 use Rattle.steps.specs.Boards.{isOpen, sameMasks, total}

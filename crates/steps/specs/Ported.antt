@@ -1,6 +1,6 @@
 -- The three ported eliminations (modules 3, 4 and 5): they look at open cells alone.
 use mathlib.Core.Bool.{Bool, cond, not, _&&_, _||_}
-use mathlib.Core.List.{List, [], _∷_, _++_}
+use mathlib.Core.List.{List, _++_}
 use Prim.Native.Nat.{ℕ, _+_}
 use lib.Dec.{eqb, leb}
 use Rattle.candidates.specs.Masks.{has, count, lowest, tail, gather}

@@ -1,7 +1,7 @@
 -- A step: one instance of a wide pass, as a condition and an effect. "Conditions read all 81 masks, clue cells too; only open
 -- cells lose digits; each instance is tested on the masks of that moment."
-use mathlib.Core.Bool.{Bool, true, false, cond}
-use mathlib.Core.List.{List, [], _∷_}
+use mathlib.Core.Bool.{Bool, cond}
+use mathlib.Core.List.{List}
 use Prim.Native.Nat.{ℕ}
 use lib.Bits.{bitAnd}
 use lib.Dec.{eqb}

@@ -8,7 +8,7 @@ use Rattle.grid.specs.Lists.{range}
 use Rattle.steps.specs.Boards.{at, given}
 use Rattle.steps.specs.Loops.{first}
 use Rattle.board.specs.Boards.{misfitOf, firstMisfit}
-use Rattle.board.proofs.Searches.{found, passed, ended}
+use Rattle.steps.proofs.Searches.{found, passed, ended}
 use Rattle.board.proofs.first_misfit.Statement.{statement}
 use Rattle.board.proofs.first_misfit.Tie as tie
 

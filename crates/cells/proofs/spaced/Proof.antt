@@ -5,7 +5,8 @@ use Prim.Native.Nat.{ℕ, _+_, _*_, _-_, _/_, _%_, _≤_}
 use native.Mathlib.Nat.{mul-le-mul-left}
 use native.Mathlib.Omega.{arith}
 use lib.ListN.{set, replicate}
-use Rattle.grid.proofs.Lists.{each-on, each-end, each-set}
+use Rattle.grid.proofs.Fills.{each-set}
+use Rattle.grid.proofs.Lists.{each-on, each-end}
 use Rattle.steps.specs.Boards.{at}
 use Rattle.steps.specs.Loops.{each, range}
 use Rattle.cells.specs.Places.{spacedMasks}

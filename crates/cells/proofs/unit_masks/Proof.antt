@@ -6,7 +6,8 @@ use native.Mathlib.Omega.{arith}
 use borrow.Author.Needs.{needs}
 use lib.ListN.{set, replicate}
 use Rattle.grid.specs.Units.{unitCell}
-use Rattle.grid.proofs.Lists.{each-on, each-end, each-set}
+use Rattle.grid.proofs.Fills.{each-set}
+use Rattle.grid.proofs.Lists.{each-on, each-end}
 use Rattle.grid.proofs.Units.{array-cell}
 use Rattle.steps.specs.Loops.{each, range}
 use Rattle.cells.specs.Places.{openMask, unitMasks}

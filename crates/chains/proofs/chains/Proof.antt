@@ -2,7 +2,6 @@
 use mathlib.Core.Path.{_≡_, refl, sym, ap, _∙_}
 use Prim.Native.Nat.{_+_, _-_, _≤_}
 use native.Mathlib.Omega.{arith}
-use borrow.Author.Needs.{needs}
 use Rattle.grid.proofs.Lists.{each-on, each-end}
 use Rattle.steps.specs.Chains.{chainDigit, chains}
 use Rattle.steps.specs.Loops.{each, range}

@@ -1,7 +1,5 @@
 -- `progress::answered` meets its contract. Assumes nothing.
-use mathlib.Core.Path.{_≡_, sym, ap}
-use mathlib.Core.Option.{Option}
-use Prim.Native.Nat.{ℕ}
+use mathlib.Core.Path.{sym, ap}
 use borrow.Author.Needs.{needs}
 use Rattle.steps.specs.Calls.{checked}
 use Rattle.board.specs.Answers.{refusalOf}

@@ -1,5 +1,5 @@
 -- `progress::taken_to` meets its contract. Assumes nothing.
-use mathlib.Core.Path.{_≡_, refl, ap, _∙_}
+use mathlib.Core.Path.{refl, ap, _∙_}
 use borrow.Author.Needs.{needs}
 use Rattle.steps.specs.Calls.{checked}
 use Rattle.board.specs.Answers.{refusalOf}

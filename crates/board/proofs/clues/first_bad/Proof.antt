@@ -12,7 +12,7 @@ use Rattle.grid.specs.Lists.{range}
 use Rattle.steps.specs.Calls.{badClue}
 use Rattle.steps.specs.Loops.{first}
 use Rattle.board.specs.Boards.{firstBadClue}
-use Rattle.board.proofs.Searches.{found, passed, ended}
+use Rattle.steps.proofs.Searches.{found, passed, ended}
 use Rattle.board.proofs.clues.first_bad.Statement.{statement}
 use Rattle.board.proofs.clues.first_bad.Tie as tie
 

@@ -9,7 +9,7 @@ use mir.Facts.{toZ-ofZ}
 use mir.Syntax.{w32}
 use Rattle.grid.specs.Cells.{cells}
 use Rattle.steps.specs.Boards.{digitOf, givensOf}
-use Rattle.board.proofs.Fills.{filled, fill-start, fill-on, fill-end}
+use Rattle.grid.proofs.Fills.{filled, fill-start, fill-on, fill-end}
 use Rattle.board.proofs.clues.givens_of.Statement.{statement}
 use Rattle.board.proofs.clues.givens_of.Tie as tie
 

@@ -1,11 +1,9 @@
 -- `board::fresh::fresh_mask` meets its contract. Assumes nothing.
-use mathlib.Core.Path.{_≡_, sym, ap, _∙_}
-use Prim.Native.Nat.{ℕ, _-_}
-use native.Mathlib.Omega.{arith}
+use mathlib.Core.Path.{sym, _∙_}
 use borrow.Author.Needs.{needs}
 use borrow.Author.Tests.{eq-eqb, ne-eqb}
-use lib.Bits.{bitAnd, and-comm, and-mask}
 use lib.Dec.{eqb}
+use Rattle.candidates.specs.Masks.{minus}
 use Rattle.candidates.proofs.Tests.{cond-true, cond-false}
 use Rattle.board.specs.Fresh.{digitMask}
 use Rattle.board.proofs.fresh.fresh_mask.Statement.{statement}
@@ -17,23 +15,16 @@ given-mask-requires c κs = search needs
 returns : tie.Need-returns
 returns c =
     let a = c .before .before .args in
-    c .given-mask .ensures ∙ sym (cond-false (eqb (a .digit) 0) (511 - a .seen) (digitMask (a .digit)) (ne-eqb (a .digit) 0 (c .before .if1 .taken)))
+    c .given-mask .ensures ∙ sym (cond-false (eqb (a .digit) 0) (minus 511 (a .seen)) (digitMask (a .digit)) (ne-eqb (a .digit) 0 (c .before .if1 .taken)))
 
 lose-requires : tie.Need-lose-requires
 lose-requires c κs = search needs
 
 returns-2 : tie.Need-returns-2
 returns-2 c =
-    let a = c .before .before .before .args in
-    let all : bitAnd 511 (a .seen) ≡ a .seen = omega (arith, and-comm 511 (a .seen), and-mask (a .seen) 9) in
-    c .lose .ensures ∙ ap (λ (k : ℕ). 511 - k) all
-    ∙ sym (cond-true (eqb (a .digit) 0) (511 - a .seen) (digitMask (a .digit)) (eq-eqb (a .digit) 0 (c .before .before .if1 .left)))
-
-returns-3 : tie.Need-returns-3
-returns-3 c =
     let a = c .before .before .args in
-    let e : 0 ≡ 511 - a .seen = omega arith in
-    e ∙ sym (cond-true (eqb (a .digit) 0) (511 - a .seen) (digitMask (a .digit)) (eq-eqb (a .digit) 0 (c .before .if1 .left)))
+    c .lose .ensures
+    ∙ sym (cond-true (eqb (a .digit) 0) (minus 511 (a .seen)) (digitMask (a .digit)) (eq-eqb (a .digit) 0 (c .before .if1 .left)))
 
 pub fresh-mask-spec : {M : Type 1} → statement M
-fresh-mask-spec = tie.close (tie.spec given-mask-requires returns lose-requires returns-2 returns-3)
+fresh-mask-spec = tie.close (tie.spec given-mask-requires returns lose-requires returns-2)

@@ -1,8 +1,11 @@
 -- `board::verdicts::is_single` meets its contract. Assumes nothing.
 use mathlib.Core.Path.{sym, ap, _∙_}
 use borrow.Author.Needs.{needs}
+use borrow.Author.Tests.{eq-eqb, ne-eqb}
+use Rattle.candidates.specs.Masks.{nine, count}
 use Rattle.candidates.specs.Sets.{onlyAnswer}
-use Rattle.board.proofs.Answered.{one-digit, not-one}
+use Rattle.candidates.proofs.FewDigits.{one-count}
+use Rattle.candidates.proofs.Only.{single-says}
 use Rattle.board.proofs.verdicts.is_single.Statement.{statement}
 use Rattle.board.proofs.verdicts.is_single.Tie as tie
 
@@ -16,10 +19,14 @@ enum-told-2 : tie.Need-enum-told-2
 enum-told-2 c = search needs
 
 returns : tie.Need-returns
-returns c = one-digit (c .before .before .before .args .mask) (ap onlyAnswer (sym (c .enum-told .given .1)) ∙ c .before .before .single-candidate .ensures)
+returns c =
+    let m = c .before .before .before .args .mask in
+    sym (eq-eqb (count (nine m)) 1 (one-count (single-says m (sym (ap onlyAnswer (c .enum-told .given .1)) ∙ c .before .before .single-candidate .ensures) .one)))
 
 returns-2 : tie.Need-returns-2
-returns-2 c = not-one (c .before .before .before .args .mask) (ap onlyAnswer (sym (c .enum-told2 .given .1)) ∙ c .before .before .single-candidate .ensures)
+returns-2 c =
+    let m = c .before .before .before .args .mask in
+    sym (ne-eqb (count (nine m)) 1 (single-says m (sym (ap onlyAnswer (c .enum-told2 .given .1)) ∙ c .before .before .single-candidate .ensures)))
 
 pub is-single-spec : {M : Type 1} → statement M
 is-single-spec =

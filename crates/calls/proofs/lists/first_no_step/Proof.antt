@@ -8,7 +8,7 @@ use borrow.Author.Needs.{needs}
 use lib.ListN.{length, getD}
 use Rattle.grid.specs.Lists.{range}
 use Rattle.steps.specs.Loops.{first}
-use Rattle.board.proofs.Searches.{found, passed, ended}
+use Rattle.steps.proofs.Searches.{found, passed, ended}
 use Rattle.calls.specs.Replays.{firstNoStep}
 use Rattle.calls.specs.StepNumbers.{isStep}
 use Rattle.calls.proofs.lists.first_no_step.Statement.{statement}

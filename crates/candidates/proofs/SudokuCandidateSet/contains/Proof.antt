@@ -1,5 +1,5 @@
 -- The call on the bare mask, which hands the digit on as it came.
-use mathlib.Core.Path.{_≡_, ap, _∙_}
+use mathlib.Core.Path.{ap, _∙_}
 use borrow.Author.Needs.{needs}
 use mir.Facts.{toZ-ofZ}
 use Rattle.candidates.specs.Sets.{containsOf}

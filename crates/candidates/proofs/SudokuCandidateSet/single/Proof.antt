@@ -1,5 +1,5 @@
 -- The place found says whether the digit is one; then its mask is the set.
-use mathlib.Core.Path.{_≡_, ap, _∙_}
+use mathlib.Core.Path.{ap, _∙_}
 use borrow.Author.Needs.{needs}
 use Rattle.candidates.specs.Answer.{gives, stop}
 use Rattle.candidates.specs.Masks.{single}

@@ -1,14 +1,13 @@
 -- The three cases of a signed number: too low, too high, a digit.
-use mathlib.Core.Path.{_≡_, subst, sym, _∙_}
+use mathlib.Core.Path.{_≡_, subst, sym}
 use mathlib.Core.Bool.{true, false}
 use Prim.Native.Nat.{_≤_}
 use lib.IntN.{ℤ, pos, natAbs}
 use lib.Signed.{ltZ, nonNeg}
 use lib.Dec.{T}
-use mir.Syntax.{w32, w64}
-use mir.Val.{Fits, ofZ, toZ}
+use mir.Syntax.{w64}
+use mir.Val.{Fits}
 use mir.Facts.{toZ-ofZ, fits-natAbs}
-use Rattle.candidates.specs.Sets.{place}
 use Rattle.candidates.proofs.Places.{low, high, Digit, digit}
 use Rattle.candidates.proofs.digits.place_of.Statement.{statement}
 use Rattle.candidates.proofs.digits.place_of.Tie as tie

@@ -1,5 +1,5 @@
 -- A digit joins the nine bits; a bad one leaves the mask.
-use mathlib.Core.Path.{_≡_, ap, _∙_}
+use mathlib.Core.Path.{ap, _∙_}
 use Prim.Native.Nat.{ℕ}
 use borrow.Author.Needs.{needs}
 use Rattle.candidates.specs.Masks.{nine, union, single}

@@ -1,5 +1,5 @@
 -- A digit leaves the nine bits; a bad one leaves the mask.
-use mathlib.Core.Path.{_≡_, _∙_}
+use mathlib.Core.Path.{_∙_}
 use Prim.Native.Nat.{ℕ}
 use borrow.Author.Needs.{needs}
 use Rattle.candidates.specs.Masks.{nine, minus, single}

@@ -1,12 +1,11 @@
 -- A power of two below 2 ^ 16 is not cut off by the shift.
-use mathlib.Core.Path.{_≡_, sym, ap, _∙_}
+use mathlib.Core.Path.{sym, _∙_}
 use Prim.Native.Nat.{_^_, _<_}
 use native.Mathlib.Omega.{arith}
 use borrow.Author.Needs.{needs}
 use borrow.Author.Tests.{lt-ltb, le-ltb}
 use lib.Dec.{ltb}
 use lib.Pow.{pow-lt}
-use native.Mathlib.Nat.{mod-eq-of-lt, one-mul}
 use Rattle.candidates.proofs.Tests.{cond-true, cond-false}
 use Rattle.candidates.proofs.masks.digit_mask.Statement.{statement}
 use Rattle.candidates.proofs.masks.digit_mask.Tie as tie

@@ -1,5 +1,5 @@
 -- The two calls one after the other.
-use mathlib.Core.Path.{_≡_, ap, _∙_}
+use mathlib.Core.Path.{ap, _∙_}
 use borrow.Author.Needs.{needs}
 use Rattle.candidates.specs.Masks.{minus}
 use Rattle.candidates.proofs.masks.lose_digit.Statement.{statement}

@@ -1,7 +1,6 @@
 -- `m & (m - 1)` clears the lowest digit.
-use mathlib.Core.Path.{_≡_, sym, ap}
+use mathlib.Core.Path.{sym, ap}
 use native.Mathlib.Omega.{arith}
-use borrow.Author.Needs.{needs}
 use Rattle.candidates.specs.Masks.{tail}
 use Rattle.candidates.proofs.Counts.{tail-is}
 use Rattle.candidates.proofs.masks.lose_lowest.Statement.{statement}

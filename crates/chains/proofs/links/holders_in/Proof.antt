@@ -1,12 +1,9 @@
 -- `chains::links::holders_in` meets its contract. The invariant: the list and what the holders that are left add to it are the whole selection. Assumes nothing.
-use mathlib.Core.Path.{_≡_, refl, sym, ap, ap₂, _∙_}
+use mathlib.Core.Path.{sym, ap, _∙_}
 use mathlib.Core.Logic.{⊎-elim}
-use mathlib.Core.List.{List, _++_}
-use Prim.Native.Nat.{ℕ, _+_, _-_, _≤_, _<_}
+use Prim.Native.Nat.{_-_, _≤_}
 use native.Mathlib.Omega.{arith}
 use borrow.Author.Needs.{needs}
-use lib.ListN.{length, set, length-set}
-use Rattle.steps.specs.Boards.{at}
 use Rattle.steps.specs.Loops.{select}
 use Rattle.chains.specs.Lists.{listed}
 use Rattle.chains.specs.Links.{inScope}

@@ -3,10 +3,10 @@ use mathlib.Core.Path.{_≡_, refl, sym, ap, _∙_}
 use mathlib.Core.List.{List, []}
 use Prim.Native.Nat.{ℕ, _+_, _-_, _≤_}
 use native.Mathlib.Omega.{arith}
-use borrow.Author.Needs.{needs}
 use lib.ListN.{length, set, replicate}
 use Rattle.grid.specs.Units.{inUnit}
-use Rattle.grid.proofs.Lists.{each-on, each-end, each-set}
+use Rattle.grid.proofs.Fills.{each-set}
+use Rattle.grid.proofs.Lists.{each-on, each-end}
 use Rattle.steps.specs.Loops.{each, range, select}
 use Rattle.chains.specs.Lists.{listed}
 use Rattle.chains.specs.Links.{unitCounts}

@@ -1,0 +1,167 @@
+// Grids as text (module 12): 81 bytes, `1` to `9`; `0` and `.` are open.
+ghost use mathlib.Core.Path.{_≡_};
+ghost use Prim.Native.Nat.{_≤_};
+ghost use lib.ListN.{drop, getD, length};
+ghost use mathlib.Core.List.{_++_};
+ghost use Rattle.board.specs.Answers.{beside, foundCell};
+ghost use Rattle.board.specs.Boards.{noClues};
+ghost use Rattle.text.specs.Answers.{parsingAnswer, textCell, writingAnswer};
+ghost use Rattle.text.specs.Texts.{byteCell, isOther, byteClue, firstOther, cluesOf, parseOf, clueByte, textOf, writeOf, written};
+use board::Found;
+use board::clues;
+
+// What a byte of a text is: a cell, with its digit or 0 where it is open, or any other byte.
+pub enum TextByte {
+    Cell(u8),
+    Other,
+}
+
+// What `parse_string` answers: the clues are read, or the length, or the index of the first other byte.
+pub enum Parsing {
+    Read,
+    WrongLength(usize),
+    BadByte(usize),
+}
+
+// A text that was read; zeros beside a refusal.
+pub struct Parsed {
+    pub answer: Parsing,
+    pub clues: [i32; 81],
+}
+
+// What `write_text` answers: the bytes written, the lent length that is too short, or the first cell of stop 3.
+pub enum Writing {
+    Written(usize),
+    TooShort(usize),
+    BadClue(usize),
+}
+
+// What a byte stands for.
+pub fn text_byte(byte: u8) -> TextByte
+    ensures { λ r. ⌜ textCell r ≡ byteCell byte ⌝ }
+{
+    if byte == b'.' {
+        return TextByte::Cell(0);
+    }
+    if byte < b'0' {
+        return TextByte::Other;
+    }
+    if b'9' < byte {
+        return TextByte::Other;
+    }
+    TextByte::Cell(byte - b'0')
+}
+
+fn is_other(byte: u8) -> bool
+    ensures { λ r. ⌜ r ≡ isOther byte ⌝ }
+{
+    match text_byte(byte) {
+        TextByte::Cell(_) => false,
+        TextByte::Other => true,
+    }
+}
+
+fn byte_clue(byte: u8) -> i32
+    ensures { λ r. ⌜ r ≡ byteClue byte ⌝ }
+{
+    match text_byte(byte) {
+        TextByte::Cell(digit) => digit as i32,
+        TextByte::Other => 0,
+    }
+}
+
+// The byte at an index; 0 past the text.
+fn byte_at(text: &[u8], index: usize) -> u8
+    ensures { λ r. ⌜ r ≡ getD (now (text .entry)) index 0 ⌝ }
+{
+    if index < text.len() {
+        return text[index];
+    }
+    0
+}
+
+// The first other byte of 81.
+fn first_other(text: &[u8]) -> Found
+    ensures { λ r. ⌜ foundCell r ≡ firstOther (now (text .entry)) ⌝ }
+{
+    let mut index: usize = 0;
+    while index < 81 {
+        if is_other(byte_at(text, index)) {
+            return Found::At(index);
+        }
+        index += 1;
+    }
+    Found::Nothing
+}
+
+fn clues_of(text: &[u8]) -> [i32; 81]
+    ensures { λ r. ⌜ r ≡ cluesOf (now (text .entry)) ⌝ }
+{
+    let mut clues = [0i32; 81];
+    let mut index: usize = 0;
+    while index < 81 {
+        clues[index] = byte_clue(byte_at(text, index));
+        index += 1;
+    }
+    clues
+}
+
+// The clues of a text: stop 1 with a length that is not 81, then stop 2 with the index of the first other byte.
+pub fn parse_string(text: &[u8]) -> Parsed
+    ensures { λ r. ⌜ (parsingAnswer (r .answer) (r .clues) ≡ parseOf (now (text .entry))) × (r .clues ≡ beside (parseOf (now (text .entry))) noClues) ⌝ }
+{
+    if text.len() != 81 {
+        return Parsed {
+            answer: Parsing::WrongLength(text.len()),
+            clues: [0; 81],
+        };
+    }
+    match first_other(text) {
+        Found::At(index) => Parsed {
+            answer: Parsing::BadByte(index),
+            clues: [0; 81],
+        },
+        Found::Nothing => Parsed {
+            answer: Parsing::Read,
+            clues: clues_of(text),
+        },
+    }
+}
+
+// The byte of a clue 0 to 9.
+fn clue_byte(clue: i32) -> u8
+    ensures { λ r. ⌜ r ≡ clueByte clue ⌝ }
+{
+    let digit = clues::given_digit(clue);
+    if digit == 0 {
+        return b'.';
+    }
+    digit + b'0'
+}
+
+fn put_text(grid: &[i32; 81], out: &mut [u8])
+    requires { ⌜ 81 ≤ length (now out) ⌝ }
+    ensures { λ _. ⌜ now (out .exit) ≡ textOf (now (grid .entry)) ++ drop 81 (now (out .entry)) ⌝ }
+{
+    let mut cell: usize = 0;
+    while cell < 81 {
+        out[cell] = clue_byte(grid[cell]);
+        cell += 1;
+    }
+}
+
+// The text of 81 clues, `.` for open, in the first 81 lent bytes: stop 6 with their length, then stop 3 with the cell.
+pub fn write_text(grid: &[i32; 81], out: &mut [u8]) -> Writing
+    ensures { λ r. ⌜ (writingAnswer r ≡ writeOf (now (grid .entry)) (length (now (out .entry)))) × (now (out .exit) ≡ written (writeOf (now (grid .entry)) (length (now (out .entry)))) (now (grid .entry)) (now (out .entry))) ⌝ }
+{
+    if out.len() < 81 {
+        return Writing::TooShort(out.len());
+    }
+    match clues::first_bad(grid) {
+        Found::At(cell) => Writing::BadClue(cell),
+        Found::Nothing => {
+            put_text(grid, out);
+            Writing::Written(81)
+        }
+    }
+}
