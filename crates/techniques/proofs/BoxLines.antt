@@ -2,7 +2,7 @@
 use mathlib.Core.Path.{_≡_, refl, sym, ap, _∙_}
 use mathlib.Core.Bool.{Bool, true, false, cond, not, _&&_, _||_, true≢false}
 use mathlib.Core.List.{List}
-use Prim.Native.Nat.{ℕ, _+_, _-_, _*_, _/_, _%_, _^_, _<_}
+use Prim.Native.Nat.{ℕ, _+_, _^_, _<_}
 use native.Mathlib.Decide.{decLt}
 use native.Mathlib.Omega.{arith}
 use borrow.Author.Tests.{eq-eqb, ne-eqb, eqb-true, lt-ltb, le-leb, lt-leb}
@@ -11,6 +11,7 @@ use Rattle.candidates.specs.Masks.{has, minus, count, single, tail}
 use Rattle.candidates.proofs.Counts.{count-none, count-zero, count-tail}
 use Rattle.candidates.proofs.Held.{Held, held-ext, none-held, held-minus}
 use Rattle.candidates.proofs.Tests.{allBelow, below, below-both, by-test, cond-true, cond-false, bool-iff}
+use Rattle.candidates.proofs.Membership.{single-power}
 use Rattle.grid.specs.Units.{units, unit, unitCell, inUnit, Member}
 use Rattle.grid.proofs.Units.{at-place, cell-in, member-mem, mem-member}
 use Rattle.steps.specs.Boards.{at, isOpen}
@@ -20,11 +21,12 @@ use Rattle.steps.specs.Ported.{holds, spots, isBoxLine, boxLineAt, boxLines}
 use Rattle.steps.specs.Steps.{loseAll}
 use Rattle.steps.proofs.Loops.{in-upTo, all-member, member-all}
 use Rattle.steps.proofs.Spots.{spots-small, spot-below, has-spots}
+use Rattle.steps.proofs.Instances.{line-below}
 use Rattle.cells.specs.Places.{losePlaces, unitMasks, placesOf}
 use Rattle.cells.proofs.Places.{each-same, each-alike, places-lose, all-kept, unit-masks-same, spots-are}
 use Rattle.techniques.specs.BoxLines.{linePlaces, otherThirds, outsideBox, lineUnit, lineAt, digitLines, blockLines, blockTurn}
 use Rattle.techniques.proofs.Loops.{each-unless}
-use Rattle.techniques.proofs.UnitPlaces.{agree, agreed, single-is, unless}
+use Rattle.techniques.proofs.UnitPlaces.{agree, agreed, unless}
 
 -- ---- one turn of the code
 
@@ -56,9 +58,6 @@ module _ (b k : ℕ) (hb : b < 9) (hk : k < 6) where
       agreed (has (outsideBox b k) i) (not (inUnit (18 + b) (unitCell (lineOf b k) i)))
       (below 9 (λ i. agree (has (outsideBox b k) i) (not (inUnit (18 + b) (unitCell (lineOf b k) i))))
       (below-both 9 6 (λ b k. allBelow 9 (λ i. agree (has (outsideBox b k) i) (not (inUnit (18 + b) (unitCell (lineOf b k) i))))) tt b k hb hk) i h)
-
-  line-below : lineOf b k < 27
-  line-below = by-test (λ (v : ℕ). v < 27) (ltb k 3) (3 * (b / 3) + k) (9 + (3 * (b % 3) + (k - 3))) (λ t. omega arith) (λ t. omega arith)
 
 -- ---- the test
 
@@ -138,7 +137,7 @@ module _ (g : List ℕ) (b d k : ℕ) (hb : b < 9) (hk : k < 6) (m : List ℕ) w
   lost hd =
       ap (λ (x : ℕ). losePlaces (isOpen g) x (outsideBox b k) (single d) m) (cond-true (ltb b 9) (cond (ltb k 6) v 27) 27 (lt-ltb b 9 hb) ∙ cond-true (ltb k 6) v 27 (lt-ltb k 6 hk))
       ∙ places-lose (isOpen g) v (line-below b k hb hk) (outsideBox b k) (single d) loss
-      (λ i h. ap (cond (inUnit u (unitCell v i)) 0) (sym (single-is d (omega arith))) ∙ unless (inUnit u (unitCell v i)) (has (outsideBox b k) i) (single d) (off-line b k hb hk i h)) m
+      (λ i h. ap (cond (inUnit u (unitCell v i)) 0) (sym (single-power d (omega arith))) ∙ unless (inUnit u (unitCell v i)) (has (outsideBox b k) i) (single d) (off-line b k hb hk i h)) m
 
   pub line-is : d < 9 → boxLineAt g u v d m ≡ cond (eqb (count (tail s)) 0) m (lineAt g b d s k m)
   unfolding boxLineAt lineAt

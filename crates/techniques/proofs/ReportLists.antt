@@ -2,21 +2,24 @@
 use mathlib.Core.Path.{_≡_, refl, sym, ap, _∙_}
 use mathlib.Core.Bool.{Bool, true, false, cond}
 use mathlib.Core.List.{List, [], _∷_, _++_, map, append-assoc}
+use mathlib.Core.Option.{Option, none, some}
 use Prim.Native.Nat.{ℕ, suc, _+_, _-_, _*_, _≤_, _<_}
 use native.Mathlib.Omega.{arith}
 use borrow.Author.Tests.{lt-ltb}
 use lib.Dec.{eqb, ltb, lit≤}
+use lib.IntN.{ℤ}
 use lib.ListN.{length, set, replicate, length-append}
 use lib.Seq.{set-at, append-snoc}
 use Rattle.candidates.specs.Masks.{count, lowest}
+use Rattle.candidates.specs.Sets.{onlyOf}
 use Rattle.candidates.proofs.Tests.{cond-true}
 use Rattle.grid.specs.Cells.{cells}
 use Rattle.grid.specs.Units.{unitCell}
-use Rattle.steps.specs.Boards.{at}
+use Rattle.steps.specs.Boards.{at, isOpen}
 use Rattle.steps.specs.Calls.{isSome}
 use Rattle.steps.specs.Loops.{each, for, upTo}
 use Rattle.steps.specs.Ported.{spots}
-use Rattle.steps.specs.Singles.{Report, reportIf, isNakedSingle, nakedSingles, hiddenSingles}
+use Rattle.steps.specs.Singles.{Report, reportIf, reportOnly, nakedAt, nakedSingles, hiddenSingles}
 use Rattle.techniques.specs.declared.singles.Reports.{Reports}
 use Rattle.techniques.specs.Reports.{filled, reportsOf, pushed, append}
 
@@ -77,6 +80,11 @@ unfolding for
 for-length n [] f h = omega arith
 for-length n (x ∷ xs) f h = omega (arith, length-append (f x) (for xs f), h x, for-length n xs f h)
 
+one-naked : (t : Bool) (c : ℕ) (o : Option ℤ) → length (cond t (reportOnly c o) []) ≤ 1
+one-naked true c (some z) = lit≤ tt
+one-naked true c none = lit≤ tt
+one-naked false c o = lit≤ tt
+
 one-report : (t : Bool) (c d : ℕ) → length (reportIf t c d) ≤ 1
 one-report true c d = lit≤ tt
 one-report false c d = lit≤ tt
@@ -84,7 +92,7 @@ one-report false c d = lit≤ tt
 module _ (g m : List ℕ) where
   pub naked-few : length (nakedSingles g m) ≤ 81
   unfolding nakedSingles cells
-  naked-few = for-length 1 cells (λ c. reportIf (isNakedSingle g m c) c (lowest (at m c))) (λ c. one-report (isNakedSingle g m c) c (lowest (at m c)))
+  naked-few = for-length 1 cells (nakedAt g m) (λ c. one-naked (isOpen g c) c (onlyOf (at m c)))
 
   pub hidden-few : length (hiddenSingles g m) ≤ 243
   unfolding hiddenSingles

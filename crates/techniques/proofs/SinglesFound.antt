@@ -1,60 +1,73 @@
 -- Singles as the code finds them are those of module 6. Assumes nothing.
 use mathlib.Core.Path.{_≡_, refl, sym, ap, _∙_}
-use mathlib.Core.Bool.{Bool, true, false, cond, _&&_}
-use mathlib.Core.List.{List, [], _∷_, List·Memᴰ, List·Memᴰ·head, List·Memᴰ·tail}
-use Prim.Native.Nat.{ℕ, _+_, _<_}
+use mathlib.Core.Bool.{Bool, true, false, cond}
+use mathlib.Core.List.{List, []}
+use mathlib.Core.Option.{Option, none, some}
+use Prim.Native.Nat.{ℕ, suc, _+_, _<_}
 use native.Mathlib.Omega.{arith}
 use borrow.Author.Tests.{eqb-true}
 use lib.Dec.{eqb}
+use lib.IntN.{ℤ, pos, natAbs}
 use Rattle.candidates.specs.Masks.{has, count, lowest, gather}
-use Rattle.candidates.proofs.Counts.{count-none}
+use Rattle.candidates.specs.Sets.{onlyOf, digitOr0}
 use Rattle.candidates.proofs.FewDigits.{count-one}
-use Rattle.candidates.proofs.Held.{held-below}
+use Rattle.candidates.proofs.Held.{none-held, held-below}
 use Rattle.candidates.proofs.Membership.{gather-lt}
+use Rattle.candidates.proofs.Only.{Says, single-says}
 use Rattle.candidates.proofs.Tests.{cond-true, cond-false}
 use Rattle.grid.specs.Cells.{cells}
 use Rattle.grid.specs.Units.{unitCell}
 use Rattle.steps.specs.Boards.{at, isOpen}
 use Rattle.steps.specs.Loops.{each, for, upTo}
 use Rattle.steps.specs.Ported.{spots}
-use Rattle.steps.specs.Singles.{Report, reportIf, isNakedSingle, nakedSingles, hiddenSingles}
-use Rattle.steps.proofs.Loops.{each-for, in-upTo}
+use Rattle.steps.specs.Singles.{Report, reportOnly, nakedAt, nakedSingles, hiddenSingles}
+use Rattle.steps.proofs.Loops.{each-for, for-same, in-upTo}
 use Rattle.cells.specs.Places.{openMask, unitMasks, placesOf}
 use Rattle.cells.proofs.Places.{open-mask, spots-are}
 use Rattle.techniques.specs.declared.singles.Reports.{Reports}
 use Rattle.techniques.specs.Reports.{pushed, append}
-use Rattle.techniques.specs.Singles.{onlyDigit, hiddenAt, hiddenIn}
+use Rattle.techniques.specs.Singles.{hiddenAt, hiddenIn}
 use Rattle.techniques.proofs.ReportLists.{append-one}
 
 -- ---- naked singles
 
-module _ (g m : List ℕ) (c : ℕ) (h : c < 81) where
-  digit-of : onlyDigit (openMask g m c) ≡ cond (isNakedSingle g m c) (lowest (at m c) + 1) 0
-  unfolding onlyDigit
-  digit-of = ap onlyDigit (open-mask g m c h) ∙ go (isOpen g c)
-    where
-      go : (o : Bool) → onlyDigit (cond o (at m c) 0) ≡ cond (o && eqb (count (at m c)) 1) (lowest (at m c) + 1) 0
-      go true = refl
-      go false = ap (λ (n : ℕ). cond (eqb n 1) (lowest 0 + 1) 0) count-none
+none-only : onlyOf 0 ≡ none
+none-only = go (onlyOf 0) (single-says 0 refl)
+  where
+    go : (o : Option ℤ) → Says 0 o → o ≡ none
+    go (some z) w = absurd (none-held (w .place) (w .one .held))
+    go none w = refl
 
-  -- one turn of the loop
-  pub naked-found : {d : ℕ} (q : Reports) → d ≡ onlyDigit (openMask g m c) → (d ≡ 0 → ⊥) → pushed q c d ≡ append (reportIf (isNakedSingle g m c) c (lowest (at m c))) q
-  naked-found {d} q e n = go (isNakedSingle g m c) (e ∙ digit-of) ∙ sym (append-one (isNakedSingle g m c) c (lowest (at m c)) q)
+-- one turn of the loop
+module _ (g m : List ℕ) (c : ℕ) (h : c < 81) {d : ℕ} (q : Reports) where
+  by-cell : (P : List Report → Type 0) → pos d ≡ digitOr0 (onlyOf (openMask g m c)) → ((o : Option ℤ) → Says (at m c) o → pos d ≡ digitOr0 o → P (reportOnly c o)) → (d ≡ 0 → P []) → P (nakedAt g m c)
+  by-cell P e one nothing = go (isOpen g c) (e ∙ ap (λ (x : ℕ). digitOr0 (onlyOf x)) (open-mask g m c h))
     where
-      go : (t : Bool) → d ≡ cond t (lowest (at m c) + 1) 0 → pushed q c d ≡ cond t (pushed q c (lowest (at m c) + 1)) q
-      go true p = ap (pushed q c) p
-      go false p = absurd (n p)
+      go : (t : Bool) → pos d ≡ digitOr0 (onlyOf (cond t (at m c) 0)) → P (cond t (reportOnly c (onlyOf (at m c))) [])
+      go true e = one (onlyOf (at m c)) (single-says (at m c) refl) e
+      go false e = nothing (ap natAbs (e ∙ ap digitOr0 none-only))
 
-  pub naked-none : {d : ℕ} (q : Reports) → d ≡ onlyDigit (openMask g m c) → d ≡ 0 → q ≡ append (reportIf (isNakedSingle g m c) c (lowest (at m c))) q
-  naked-none {d} q e z = go (isNakedSingle g m c) (sym z ∙ e ∙ digit-of) ∙ sym (append-one (isNakedSingle g m c) c (lowest (at m c)) q)
+  pub naked-found : pos d ≡ digitOr0 (onlyOf (openMask g m c)) → (d ≡ 0 → ⊥) → pushed q c d ≡ append (nakedAt g m c) q
+  unfolding append each
+  naked-found e n = by-cell (λ rs. pushed q c d ≡ append rs q) e go (λ z. absurd (n z))
     where
-      go : (t : Bool) → 0 ≡ cond t (lowest (at m c) + 1) 0 → q ≡ cond t (pushed q c (lowest (at m c) + 1)) q
-      go true p = absurd (omega arith)
-      go false p = refl
+      go : (o : Option ℤ) → Says (at m c) o → pos d ≡ digitOr0 o → pushed q c d ≡ append (reportOnly c o) q
+      go (some z) w e = ap (λ (z : ℤ). pushed q c (natAbs z)) e
+      go none w e = absurd (n (ap natAbs e))
 
-pub naked-loop : (g m : List ℕ) (q : Reports) → each (λ c. append (reportIf (isNakedSingle g m c) c (lowest (at m c)))) (upTo 81) q ≡ append (nakedSingles g m) q
+  pub naked-none : pos d ≡ digitOr0 (onlyOf (openMask g m c)) → d ≡ 0 → q ≡ append (nakedAt g m c) q
+  unfolding append each
+  naked-none e z = by-cell (λ rs. q ≡ append rs q) e go (λ z. refl)
+    where
+      go : (o : Option ℤ) → Says (at m c) o → pos d ≡ digitOr0 o → q ≡ append (reportOnly c o) q
+      go (some y) w e =
+          let p : d ≡ suc (w .place) = ap natAbs (e ∙ w .digit) in
+          absurd (omega arith)
+      go none w e = refl
+
+pub naked-loop : (g m : List ℕ) (q : Reports) → each (λ c. append (nakedAt g m c)) (upTo 81) q ≡ append (nakedSingles g m) q
 unfolding append nakedSingles cells
-naked-loop g m q = sym (each-for (λ r q. pushed q (r .cell) (r .digit)) cells (λ c. reportIf (isNakedSingle g m c) c (lowest (at m c))) q)
+naked-loop g m q = sym (each-for (λ r q. pushed q (r .cell) (r .digit)) cells (nakedAt g m) q)
 
 -- ---- hidden singles
 
@@ -80,14 +93,6 @@ module _ (u d : ℕ) (q : Reports) {s p : ℕ} (spot : s ≡ p) where
 pub hidden-loop : (g m : List ℕ) (u : ℕ) (q : Reports) → each (λ d. append (hiddenAt u (placesOf (unitMasks g m u) d) d)) (upTo 9) q ≡ append (hiddenIn g m u) q
 unfolding append hiddenIn
 hidden-loop g m u q = sym (each-for (λ r q. pushed q (r .cell) (r .digit)) (upTo 9) (λ d. hiddenAt u (placesOf (unitMasks g m u) d) d) q)
-
-for-same : {A B : Type 0} (f g : A → List B) (xs : List A) → ((x : A) → List·Memᴰ x xs → f x ≡ g x) → for xs f ≡ for xs g
-unfolding for
-for-same f g [] h = refl
-for-same f g (x ∷ xs) h =
-    let p = h x (List·Memᴰ·head refl) in
-    let r = for-same f g xs (λ y k. h y (List·Memᴰ·tail k)) in
-    cc
 
 pub units-loop : (g m : List ℕ) (q : Reports) → each (λ u. append (hiddenIn g m u)) (upTo 27) q ≡ append (hiddenSingles g m) q
 unfolding append hiddenSingles hiddenIn

@@ -3,12 +3,12 @@ use mathlib.Core.Path.{_≡_, refl, ap, _∙_}
 use mathlib.Core.Bool.{Bool, true, false, cond, not, _&&_, _||_}
 use Prim.Native.Nat.{ℕ, _^_, _<_}
 use native.Mathlib.Omega.{arith}
-use borrow.Author.Tests.{lt-ltb, eq-eqb, eqb-true}
-use lib.Dec.{T, eqb, ltb}
+use borrow.Author.Tests.{eq-eqb, eqb-true}
+use lib.Dec.{T, eqb}
 use Rattle.candidates.specs.Masks.{bit, has, minus, single}
 use Rattle.candidates.proofs.Held.{held-power, has-minus}
-use Rattle.candidates.proofs.Membership.{bit-all}
-use Rattle.candidates.proofs.Tests.{cond-true, bool-iff, eqb-iff}
+use Rattle.candidates.proofs.Membership.{bit-all, single-power}
+use Rattle.candidates.proofs.Tests.{bool-iff, eqb-iff}
 use Rattle.grid.specs.Units.{unitCell}
 use Rattle.grid.proofs.Units.{same-place}
 use Rattle.techniques.specs.Places.{allBut}
@@ -25,12 +25,9 @@ agreed true false a = absurd a
 agreed false true a = absurd a
 agreed false false a = refl
 
-pub single-is : (d : ℕ) → d < 16 → single d ≡ 2 ^ d
-single-is d h = cond-true (ltb d 16) (2 ^ d) 0 (lt-ltb d 16 h)
-
 pub has-single : (d i : ℕ) → d < 16 → has (single d) i ≡ eqb i d
 has-single d i h =
-    ap (λ (x : ℕ). has x i) (single-is d h)
+    ap (λ (x : ℕ). has x i) (single-power d h)
     ∙ bool-iff (has (2 ^ d) i) (eqb i d) (λ t. eq-eqb i d (held-power d i .0 t)) (λ t. held-power d i .1 (eqb-true i d t))
 
 pub has-allBut : (i j l : ℕ) → i < 9 → j < 9 → l < 9 → has (allBut i j) l ≡ not (eqb l i || eqb l j)

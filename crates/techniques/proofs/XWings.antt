@@ -4,15 +4,15 @@ use mathlib.Core.Logic.{inl, inr}
 use mathlib.Core.Bool.{Bool, true, false, cond, _&&_, _||_}
 use mathlib.Core.List.{List, _++_}
 use Prim.Native.Nat.{ℕ, _+_, _≤_, _<_}
-use native.Mathlib.Nat.{zero-add}
 use native.Mathlib.Omega.{arith}
 use borrow.Author.Tests.{eq-eqb, ne-eqb, eqb-true}
 use lib.Dec.{eqb, lit≤}
 use Rattle.candidates.specs.Masks.{has, count, single, lowest, tail}
 use Rattle.candidates.proofs.FewDigits.{count-two}
 use Rattle.candidates.proofs.Tests.{allBelow, below, below-both, by-test, cond-true, cond-false}
+use Rattle.candidates.proofs.Membership.{single-power}
 use Rattle.grid.specs.Units.{units, unit, unitCell, inUnit}
-use Rattle.grid.proofs.Lists.{at-range, each-end}
+use Rattle.grid.proofs.Lists.{at-upTo, each-end}
 use Rattle.steps.specs.Boards.{at, isOpen}
 use Rattle.steps.specs.Instances.{only}
 use Rattle.steps.specs.Loops.{each, upTo, above}
@@ -25,7 +25,7 @@ use Rattle.cells.proofs.Places.{each-same, places-lose, spots-are}
 use Rattle.techniques.specs.Places.{allBut}
 use Rattle.techniques.specs.XWings.{linesFrom, acrossFrom, lineSpots, wingAt, wingsFrom, wingDigit}
 use Rattle.techniques.proofs.Loops.{each-when}
-use Rattle.techniques.proofs.UnitPlaces.{agree, agreed, single-is, has-allBut, unless}
+use Rattle.techniques.proofs.UnitPlaces.{agree, agreed, has-allBut, unless}
 
 pub lines-le : (columns : Bool) → linesFrom columns ≤ 9
 lines-le true = lit≤ tt
@@ -92,7 +92,7 @@ module _ (g : List ℕ) (columns : Bool) (d i j : ℕ) (hd : d < 9) (hi : i < 9)
       same l b =
           ap (λ (t : Bool). cond (t || inUnit (linesFrom columns + j) (unitCell (acrossFrom columns + x) l)) 0 (only d)) (crossing columns i x l hi h b)
           ∙ ap (λ (t : Bool). cond (eqb l i || t) 0 (only d)) (crossing columns j x l hj h b)
-          ∙ ap (cond (eqb l i || eqb l j) 0) (sym (single-is d (omega arith)))
+          ∙ ap (cond (eqb l i || eqb l j) 0) (sym (single-power d (omega arith)))
           ∙ unless (eqb l i || eqb l j) (has (allBut i j) l) (single d) (has-allBut i j l hi hj b)
 
   -- n are the masks when the list was made
@@ -134,7 +134,7 @@ module _ (g : List ℕ) (columns : Bool) (d : ℕ) (hd : d < 9) where
   listed : (n : List ℕ) (i : ℕ) → i < 9 → at (lineSpots g columns d n) i ≡ spots g n (linesFrom columns + i) d
   unfolding lineSpots
   listed n i h =
-      at-range (λ i. placesOf (unitMasks g n (linesFrom columns + i)) d) 0 9 0 i h ∙ ap (λ (k : ℕ). placesOf (unitMasks g n (linesFrom columns + k)) d) (zero-add i)
+      at-upTo (λ i. placesOf (unitMasks g n (linesFrom columns + i)) d) 0 9 i h
       ∙ spots-are g n (linesFrom columns + i) d (omega (arith, lines-le columns))
 
   digit-is : (m : List ℕ) → wingDigit g columns d m ≡ xWingDigit g (linesFrom columns) (acrossFrom columns) d m

@@ -1,17 +1,12 @@
 -- Singles as the code goes about them.
-use mathlib.Core.Bool.{cond}
 use mathlib.Core.List.{List}
-use Prim.Native.Nat.{ℕ, _+_}
+use Prim.Native.Nat.{ℕ}
 use lib.Dec.{eqb}
 use Rattle.candidates.specs.Masks.{count, lowest}
 use Rattle.grid.specs.Units.{unitCell}
 use Rattle.steps.specs.Loops.{for, upTo}
 use Rattle.steps.specs.Singles.{Report, reportIf}
 use Rattle.cells.specs.Places.{unitMasks, placesOf}
-
--- the digit of a mask that holds just one, else 0
-unfoldable pub onlyDigit : ℕ → ℕ
-onlyDigit m = cond (eqb (count m) 1) (lowest m + 1) 0
 
 -- s are the places that hold d
 abbrev pub hiddenAt : ℕ → ℕ → ℕ → List Report

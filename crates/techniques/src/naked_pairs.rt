@@ -1,6 +1,6 @@
 // Naked pairs (module 3): two open cells of a unit with the same two candidates; the unit's other open cells lose both.
 ghost use mathlib.Core.Path.{_≡_};
-ghost use Rattle.steps.specs.Loops.{each, upTo, above};
+ghost use Rattle.steps.specs.Loops.{each, above};
 ghost use Rattle.steps.specs.Ported.{nakedPairs};
 ghost use Rattle.techniques.specs.NakedPairs.{noTwin, pairAt, unitPairs};
 use crate::places::all_but;

@@ -1,9 +1,13 @@
 // Singles (module 6): open cells with one candidate, and units with one open cell for a digit. They report (cell, digit) and change no mask.
 ghost use mathlib.Core.Path.{_≡_};
 ghost use mathlib.Core.List.{[], _++_};
+ghost use lib.IntN.{pos};
+ghost use Rattle.candidates.specs.Sets.{onlyOf, digitOr0};
 ghost use Rattle.steps.specs.Singles.{nakedSingles, hiddenSingles};
 ghost use Rattle.techniques.specs.Reports.{reportsOf, pushed, append};
-ghost use Rattle.techniques.specs.Singles.{onlyDigit, hiddenIn};
+ghost use Rattle.techniques.specs.Singles.{hiddenIn};
+use candidates::SingleCandidate;
+use candidates::SudokuCandidateSet;
 use candidates::masks;
 use cells::open_mask;
 use cells::places_of;
@@ -44,12 +48,13 @@ impl Reports {
 
 // The digit of a mask that holds just one, else 0.
 fn only_digit(mask: u16) -> u8
-    ensures { λ r. ⌜ r ≡ onlyDigit mask ⌝ }
+    ensures { λ r. ⌜ pos r ≡ digitOr0 (onlyOf mask) ⌝ }
 {
-    if masks::is_one(mask) {
-        return (masks::lowest_digit(mask) + 1) as u8;
-    }
-    0
+    let set = SudokuCandidateSet { mask: mask };
+    let SingleCandidate::Digit(digit) = set.single_candidate() else {
+        return 0;
+    };
+    digit as u8
 }
 
 // Open cells with one candidate, rising, after the reports that are handed in.

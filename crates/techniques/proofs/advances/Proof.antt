@@ -1,11 +1,8 @@
 -- `techniques::advances` meets its contract. Assumes nothing.
-use mathlib.Core.Path.{_≡_, sym, ap, _∙_}
+use mathlib.Core.Path.{sym, ap, _∙_}
 use mathlib.Core.Bool.{Bool, _||_}
-use mathlib.Core.List.{List}
-use Prim.Native.Nat.{ℕ}
 use borrow.Author.Needs.{needs}
 use borrow.Author.Tests.{lt-ltb, le-ltb}
-use lib.Dec.{ltb}
 use Rattle.steps.specs.Passes.{changed}
 use Rattle.steps.specs.Ported.{nakedPairs}
 use Rattle.techniques.proofs.advances.Statement.{statement}

@@ -8,7 +8,7 @@ use borrow.Author.Tests.{not-true, not-false}
 use lib.Dec.{ltb}
 use Rattle.steps.specs.Boards.{givensOf}
 use Rattle.steps.specs.Calls as calls
-use Rattle.steps.specs.Calls.{outcome, Outcome}
+use Rattle.steps.specs.Calls.{outcome}
 use Rattle.board.specs.Answers.{refusalOf}
 use Rattle.board.specs.Boards.{boardOf}
 use Rattle.progress.proofs.Answers.{good-answers, refused-answers}

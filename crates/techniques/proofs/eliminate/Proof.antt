@@ -1,5 +1,5 @@
 -- `techniques::eliminate` meets its contract. Assumes nothing.
-use mathlib.Core.Path.{_≡_, sym, ap, _∙_}
+use mathlib.Core.Path.{sym, ap, _∙_}
 use borrow.Author.Needs.{needs}
 use Rattle.techniques.specs.Techniques.{masksLeft}
 use Rattle.techniques.specs.declared.Technique.{Technique}

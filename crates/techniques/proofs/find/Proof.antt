@@ -1,5 +1,5 @@
 -- `techniques::find` meets its contract. Assumes nothing.
-use mathlib.Core.Path.{_≡_, sym, ap, _∙_}
+use mathlib.Core.Path.{sym, ap, _∙_}
 use borrow.Author.Needs.{needs}
 use Rattle.steps.specs.Singles.{nakedSingles, hiddenSingles}
 use Rattle.techniques.specs.Reports.{reportsOf, append}

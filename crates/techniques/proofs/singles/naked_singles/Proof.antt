@@ -5,13 +5,11 @@ use mathlib.Core.List.{List}
 use Prim.Native.Nat.{ℕ, _-_, _≤_}
 use native.Mathlib.Omega.{arith}
 use borrow.Author.Needs.{needs}
-use Rattle.candidates.specs.Masks.{lowest}
-use Rattle.steps.specs.Boards.{at}
+use Rattle.candidates.specs.Sets.{onlyOf, digitOr0}
 use Rattle.steps.specs.Loops.{each, range}
-use Rattle.steps.specs.Singles.{reportIf, isNakedSingle, nakedSingles}
+use Rattle.steps.specs.Singles.{nakedAt, nakedSingles}
 use Rattle.techniques.specs.declared.singles.Reports.{Reports}
 use Rattle.techniques.specs.Reports.{append}
-use Rattle.techniques.specs.Singles.{onlyDigit}
 use Rattle.techniques.proofs.Loops.{turned, ended}
 use Rattle.techniques.proofs.SinglesFound.{naked-found, naked-none, naked-loop}
 use Rattle.techniques.proofs.singles.naked_singles.Statement.{statement}
@@ -19,7 +17,7 @@ use Rattle.techniques.proofs.singles.naked_singles.Tie as tie
 
 -- one turn of the loop
 abbrev turn : List ℕ → List ℕ → ℕ → Reports → Reports
-turn g m c q = append (reportIf (isNakedSingle g m c) c (lowest (at m c))) q
+turn g m c q = append (nakedAt g m c) q
 
 abbrev Inv-loop : tie.InvT-loop
 Inv-loop givens masks list₀ cell₀ list cell =
@@ -53,7 +51,7 @@ loop-again : tie.Need-loop-again Inv-loop μ-loop
 loop-again c =
     let a = c .before .before .before .before .before .args in
     let l = c .before .before .before .before .loop in
-    let digit = c .before .only-digit .ensures ∙ ap onlyDigit (c .before .before .open-mask .ensures) in (
+    let digit = c .before .only-digit .ensures ∙ ap (λ (x : ℕ). digitOr0 (onlyOf x)) (c .before .before .open-mask .ensures) in (
       omega arith,
       turned (turn (a .givens .now) (a .masks .now)) 81 (l .cell) (l .list) (omega arith)
           (⊎-elim (λ w. w .2 ∙ w .1 .ensures ∙ naked-found (a .givens .now) (a .masks .now) (l .cell) (omega arith) (l .list) digit (w .0 .taken))

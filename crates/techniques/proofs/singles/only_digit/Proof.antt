@@ -1,47 +1,49 @@
--- `techniques::singles::only_digit` meets its contract. Assumes nothing.
-use mathlib.Core.Path.{sym, ap, _∙_}
-use Prim.Native.Nat.{ℕ, _+_}
-use native.Mathlib.Omega.{arith}
+-- `techniques::singles::only_digit` meets its contract. The law of the set's answer is cited. Assumes nothing.
+use mathlib.Core.Path.{_≡_, sym, ap, _∙_}
+use mathlib.Core.Option.{some}
 use borrow.Author.Needs.{needs}
-use lib.Dec.{eqb}
-use Rattle.candidates.specs.Masks.{count, lowest}
-use Rattle.candidates.proofs.Counts.{lowest-le}
-use Rattle.candidates.proofs.Tests.{cond-true, cond-false}
-use Rattle.techniques.specs.Singles.{onlyDigit}
+use lib.IntN.{ℤ, pos, natAbs}
+use mir.Syntax.{w32}
+use mir.Val.{ofZ, toZ}
+use mir.Facts.{toZ-ofZ}
+use Rattle.candidates.specs.Sets.{onlyAnswer, onlyOf, digitOr0}
+use Rattle.candidates.proofs.Only.{Only, single-says, digit-fits}
 use Rattle.techniques.proofs.singles.only_digit.Statement.{statement}
 use Rattle.techniques.proofs.singles.only_digit.Tie as tie
 
-is-one-requires : tie.Need-is-one-requires
-is-one-requires c κs = search needs
+single-candidate-requires : tie.Need-single-candidate-requires
+single-candidate-requires c κs = search needs
 
-lowest-digit-requires : tie.Need-lowest-digit-requires
-lowest-digit-requires c κs = search needs
+enum-known-digit : tie.Need-enum-known-digit
+enum-known-digit c = search needs
 
-add-result : tie.Need-add-result
-add-result c = omega (arith, c .lowest-digit .ensures, lowest-le (c .before .before .before .args .mask))
-
-cast-result : tie.Need-cast-result
-cast-result c = omega (arith, c .lowest-digit .ensures, lowest-le (c .before .before .before .args .mask))
+enum-told : tie.Need-enum-told
+enum-told c = search needs
 
 returns : tie.Need-returns
-unfolding onlyDigit
-returns c =
-    let m = c .before .before .before .args .mask in
-    ap (λ (n : ℕ). n + 1) (c .lowest-digit .ensures) ∙ sym (cond-true (eqb (count m) 1) (lowest m + 1) 0 (sym (c .before .before .is-one .ensures) ∙ c .before .if1 .taken))
+returns c = ap digitOr0 (sym (ap onlyAnswer (c .enum-told .given .1)) ∙ c .before .before .single-candidate .ensures)
+
+-- the digit that the call answered, and as the cast reads it
+abbrev digit : tie.After-known-told → ℤ
+digit c = c .before .digit .given .0 .0
+
+is-digit : (c : tie.After-known-told) → toZ w32 (ofZ w32 (digit c)) ≡ digit c
+is-digit c = toZ-ofZ (record { sfits = c .known-told .given .0 .1 })
+
+answered : (c : tie.After-known-told) → some (digit c) ≡ onlyOf (c .before .before .before .before .args .mask)
+answered c = sym (ap onlyAnswer (c .before .digit .given .1)) ∙ c .before .before .before .single-candidate .ensures
+
+only : (c : tie.After-known-told) → Only (c .before .before .before .before .args .mask) (digit c)
+only c = single-says (c .before .before .before .before .args .mask) (answered c)
+
+cast-result : tie.Need-cast-result
+cast-result c = digit-fits (only c) (is-digit c)
 
 returns-2 : tie.Need-returns-2
-unfolding onlyDigit
 returns-2 c =
-    let m = c .before .before .args .mask in
-    sym (cond-false (eqb (count m) 1) (lowest m + 1) 0 (sym (c .before .is-one .ensures) ∙ c .if1 .left))
+    let e = only c .digit in
+    ap (λ (z : ℤ). pos (natAbs z)) (is-digit c ∙ e) ∙ sym e ∙ ap digitOr0 (answered c)
 
 pub only-digit-spec : {M : Type 1} → statement M
 only-digit-spec =
-    tie.close
-    (tie.spec
-    is-one-requires
-    lowest-digit-requires
-    add-result
-    cast-result
-    returns
-    returns-2)
+    tie.close (tie.spec single-candidate-requires enum-known-digit enum-told returns cast-result returns-2)
