@@ -9,10 +9,11 @@ use Rattle.steps.specs.Loops.{each, for, upTo, above}
 use Rattle.steps.specs.Passes.{Pair, Cross, instances, instanceTaken, pass}
 use Rattle.steps.specs.Steps.{Step, take}
 use Rattle.steps.proofs.Loops.{each-append}
+use Rattle.cells.proofs.Places.{each-same}
 use Rattle.passes.specs.Twos.{firstOf, secondOf, frameStep, linesTaken, frameTaken, crossLines}
 use Rattle.passes.specs.declared.twos.Frame.{Frame}
 use Rattle.passes.specs.declared.twos.Frame.the-variants.{Unit, Lines}
-use Rattle.passes.proofs.Turns.{each-same, each-one, each-in}
+use Rattle.passes.proofs.Turns.{each-one, each-in}
 use Rattle.passes.proofs.TwoNumbers.{each-two}
 
 -- two numbers, and two more for each two

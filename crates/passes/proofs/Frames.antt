@@ -1,7 +1,7 @@
 -- The steps of Pair and Cross by what two lines of a frame hold: when they apply, what they spare and what they lose. Assumes nothing.
 use mathlib.Core.Path.{_≡_, refl, sym, ap, _∙_, subst}
 use mathlib.Core.Logic.{_⊎_, inl, inr, ⊎-elim}
-use mathlib.Core.Bool.{Bool, true, false, cond, not, _&&_, _||_}
+use mathlib.Core.Bool.{Bool, true, false, cond, not, _&&_, _||_, and-true}
 use mathlib.Core.List.{List, [], _∷_, _++_}
 use Prim.Native.Nat.{ℕ, _+_, _-_, _≤_, _<_}
 use native.Mathlib.Nat.{zero-add}
@@ -11,25 +11,23 @@ use lib.Bits.{bitAnd}
 use lib.Dec.{eqb, eqb→eq}
 use Rattle.candidates.specs.Masks.{has, minus, union, single}
 use Rattle.candidates.proofs.Tests.{below-both, by-test}
-use Rattle.grid.specs.Cells.{row, col}
+use Rattle.grid.specs.Cells.{col}
 use Rattle.grid.specs.Units.{units, unit, unitCell, inUnit}
-use Rattle.grid.proofs.Units.{in-row, in-col, cell-in}
+use Rattle.grid.proofs.Units.{in-row, in-col, cell-in, col-place, row-place}
 use Rattle.steps.specs.Boards.{at, isOpen}
 use Rattle.steps.specs.Instances.{only, both, except, pairStep, crossStep}
 use Rattle.steps.specs.Loops.{all, upTo}
 use Rattle.steps.specs.Steps.{lacks, applies, loseAt, loseAll, take}
 use Rattle.steps.proofs.Loops.{each-append, in-upTo}
 use Rattle.cells.specs.Places.{losePlaces}
+use Rattle.cells.proofs.Places.{each-alike, places-lose, all-kept, gather-same}
 use Rattle.passes.specs.Turns.{heldPlaces}
 use Rattle.passes.specs.Twos.{firstOf, secondOf, FirstLine, Framed, frameStep, lineHeld, twoHeld, twoLose, twoTurn, linesTurned, linesTaken}
 use Rattle.passes.specs.declared.twos.Frame.{Frame}
 use Rattle.passes.specs.declared.twos.Frame.the-variants.{Unit, Lines}
-use Rattle.passes.proofs.HeldPlaces.{gather-same, held-small, confined}
-use Rattle.passes.proofs.Losing.{places-lose, spared}
+use Rattle.passes.proofs.HeldPlaces.{held-small, confined}
 use Rattle.passes.proofs.NineBits.{single-is, has-both, has-except, has-two, has-places, both-is, both-sub, cond-not, nine-small, outside-test, outside-both}
-use Rattle.passes.proofs.Taking.{and-true}
 use Rattle.passes.proofs.TwoNumbers.{first-below, second-below}
-use Rattle.passes.proofs.Turns.{each-while}
 
 -- ---- rows and columns cross
 
@@ -38,14 +36,6 @@ pub record Crossing (f h : ℕ) : Type 0 where
   pub below : (r : ℕ) → r < 9 → f + r < 27
   pub cell : (r c : ℕ) → r < 9 → c < 9 → unitCell (h + c) r ≡ unitCell (f + r) c
   pub inside : (r c i : ℕ) → r < 9 → c < 9 → i < 9 → inUnit (h + c) (unitCell (f + r) i) ≡ eqb i c
-
-col-place : (r i : ℕ) → r < 9 → i < 9 → col (unitCell r i) ≡ i
-unfolding unit units
-col-place r i h l = eqb→eq (col (unitCell r i)) i (below-both 9 9 (λ r i. eqb (col (unitCell r i)) i) tt r i h l)
-
-row-place : (c i : ℕ) → c < 9 → i < 9 → row (unitCell (9 + c) i) ≡ i
-unfolding unit units
-row-place c i h l = eqb→eq (row (unitCell (9 + c) i)) i (below-both 9 9 (λ c i. eqb (row (unitCell (9 + c) i)) i) tt c i h l)
 
 same-cell : (r c : ℕ) → r < 9 → c < 9 → unitCell (9 + c) r ≡ unitCell r c
 unfolding unit units
@@ -92,8 +82,8 @@ module _ (g : List ℕ) (i j a b : ℕ) (hi : i < 9) (hj : j < 9) (ha : a < 9) (
   spares-two : (u k : ℕ) (t : ℕ → Bool) (m : List ℕ) → u < 27 → ((l : ℕ) → l < 9 → has (union (single i) (single j)) l ≡ t (unitCell u l))
       → losePlaces (isOpen g) u (minus 511 (union (single i) (single j))) k m ≡ loseAll (isOpen g) (unit u) (λ e. cond (t e) 0 k) m
   spares-two u k t m h says =
-      places-lose (isOpen g) u (minus 511 (union (single i) (single j))) k (λ e. cond (t e) 0 k) m h
-      (λ l n. cond-not (t (unitCell u l)) 0 k ∙ ap (λ (s : Bool). cond s k 0) (sym (has-except (union (single i) (single j)) l n ∙ ap not (says l n))))
+      places-lose (isOpen g) u h (minus 511 (union (single i) (single j))) k (λ e. cond (t e) 0 k)
+      (λ l n. cond-not (t (unitCell u l)) 0 k ∙ ap (λ (s : Bool). cond s k 0) (sym (has-except (union (single i) (single j)) l n ∙ ap not (says l n)))) m
 
   -- ---- the cells of a unit
 
@@ -181,16 +171,17 @@ module _ (g : List ℕ) (i j : ℕ) (hi : i < 9) (hj : j < 9) where
   line-keeps : (F : Frame) → Framed F → (r : ℕ) → r < 9 → (r ≡ i) ⊎ (r ≡ j) → (m : List ℕ) (a b : ℕ) → lineHeld (twoLose g F i j a b m) F r ≡ lineHeld m F r
   unfolding twoLose heldPlaces
   line-keeps (Unit u) h r n w m a b =
-      spared (isOpen g) (unit u) (λ x. cond (eqb x (unitCell u i) || eqb x (unitCell u j)) 0 (both a b)) m (unitCell u r)
-      (ap (λ (t : Bool). cond t 0 (both a b)) (one-of (λ k. eqb (unitCell u r) (unitCell u k)) i j r (λ k e. eq-eqb (unitCell u r) (unitCell u k) (ap (unitCell u) e)) w))
+      all-kept (isOpen g) (λ x. cond (eqb x (unitCell u i) || eqb x (unitCell u j)) 0 (both a b)) (unitCell u r)
+      (ap (λ (t : Bool). cond t 0 (both a b)) (one-of (λ k. eqb (unitCell u r) (unitCell u k)) i j r (λ k e. eq-eqb (unitCell u r) (unitCell u k) (ap (unitCell u) e)) w)) (unit u) m
   line-keeps (Lines f d) h r n w m a b =
       gather-same (λ l. has (at (twoLose g (Lines f d) i j a b m) (unitCell (f + r) l)) d) (λ l. has (at m (unitCell (f + r) l)) d) 9
       (λ l o. ap (λ (x : ℕ). has x d)
-      (spared (isOpen g) (unit (9 - f + a) ++ unit (9 - f + b)) (λ e. cond (inUnit (f + i) e || inUnit (f + j) e) 0 (only d)) m (unitCell (f + r) l)
+      (all-kept (isOpen g) (λ e. cond (inUnit (f + i) e || inUnit (f + j) e) 0 (only d)) (unitCell (f + r) l)
       (ap (λ (t : Bool). cond t 0 (only d)) (one-of (λ k. inUnit (f + k) (unitCell (f + r) l)) i j r
-      (λ k e. subst (λ (x : ℕ). inUnit (f + x) (unitCell (f + r) l) ≡ true) e (cell-in (f + r) l (crossing f (h .0) .below r n) o)) w))))
+      (λ k e. subst (λ (x : ℕ). inUnit (f + x) (unitCell (f + r) l) ≡ true) e (cell-in (f + r) l (crossing f (h .0) .below r n) o)) w))
+      (unit (9 - f + a) ++ unit (9 - f + b)) m))
 
-  pub two-keeps : (F : Frame) → Framed F → (held a b : ℕ) (m : List ℕ) → twoHeld (twoTurn g F i j held a b m) F i j ≡ twoHeld m F i j
+  two-keeps : (F : Frame) → Framed F → (held a b : ℕ) (m : List ℕ) → twoHeld (twoTurn g F i j held a b m) F i j ≡ twoHeld m F i j
   unfolding twoHeld twoTurn
   two-keeps F h held a b m =
       by-test (λ (n : List ℕ). bitAnd (union (lineHeld n F i) (lineHeld n F j)) 511 ≡ bitAnd (union (lineHeld m F i) (lineHeld m F j)) 511) (eqb (minus held (both a b)) 0) (twoLose g F i j a b m) m
@@ -201,6 +192,8 @@ module _ (g : List ℕ) (i j : ℕ) (hi : i < 9) (hj : j < 9) where
   pub lines-taken : (F : Frame) → Framed F → (m : List ℕ) → linesTaken g F i j m ≡ linesTurned g F i j (twoHeld m F i j) m
   unfolding linesTaken linesTurned
   lines-taken F h m =
-      each-while (λ (n : List ℕ). twoHeld n F i j ≡ twoHeld m F i j) (λ q. take (isOpen g) (frameStep F i j (firstOf q) (secondOf q))) (λ q. twoTurn g F i j (twoHeld m F i j) (firstOf q) (secondOf q)) (upTo 36)
-      (λ q k n e. two-taken F h n (firstOf q) (secondOf q) (first-below q (in-upTo 36 q k)) (second-below q (in-upTo 36 q k)) ∙ ap (λ (x : ℕ). twoTurn g F i j x (firstOf q) (secondOf q) n) e)
-      (λ q k n e. two-keeps F h (twoHeld m F i j) (firstOf q) (secondOf q) n ∙ e) m refl
+      each-alike (λ q. take (isOpen g) (frameStep F i j (firstOf q) (secondOf q))) (λ q. twoTurn g F i j (twoHeld m F i j) (firstOf q) (secondOf q)) (λ (n : List ℕ). twoHeld n F i j ≡ twoHeld m F i j) (upTo 36)
+      (λ q k n e. (
+        two-taken F h n (firstOf q) (secondOf q) (first-below q (in-upTo 36 q k)) (second-below q (in-upTo 36 q k)) ∙ ap (λ (x : ℕ). twoTurn g F i j x (firstOf q) (secondOf q) n) e,
+        two-keeps F h (twoHeld m F i j) (firstOf q) (secondOf q) n ∙ e,
+      )) m refl .0

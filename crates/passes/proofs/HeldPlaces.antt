@@ -2,15 +2,14 @@
 use mathlib.Core.Path.{_≡_, refl, sym, ap, _∙_, subst}
 use mathlib.Core.Bool.{Bool, true, false, cond, true≢false}
 use mathlib.Core.List.{List}
-use Prim.Native.Nat.{ℕ, zero, suc, _+_, _^_, _<_}
+use Prim.Native.Nat.{ℕ, _^_, _<_}
 use native.Mathlib.Omega.{arith}
-use borrow.Author.Tests.{eq-eqb, eqb-true, eqb-false}
+use borrow.Author.Tests.{eq-eqb, eqb-true}
 use lib.Bits.{bitAnd, and-zero-r}
 use lib.Dec.{eqb}
 use Rattle.candidates.specs.Masks.{bit, has, minus, gather}
 use Rattle.candidates.proofs.Held.{Held, none-held, held-ext, held-below, held-minus}
 use Rattle.candidates.proofs.Membership.{bit-and, bit-power, bit-none, gather-lt, bit-gather}
-use Rattle.candidates.proofs.Order.{and-only}
 use Rattle.candidates.proofs.Tests.{bool-iff}
 use Rattle.grid.specs.Units.{unit, unitCell}
 use Rattle.grid.proofs.Units.{mem-member, member-mem, at-place}
@@ -20,17 +19,12 @@ use Rattle.steps.specs.Loops.{all}
 use Rattle.steps.specs.Steps.{lacks}
 use Rattle.steps.proofs.Loops.{all-member, member-all}
 use Rattle.cells.specs.Places.{allMasks, placesOf}
+use Rattle.cells.proofs.Places.{gather-same}
 use Rattle.cells.proofs.Threes.{all-mask}
 use Rattle.passes.specs.Turns.{heldPlaces}
+use Rattle.passes.proofs.NineBits.{not-held}
 
 -- ---- places
-
-pub gather-same : (f g : ℕ → Bool) (n : ℕ) → ((i : ℕ) → i < n → f i ≡ g i) → gather f n ≡ gather g n
-unfolding gather
-gather-same f g zero same = refl
-gather-same f g (suc n) same =
-    ap (λ (x : ℕ). x + cond (f n) (2 ^ n) 0) (gather-same f g n (λ i h. same i (omega arith)))
-    ∙ ap (λ (t : Bool). gather g n + cond t (2 ^ n) 0) (same n (omega arith))
 
 pub has-gather : (f : ℕ → Bool) (n i : ℕ) → i < n → has (gather f n) i ≡ f i
 has-gather f n i h = ap (λ (b : ℕ). eqb b 1) (bit-gather f n i h) ∙ go (f i)
@@ -56,8 +50,8 @@ module _ (m : List ℕ) (u d : ℕ) where
 
 -- ---- a cell lacks a digit
 
-pub lacks-digit : (m : List ℕ) (e d : ℕ) → has (at m e) d ≡ false → lacks m e (only d) ≡ true
-lacks-digit m e d t = eq-eqb (bitAnd (at m e) (2 ^ d)) 0 (and-only (at m e) d (omega (arith, eqb-false (bit (at m e) d) 1 t)))
+lacks-digit : (m : List ℕ) (e d : ℕ) → has (at m e) d ≡ false → lacks m e (only d) ≡ true
+lacks-digit m e d t = eq-eqb (bitAnd (at m e) (2 ^ d)) 0 (not-held (at m e) d (λ h. true≢false (sym h ∙ t)))
 
 digit-lacks : (m : List ℕ) (e d : ℕ) → lacks m e (only d) ≡ true → has (at m e) d ≡ true → ⊥
 digit-lacks m e d t h =

@@ -1,5 +1,4 @@
 pub mod Turns
-pub mod Losing
 pub mod NineBits
 pub mod Peers
 pub mod Taking
@@ -16,5 +15,4 @@ pub mod Frames
 pub mod Passed
 pub mod Quiet
 pub mod FramePasses
-pub mod CellCounts
 pub mod Sweeping

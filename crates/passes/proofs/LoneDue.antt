@@ -1,40 +1,37 @@
 -- Lone does nothing at a cell that is not due: it holds two digits, or one that no other cell of its units holds. Assumes nothing.
 use mathlib.Core.Path.{_≡_, refl, sym, ap, _∙_, subst}
 use mathlib.Core.Logic.{_≢_}
-use mathlib.Core.Bool.{Bool, true, false, true≢false}
+use mathlib.Core.Bool.{Bool, true, false, true≢false, and-true}
 use mathlib.Core.List.{List, List·Memᴰ}
 use Prim.Native.Nat.{ℕ, _+_, _^_, _<_}
-use native.Mathlib.Nat.{zero-add}
 use native.Mathlib.Omega.{arith}
 use borrow.Author.Tests.{eqb-true, eqb-false}
 use lib.Bits.{bitAnd}
 use lib.Dec.{eqb}
-use Rattle.candidates.specs.Masks.{bit, has, union, count, Sub}
+use Rattle.candidates.specs.Masks.{has, union, count, Sub}
 use Rattle.candidates.proofs.Counts.{count-none, count-zero, count-sub, count-power}
 use Rattle.candidates.proofs.Held.{Held, none-held}
-use Rattle.candidates.proofs.Order.{and-only, sub-trans, union-left, union-right}
+use Rattle.candidates.proofs.Order.{sub-trans, union-left, union-right}
 use Rattle.candidates.proofs.Tests.{by-test}
 use Rattle.grid.specs.Cells.{row, col, box, peers}
 use Rattle.grid.specs.Units.{unitCell, inUnit}
 use Rattle.grid.proofs.Cells.{peer-sees, sees-shared}
-use Rattle.grid.proofs.Lists.{at-range}
-use Rattle.grid.proofs.Units.{Kind, row-unit, col-unit, box-unit, kind, in-row, in-col, in-box, member-in}
+use Rattle.grid.proofs.Lists.{at-upTo}
+use Rattle.grid.proofs.Units.{Kind, kind, by-unit, member-in}
 use Rattle.steps.specs.Boards.{at, isOpen, Under}
 use Rattle.steps.specs.Instances.{only, except, lone, loneStep, stepOf}
 use Rattle.steps.specs.Loops.{upTo}
 use Rattle.steps.specs.Passes.{instanceTaken}
 use Rattle.steps.specs.Steps.{applies, lacks, loseAll, take}
-use Rattle.steps.proofs.Loops.{each-keeps, in-upTo}
-use Rattle.steps.proofs.Masks.{under-refl, under-trans}
-use Rattle.steps.proofs.Steps.{all-none, take-under}
+use Rattle.steps.proofs.Loops.{in-upTo, each-idle}
+use Rattle.steps.proofs.Steps.{all-none}
 use Rattle.cells.specs.Places.{maskAt, allMasks}
 use Rattle.cells.proofs.Threes.{mask-at, all-mask}
 use Rattle.passes.specs.Turns.{loneCell}
 use Rattle.passes.specs.Unions.{sharedOf, sharedSets, Covers, sharedNear, loneDue}
-use Rattle.passes.proofs.NineBits.{held-sub, held-meet, only-none, within-only}
+use Rattle.passes.proofs.NineBits.{held-sub, held-meet, not-held, only-none, within-only}
 use Rattle.passes.proofs.Shared.{twice-shared}
-use Rattle.passes.proofs.Taking.{and-true}
-use Rattle.passes.proofs.Turns.{each-idle}
+use Rattle.passes.proofs.Taking.{takes-under}
 
 -- ---- the sets of the masks, and of masks that have shrunk
 
@@ -42,7 +39,7 @@ pub sets-cover : (m : List ℕ) → Covers (sharedSets m) m
 unfolding sharedSets
 sets-cover m = record {
   holds = λ u i j d h l n o p q.
-      ap (λ (x : ℕ). has x d) (at-range (λ u. sharedOf (allMasks m u)) 0 27 0 u h ∙ ap (λ (v : ℕ). sharedOf (allMasks m v)) (zero-add u))
+      ap (λ (x : ℕ). has x d) (at-upTo (λ u. sharedOf (allMasks m u)) 0 27 u h)
       ∙ twice-shared (allMasks m u) d i j l n o (ap (λ (x : ℕ). has x d) (all-mask m u i h l) ∙ p) (ap (λ (x : ℕ). has x d) (all-mask m u j h n) ∙ q);
 }
 
@@ -51,9 +48,7 @@ covers-under below c = record { holds = λ u i j d h l n o p q. c .holds u i j d
 
 lone-under : (g : List ℕ) (c : ℕ) (m : List ℕ) → Under (loneCell g c m) m
 unfolding loneCell
-lone-under g c m =
-    each-keeps (λ d. instanceTaken g (lone c d)) (λ (n : List ℕ). Under n m) (upTo 9)
-    (λ d k n p. under-trans (take-under (isOpen g) (stepOf (lone c d)) n) p) m (under-refl m)
+lone-under g c m = takes-under (isOpen g) (λ d. stepOf (lone c d)) (upTo 9) m
 
 pub lone-covers : (g : List ℕ) (c : ℕ) {s m : List ℕ} → Covers s m → Covers s (loneCell g c m)
 lone-covers g c {s} {m} w = covers-under (lone-under g c m) w
@@ -61,15 +56,17 @@ lone-covers g c {s} {m} w = covers-under (lone-under g c m) w
 -- ---- a cell that is not due
 
 in-near : (s : List ℕ) (c u : ℕ) → Kind u → inUnit u c ≡ true → Sub (at s u) (sharedNear s c)
-in-near s c u (row-unit r h) e =
-    subst (λ (v : ℕ). Sub (at s v) (sharedNear s c)) (eqb-true (row c) r (sym (in-row r c h) ∙ e))
-    (sub-trans (union-left (at s (row c)) (at s (9 + col c))) (union-left (union (at s (row c)) (at s (9 + col c))) (at s (18 + box c))))
-in-near s c u (col-unit k h) e =
-    subst (λ (v : ℕ). Sub (at s (9 + v)) (sharedNear s c)) (eqb-true (col c) k (sym (in-col k c h) ∙ e))
-    (sub-trans (union-right (at s (row c)) (at s (9 + col c))) (union-left (union (at s (row c)) (at s (9 + col c))) (at s (18 + box c))))
-in-near s c u (box-unit b h) e =
-    subst (λ (v : ℕ). Sub (at s (18 + v)) (sharedNear s c)) (eqb-true (box c) b (sym (in-box b c h) ∙ e))
-    (union-right (union (at s (row c)) (at s (9 + col c))) (at s (18 + box c)))
+in-near s c =
+    by-unit (λ (u : ℕ). Sub (at s u) (sharedNear s c)) c (sub-trans (union-left r k) (union-left (union r k) b)) (sub-trans (union-right r k) (union-left (union r k) b)) (union-right (union r k) b)
+  where
+    r : ℕ
+    r = at s (row c)
+
+    k : ℕ
+    k = at s (9 + col c)
+
+    b : ℕ
+    b = at s (18 + box c)
 
 -- what is known of a mask that is not due: it has a digit, and where it has one, no other cell may hold that
 record Idle (x near : ℕ) : Type 0 where
@@ -117,14 +114,10 @@ module _ (g m s : List ℕ) (c : ℕ) (h : c < 81) (covers : Covers s m) (w : Id
   unfolding stepOf take
   none-lost d l =
       by-test (λ (n : List ℕ). n ≡ m) (applies (loneStep c d) m) (loseAll (isOpen g) (peers c) (λ _. only d) m) m
-      (λ t. all-none (isOpen g) (peers c) (λ _. only d) m (λ e k f. and-only (at m e) d (lacking e k (whole t) (has (at m e) d) refl))) (λ t. refl)
+      (λ t. all-none (isOpen g) (peers c) (λ _. only d) m (λ e k f. not-held (at m e) d (peer d l (whole t) e k))) (λ t. refl)
     where
       whole : applies (loneStep c d) m ≡ true → Sub (bitAnd (at m c) 511) (2 ^ d)
       whole t = within-only (at m c) d l (sym (and-true (lacks m c (except (only d)))) ∙ t)
-
-      lacking : (e : ℕ) → List·Memᴰ e (peers c) → Sub (bitAnd (at m c) 511) (2 ^ d) → (b : Bool) → has (at m e) d ≡ b → bit (at m e) d ≡ 0
-      lacking e k p true b = absurd (peer d l p e k b)
-      lacking e k p false b = omega (arith, eqb-false (bit (at m e) d) 1 b)
 
 pub not-due : (g m s : List ℕ) (c : ℕ) → c < 81 → Covers s m → loneDue (bitAnd (maskAt m c) 511) (sharedNear s c) ≡ false → loneCell g c m ≡ m
 unfolding loneCell

@@ -2,30 +2,30 @@
 use mathlib.Core.Path.{_≡_, refl, sym, ap, _∙_, subst}
 use mathlib.Core.Logic.{_≢_, _↔_, inl, inr, ⊎-elim}
 use mathlib.Core.Bool.{Bool, true, false, cond, not, _&&_, _||_, true≢false}
-use Prim.Native.Nat.{ℕ, _+_, _-_, _^_, _<_}
-use native.Mathlib.Decide.{ℕ-discrete, decLt}
+use Prim.Native.Nat.{ℕ, _+_, _-_, _^_, _≤_, _<_}
+use native.Mathlib.Decide.{ℕ-discrete}
 use native.Mathlib.Omega.{arith}
-use borrow.Author.Tests.{lt-ltb, eq-eqb, eqb-true, eqb-false}
+use borrow.Author.Tests.{eq-eqb, eqb-true, eqb-false}
 use lib.Bits.{bitAnd, and-mask}
 use lib.Dec.{eqb, ltb, ltb→lt}
 use Rattle.candidates.specs.Masks.{bit, has, minus, union, count, single, lowest, tail, Sub}
-use Rattle.candidates.proofs.Counts.{count-none, count-pos, count-sub, count-proper, sub-and, bit-except}
+use Rattle.candidates.proofs.Counts.{count-sub, count-proper, sub-and, bit-except}
 use Rattle.candidates.proofs.FewDigits.{two-count, tail-count, tail-small}
 use Rattle.candidates.proofs.Held.{Held, none-held, held-ext, has-minus, has-union, held-power, held-union, held-both}
-use Rattle.candidates.proofs.Membership.{bit-all, bit-and, bit-union, bit-minus, ext}
-use Rattle.candidates.proofs.Order.{sub-refl, sub-le, sub-all, minus-sub, and-sub, sub-of-minus, minus-of-sub, union-sub}
-use Rattle.candidates.proofs.Tests.{below, by-test, bool-iff, cond-true, eqb-iff, both, both-left, both-right}
+use Rattle.candidates.proofs.Membership.{bit-all, bit-and, bit-union, bit-minus, ext, single-power}
+use Rattle.candidates.proofs.Order.{sub-refl, sub-le, sub-all, minus-sub, and-sub, and-only, sub-of-minus, minus-of-sub, union-sub}
+use Rattle.candidates.proofs.Tests.{below, by-test, bool-iff, eqb-iff, both, both-left, both-right}
 use Rattle.grid.specs.Units.{unitCell}
 use Rattle.grid.proofs.Units.{same-place}
 use Rattle.passes.specs.Twos.{reachOf}
 
 pub single-is : (d : ℕ) → d < 9 → single d ≡ 2 ^ d
-single-is d h = cond-true (ltb d 16) (2 ^ d) 0 (lt-ltb d 16 (omega arith))
+single-is d h = single-power d (omega arith)
 
-pub single-sub : (d : ℕ) → d < 9 → Sub (single d) 511
-single-sub d h = sub-all (single d) (ltb→lt (single d) 512 (below 9 (λ d. ltb (single d) 512) tt d h))
+pub only-sub : (d : ℕ) → d < 9 → Sub (2 ^ d) 511
+only-sub d h = sub-all (2 ^ d) (ltb→lt (2 ^ d) 512 (below 9 (λ d. ltb (2 ^ d) 512) tt d h))
 
-pub has-power : (p d : ℕ) → has (2 ^ p) d ≡ eqb d p
+has-power : (p d : ℕ) → has (2 ^ p) d ≡ eqb d p
 has-power p d = bool-iff (has (2 ^ p) d) (eqb d p) (λ t. eq-eqb d p (held-power p d .0 t)) (λ t. held-power p d .1 (eqb-true d p t))
 
 pub has-both : (a b d : ℕ) → has (union (2 ^ a) (2 ^ b)) d ≡ (eqb d a || eqb d b)
@@ -43,6 +43,14 @@ held-meet x y d = (λ t. (eq-eqb (bit x d) 1 (left t), eq-eqb (bit y d) 1 (right
     right : Held (bitAnd x y) d → bit y d ≡ 1
     right t = omega (arith, bit-and x y d, eqb-true (bit (bitAnd x y) d) 1 t)
 
+-- a digit that a mask does not hold, as a step has it
+pub not-held : (x d : ℕ) → (Held x d → ⊥) → bitAnd x (2 ^ d) ≡ 0
+not-held x d none = and-only x d (go (has x d) refl)
+  where
+    go : (t : Bool) → has x d ≡ t → bit x d ≡ 0
+    go true t = absurd (none t)
+    go false t = omega (arith, eqb-false (bit x d) 1 t)
+
 -- a mask within one digit that lacks it has none
 pub only-none : {x : ℕ} (d : ℕ) → Sub x (2 ^ d) → has x d ≡ false → x ≡ 0
 only-none {x} d p lacks =
@@ -53,11 +61,11 @@ only-none {x} d p lacks =
 pub has-except : (k d : ℕ) → d < 9 → has (minus 511 k) d ≡ not (has k d)
 has-except k d h = has-minus 511 k d ∙ ap (λ (t : Bool). t && not (has k d)) (eq-eqb _ 1 (bit-all d h))
 
-pub except-is : {k : ℕ} → Sub k 511 → minus 511 k ≡ 511 - k
+except-is : {k : ℕ} → Sub k 511 → minus 511 k ≡ 511 - k
 except-is p = ap (λ (x : ℕ). 511 - x) (sub-and p)
 
 pub except-single : (d : ℕ) → d < 9 → minus 511 (single d) ≡ 511 - 2 ^ d
-except-single d h = except-is (single-sub d h) ∙ ap (λ (k : ℕ). 511 - k) (single-is d h)
+except-single d h = ap (minus 511) (single-is d h) ∙ except-is (only-sub d h)
 
 -- a mask of the places outside a test, as code has it, and as a step has it
 pub cond-not : {A : Type 0} (t : Bool) (x y : A) → cond t x y ≡ cond (not t) y x
@@ -74,7 +82,7 @@ pub both-is : (a b : ℕ) → a < 9 → b < 9 → union (single a) (single b) �
 both-is a b h l = ap (λ (x : ℕ). union x (single b)) (single-is a h) ∙ ap (union (2 ^ a)) (single-is b l)
 
 pub both-sub : (a b : ℕ) → a < 9 → b < 9 → Sub (union (2 ^ a) (2 ^ b)) 511
-both-sub a b h l = subst (λ (x : ℕ). Sub x 511) (both-is a b h l) (union-sub (single-sub a h) (single-sub b l))
+both-sub a b h l = union-sub (only-sub a h) (only-sub b l)
 
 pub has-two : (a b d : ℕ) → a < 9 → b < 9 → has (union (single a) (single b)) d ≡ (eqb d a || eqb d b)
 has-two a b d h l = ap (λ (x : ℕ). has x d) (both-is a b h l) ∙ has-both a b d
@@ -104,7 +112,7 @@ outside-test x {k} p =
 -- a mask that has no digit but d, as a step has it
 pub within-only : (x d : ℕ) → d < 9 → eqb (bitAnd x (511 - 2 ^ d)) 0 ≡ true → Sub (bitAnd x 511) (2 ^ d)
 within-only x d l t =
-    sub-of-minus (bitAnd x 511) (2 ^ d) (eqb-true (minus (bitAnd x 511) (2 ^ d)) 0 (sym (outside-test x (subst (λ (k : ℕ). Sub k 511) (single-is d l) (single-sub d l))) ∙ t))
+    sub-of-minus (bitAnd x 511) (2 ^ d) (eqb-true (minus (bitAnd x 511) (2 ^ d)) 0 (sym (outside-test x (only-sub d l)) ∙ t))
 
 -- nor of y
 pub outside-both : (x y k : ℕ) → (eqb (minus (bitAnd x 511) k) 0 && eqb (minus (bitAnd y 511) k) 0) ≡ eqb (minus (bitAnd (union x y) 511) k) 0
@@ -128,6 +136,12 @@ outside-both x y k = bool-iff (eqb (minus (bitAnd x 511) k) 0 && eqb (minus (bit
 
 -- ---- what two digits that hold k are part of
 
+pub tails-count : (k : ℕ) → k < 2 ^ 16 → 2 ≤ count k → count (tail (tail k)) + 2 ≡ count k
+tails-count k small h =
+    let p = tail-count k small (omega arith) in
+    let q = tail-count (tail k) (tail-small k small (omega arith)) (omega arith) in
+    omega arith
+
 pub reach-covers : (k a b : ℕ) → k < 2 ^ 16 → a < b → b < 9 → Sub k (union (2 ^ a) (2 ^ b)) → Sub (union (2 ^ a) (2 ^ b)) (reachOf k)
 unfolding reachOf
 reach-covers k a b small h l p =
@@ -138,24 +152,11 @@ reach-covers k a b small h l p =
     apart : a ≢ b
     apart e = absurd (omega arith)
 
-    some : 0 < count (tail k) → 0 < count k
-    some t = go (decLt 0 k)
-      where
-        go : Dec (0 < k) → 0 < count k
-        go (yes q) = count-pos k q
-        go (no q) =
-            let e : k ≡ 0 = omega arith in
-            absurd (omega (arith, count-sub (minus-sub k (single (lowest k))), ap count e, count-none))
-
-    pos : eqb (count (tail k)) 0 ≡ false → 0 < count (tail k)
-    pos t = omega (arith, eqb-false (count (tail k)) 0 t)
-
-    -- one more than in its tail's tail
-    counted : (t : eqb (count (tail k)) 0 ≡ false) → count (tail (tail k)) + 2 ≡ count k
+    counted : eqb (count (tail k)) 0 ≡ false → count (tail (tail k)) + 2 ≡ count k
     counted t =
-        let q = tail-count k small (some (pos t)) in
-        let r = tail-count (tail k) (tail-small k small (some (pos t))) (pos t) in
-        omega arith
+        let n = eqb-false (count (tail k)) 0 t in
+        let some : 0 < count k = omega (arith, count-sub (minus-sub k (single (lowest k)))) in
+        tails-count k small (omega (arith, tail-count k small some))
 
     two : eqb (count (tail k)) 0 ≡ false → eqb (count (tail (tail k))) 0 ≡ true → Sub (union (2 ^ a) (2 ^ b)) k
     two t s = subst (λ (x : ℕ). Sub (union (2 ^ a) (2 ^ b)) x) (sym same) (sub-refl (union (2 ^ a) (2 ^ b)))

@@ -1,13 +1,12 @@
 -- Two lines of a frame are passed over: no step of theirs loses anything. Assumes nothing.
 use mathlib.Core.Path.{_≡_, refl, sym, ap, _∙_, subst}
 use mathlib.Core.Logic.{_≢_, _⊎_, inl, inr, ⊎-elim}
-use mathlib.Core.Bool.{Bool, true, false, cond, _||_}
+use mathlib.Core.Bool.{Bool, true, cond, _||_}
 use mathlib.Core.List.{List, _++_, List·Memᴰ·append-cases}
 use Prim.Native.Nat.{ℕ, _+_, _-_, _^_, _<_}
-use native.Mathlib.Nat.{zero-add}
 use native.Mathlib.Decide.{ℕ-discrete}
 use native.Mathlib.Omega.{arith}
-use borrow.Author.Tests.{eqb-true, eqb-false, eq-eqb}
+use borrow.Author.Tests.{eqb-true, eq-eqb}
 use lib.Bits.{bitAnd, and-zero-r}
 use lib.Dec.{eqb}
 use lib.ListN.{set}
@@ -15,18 +14,17 @@ use lib.Seq.{getD-set-other}
 use Rattle.candidates.specs.Masks.{bit, has, minus, union, Sub}
 use Rattle.candidates.proofs.Held.{Held, none-held}
 use Rattle.candidates.proofs.Membership.{bit-and, bit-none, ext}
-use Rattle.candidates.proofs.Order.{sub-refl, sub-trans, apart-sub, and-only, sub-of-minus}
+use Rattle.candidates.proofs.Order.{sub-refl, sub-trans, apart-sub, sub-of-minus}
 use Rattle.candidates.proofs.Tests.{by-test, cond-true}
 use Rattle.grid.specs.Units.{unit, unitCell, inUnit, Member}
-use Rattle.grid.proofs.Lists.{at-range}
+use Rattle.grid.proofs.Lists.{at-upTo}
 use Rattle.grid.proofs.Units.{cell-below, mem-member}
 use Rattle.steps.specs.Boards.{at, isOpen, Under}
 use Rattle.steps.specs.Instances.{only, both}
 use Rattle.steps.specs.Loops.{upTo}
 use Rattle.steps.specs.Steps.{loseAll, take}
-use Rattle.steps.proofs.Loops.{each-keeps, in-upTo}
-use Rattle.steps.proofs.Masks.{under-refl, under-trans}
-use Rattle.steps.proofs.Steps.{all-none, take-under}
+use Rattle.steps.proofs.Loops.{in-upTo, each-idle}
+use Rattle.steps.proofs.Steps.{all-none}
 use Rattle.cells.specs.Places.{allMasks, unitMasks, placesOf}
 use Rattle.cells.proofs.Places.{open-mask, unit-mask}
 use Rattle.cells.proofs.Threes.{all-mask}
@@ -37,16 +35,16 @@ use Rattle.passes.specs.declared.twos.Frame.{Frame}
 use Rattle.passes.specs.declared.twos.Frame.the-variants.{Unit, Lines}
 use Rattle.passes.proofs.Frames.{Crossing, crossing, crossed, one-of, two-taken, lines-taken}
 use Rattle.passes.proofs.HeldPlaces.{has-gather, has-held}
-use Rattle.passes.proofs.NineBits.{has-both, held-sub, held-meet, reach-covers, nine-lt}
+use Rattle.passes.proofs.NineBits.{has-both, held-sub, held-meet, not-held, reach-covers, nine-lt}
 use Rattle.passes.proofs.Shared.{union-at}
-use Rattle.passes.proofs.Turns.{each-idle}
+use Rattle.passes.proofs.Taking.{takes-under}
 use Rattle.passes.proofs.TwoNumbers.{first-below, second-below, rise}
 
 -- ---- the tables of a frame
 
 at-held : (m : List ℕ) (f d i : ℕ) → i < 9 → at (heldLines m f d) i ≡ heldPlaces m (f + i) d
 unfolding heldLines
-at-held m f d i h = at-range (λ j. heldPlaces m (f + j) d) 0 9 0 i h ∙ ap (λ (j : ℕ). heldPlaces m (f + j) d) (zero-add i)
+at-held m f d i h = at-upTo (λ j. heldPlaces m (f + j) d) 0 9 i h
 
 at-line : (m : List ℕ) (F : Frame) → Framed F → (i : ℕ) → i < 9 → at (lineMasks m F) i ≡ lineHeld m F i
 at-line m (Unit u) h i l = all-mask m u i h l
@@ -54,7 +52,7 @@ at-line m (Lines f d) h i l = at-held m f d i l
 
 at-open : (g m : List ℕ) (f d i : ℕ) → i < 9 → at (openHeldLines g m f d) i ≡ placesOf (unitMasks g m (f + i)) d
 unfolding openHeldLines
-at-open g m f d i h = at-range (λ j. placesOf (unitMasks g m (f + j)) d) 0 9 0 i h ∙ ap (λ (j : ℕ). placesOf (unitMasks g m (f + j)) d) (zero-add i)
+at-open g m f d i h = at-upTo (λ j. placesOf (unitMasks g m (f + j)) d) 0 9 i h
 
 -- a table that has at least what the open cells of each line hold
 abbrev pub Tabled : List ℕ → List ℕ → Frame → List ℕ → Type 0
@@ -83,9 +81,7 @@ tabled-under g (Lines f d) nine below w = λ l c o n e t. w l c o n e (held-sub 
 
 pub lines-under : (g m : List ℕ) (F : Frame) (i j : ℕ) → Under (linesTaken g F i j m) m
 unfolding linesTaken
-lines-under g m F i j =
-    each-keeps (λ q. take (isOpen g) (frameStep F i j (firstOf q) (secondOf q))) (λ (n : List ℕ). Under n m) (upTo 36)
-    (λ q k n p. under-trans (take-under (isOpen g) (frameStep F i j (firstOf q) (secondOf q)) n) p) m (under-refl m)
+lines-under g m F i j = takes-under (isOpen g) (λ q. frameStep F i j (firstOf q) (secondOf q)) (upTo 36) m
 
 -- ---- what the other lines hold
 
@@ -134,9 +130,8 @@ module _ (g m : List ℕ) (i j a b : ℕ) (ha : a < 9) (hb : b < 9) where
       (λ e k o. ⊎-elim (λ p. cell a ha (inl refl) e (mem-member (back .below a ha) p) o) (λ p. cell b hb (inr refl) e (mem-member (back .below b hb) p) o) (List·Memᴰ·append-cases (unit (h + a)) k))
     where
       -- an other line lacks d at the place, since it holds d at none of the two
-      lacking : (c : ℕ) → c < 9 → (c ≡ a) ⊎ (c ≡ b) → (l : ℕ) → l < 9 → l ≢ i → l ≢ j → isOpen g (unitCell (f + l) c) ≡ true → (t : Bool) → has (at m (unitCell (f + l) c)) d ≡ t → bit (at m (unitCell (f + l) c)) d ≡ 0
-      lacking c n w l o p q free false t = omega (arith, eqb-false (bit (at m (unitCell (f + l) c)) d) 1 t)
-      lacking c n w l o p q free true t = absurd (none-held c (subst (λ (x : ℕ). Held x c) none in-both))
+      lacking : (c : ℕ) → c < 9 → (c ≡ a) ⊎ (c ≡ b) → (l : ℕ) → l < 9 → l ≢ i → l ≢ j → isOpen g (unitCell (f + l) c) ≡ true → Held (at m (unitCell (f + l) c)) d → ⊥
+      lacking c n w l o p q free t = none-held c (subst (λ (x : ℕ). Held x c) none in-both)
         where
           in-both : Held (bitAnd (othersOf nine i j) (both a b)) c
           in-both = held-meet (othersOf nine i j) (both a b) c .1 (held-sub c (other-joined nine i j l o p q) (tabled l c o n free t), has-both a b c ∙ one-of (λ r. eqb c r) a b c (λ r e. eq-eqb c r e) w)
@@ -146,7 +141,7 @@ module _ (g m : List ℕ) (i j a b : ℕ) (ha : a < 9) (hb : b < 9) where
           spare-or (λ r. inUnit (f + r) (unitCell (h + c) l)) (only d) (at m (unitCell (h + c) l)) l
           (λ r e. subst (λ (x : ℕ). inUnit (f + x) (unitCell (h + c) l) ≡ true) e (back .inside c l l n o o ∙ eq-eqb l l refl))
           (λ p q. subst (λ (x : ℕ). bitAnd (at m x) (only d) ≡ 0) (sym (over .cell l c o n))
-          (and-only (at m (unitCell (f + l) c)) d (lacking c n w l o p q (ap (isOpen g) (sym (over .cell l c o n)) ∙ free) (has (at m (unitCell (f + l) c)) d) refl)))
+          (not-held (at m (unitCell (f + l) c)) d (lacking c n w l o p q (ap (isOpen g) (sym (over .cell l c o n)) ∙ free))))
 
       cell : (c : ℕ) → c < 9 → (c ≡ a) ⊎ (c ≡ b) → (e : ℕ) → Member (h + c) e → isOpen g e ≡ true → bitAnd (at m e) (cond (inUnit (f + i) e || inUnit (f + j) e) 0 (only d)) ≡ 0
       cell c n w e k free =

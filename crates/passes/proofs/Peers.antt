@@ -1,7 +1,7 @@
 -- The peers of a cell lose digits: the others of its row, its column and its box do. Assumes nothing.
 use mathlib.Core.Path.{_≡_, refl, sym, ap, _∙_}
 use mathlib.Core.Logic.{_↔_, _≢_, ⊎-elim}
-use mathlib.Core.Bool.{Bool, true, false, cond, not, _||_, true≢false}
+use mathlib.Core.Bool.{Bool, true, false, cond, not}
 use mathlib.Core.List.{List, _++_, List·Memᴰ, List·Memᴰ·append-cases, Memᴰ·append-left, Memᴰ·append-right}
 use Prim.Native.Nat.{ℕ, _+_, _*_, _%_, _<_}
 use native.Mathlib.Omega.{arith}
@@ -9,26 +9,26 @@ use borrow.Author.Tests.{eq-eqb, eqb-false, ne-eqb}
 use lib.Dec.{eqb, eqb→eq}
 use Rattle.candidates.specs.Masks.{has, minus, single}
 use Rattle.candidates.proofs.Held.{Held}
-use Rattle.candidates.proofs.Tests.{below, both-right, eqb-sym}
-use Rattle.grid.specs.Cells.{row, col, box, aligned, peers}
+use Rattle.candidates.proofs.Tests.{below}
+use Rattle.grid.specs.Cells.{row, col, box, peers}
 use Rattle.grid.specs.Units.{units, unit, unitCell, inUnit, Member}
-use Rattle.grid.proofs.Cells.{row-below, col-below, box-below, share-sees, sees-differ, peer-sees, sees-peer}
-use Rattle.grid.proofs.Units.{in-row, in-col, in-box, in-member, member-in, member-below, member-mem, mem-member}
+use Rattle.grid.proofs.Cells.{row-below, col-below, box-below, share-sees, sees-shared, sees-differ, peer-sees, sees-peer}
+use Rattle.grid.proofs.Units.{kind, by-unit, in-row, in-col, in-box, member-in, member-below, member-mem, mem-member}
 use Rattle.steps.specs.Boards.{isOpen}
 use Rattle.steps.specs.Loops.{each}
 use Rattle.steps.specs.Steps.{loseAt, loseAll}
 use Rattle.steps.proofs.Loops.{each-append}
-use Rattle.steps.proofs.Losses.{Lost, held-unless}
+use Rattle.steps.proofs.Losses.{Lost, held-unless, lost-when, without-same}
 use Rattle.cells.specs.Places.{losePlaces}
+use Rattle.cells.proofs.Places.{places-lose}
 use Rattle.passes.specs.Turns.{othersLose, peersLose}
-use Rattle.passes.proofs.Losing.{places-lose, lose-same}
 use Rattle.passes.proofs.NineBits.{has-except, has-place, cond-not}
 
 -- ---- the others of a unit
 
 pub others-lose : (g : List ℕ) (u i k : ℕ) (m : List ℕ) → u < 27 → i < 9 → losePlaces (isOpen g) u (minus 511 (single i)) k m ≡ othersLose g u i k m
 unfolding othersLose
-others-lose g u i k m h l = places-lose (isOpen g) u (minus 511 (single i)) k (λ e. cond (eqb e (unitCell u i)) 0 k) m h at-place
+others-lose g u i k m h l = places-lose (isOpen g) u h (minus 511 (single i)) k (λ e. cond (eqb e (unitCell u i)) 0 k) at-place m
   where
     spares : (j : ℕ) → j < 9 → has (minus 511 (single i)) j ≡ not (eqb (unitCell u j) (unitCell u i))
     spares j n = has-except (single i) j n ∙ ap not (has-place u i j h l n)
@@ -83,19 +83,12 @@ module _ (c : ℕ) (within : c < 81) where
   unfolding its
   sees-its e k =
       let p = peer-sees c e k in
-      go (p .0) (eqb (row c) (row e)) (eqb (col c) (col e)) (eqb (box c) (box e)) refl refl refl (both-right (not (eqb c e)) (aligned c e) (p .1))
-    where
-      go : e < 81 → (p q r : Bool) → eqb (row c) (row e) ≡ p → eqb (col c) (col e) ≡ q → eqb (box c) (box e) ≡ r → (p || q || r) ≡ true → List·Memᴰ e its
-      go h true q r x y z t =
-          Memᴰ·append-left (unit (9 + col c) ++ unit (18 + box c))
-          (member-mem row-unit (in-member (row c) e row-unit h (in-row (row c) e (row-below c within) ∙ eqb-sym (row e) (row c) ∙ x)))
-      go h false true r x y z t =
-          Memᴰ·append-right (unit (row c)) (Memᴰ·append-left (unit (18 + box c))
-          (member-mem col-unit (in-member (9 + col c) e col-unit h (in-col (col c) e (col-below c) ∙ eqb-sym (col e) (col c) ∙ y))))
-      go h false false true x y z t =
-          Memᴰ·append-right (unit (row c)) (Memᴰ·append-right (unit (9 + col c))
-          (member-mem box-unit (in-member (18 + box c) e box-unit h (in-box (box c) e (box-below c within) ∙ eqb-sym (box e) (box c) ∙ z))))
-      go h false false false x y z t = absurd (true≢false (sym t))
+      let s = sees-shared c e within (p .0) (p .1) in
+      by-unit (λ (u : ℕ). Member u e → List·Memᴰ e its) c
+      (λ w. Memᴰ·append-left (unit (9 + col c) ++ unit (18 + box c)) (member-mem row-unit w))
+      (λ w. Memᴰ·append-right (unit (row c)) (Memᴰ·append-left (unit (18 + box c)) (member-mem col-unit w)))
+      (λ w. Memᴰ·append-right (unit (row c)) (Memᴰ·append-right (unit (9 + col c)) (member-mem box-unit w)))
+      (s .shared) (kind (s .shared) (s .within)) (member-in (s .within) (s .first)) (s .second)
 
   module _ (g : List ℕ) (k : ℕ) where
     but : ℕ → ℕ
@@ -119,13 +112,13 @@ module _ (c : ℕ) (within : c < 81) where
     unfolding othersLose but
     one-unit u i m e = ap (λ (x : ℕ). loseAll (isOpen g) (unit u) (λ y. cond (eqb y x) 0 k) m) e
 
-    pub peers-lose : (m : List ℕ) → othersLose g (18 + box c) (boxPlace c) k (othersLose g (9 + col c) (row c) k (othersLose g (row c) (col c) k m)) ≡ peersLose g c k m
+    peers-lose : (m : List ℕ) → othersLose g (18 + box c) (boxPlace c) k (othersLose g (9 + col c) (row c) k (othersLose g (row c) (col c) k m)) ≡ peersLose g c k m
     unfolding peersLose its
     peers-lose m =
         one-unit (18 + box c) (boxPlace c) _ (in-its-box c within)
         ∙ ap (loseAll (isOpen g) (unit (18 + box c)) but) (one-unit (9 + col c) (row c) _ (in-its-col c within) ∙ ap (loseAll (isOpen g) (unit (9 + col c)) but) (one-unit (row c) (col c) m (in-its-row c within)))
         ∙ sym (each-append turn (unit (row c)) (unit (9 + col c) ++ unit (18 + box c)) m ∙ each-append turn (unit (9 + col c)) (unit (18 + box c)) (each turn (unit (row c)) m))
-        ∙ lose-same (isOpen g) but (λ _. k) its (peers c) m lost
+        ∙ without-same (lost-when (isOpen g) but true its m (Lost (isOpen g) but its) refl (λ e d. (λ l. l, λ l. l))) (lost-when (isOpen g) (λ _. k) true (peers c) m (Lost (isOpen g) but its) refl lost)
       where
         turn : ℕ → List ℕ → List ℕ
         turn e = loseAt (isOpen g) e (but e)

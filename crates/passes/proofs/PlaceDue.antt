@@ -5,14 +5,13 @@ use mathlib.Core.Bool.{Bool, true, false, not, _&&_, true≢false}
 use mathlib.Core.List.{List}
 use Prim.Native.Nat.{ℕ, _^_, _<_}
 use native.Mathlib.Omega.{arith}
-use borrow.Author.Tests.{eqb-true, eq-eqb, ne-eqb}
+use borrow.Author.Tests.{eqb-true, ne-eqb}
 use lib.Bits.{bitAnd}
 use lib.Dec.{eqb}
 use Rattle.candidates.specs.Masks.{has, minus, count, single, Sub}
 use Rattle.candidates.proofs.Counts.{count-zero, and-except}
 use Rattle.candidates.proofs.FewDigits.{count-without}
 use Rattle.candidates.proofs.Held.{Held, has-minus, held-power}
-use Rattle.candidates.proofs.Membership.{bit-all}
 use Rattle.candidates.proofs.Order.{apart-sub, sub-of-minus}
 use Rattle.candidates.proofs.Tests.{by-test, cond-false}
 use Rattle.grid.specs.Units.{unitCell}
@@ -20,17 +19,16 @@ use Rattle.steps.specs.Boards.{at, isOpen}
 use Rattle.steps.specs.Instances.{only, except}
 use Rattle.steps.specs.Loops.{upTo}
 use Rattle.steps.specs.Steps.{loseAt}
-use Rattle.steps.proofs.Loops.{in-upTo}
+use Rattle.steps.proofs.Loops.{in-upTo, each-idle}
 use Rattle.steps.proofs.Steps.{lose-none}
 use Rattle.cells.specs.Places.{allMasks}
 use Rattle.cells.proofs.Threes.{all-mask}
 use Rattle.passes.specs.Turns.{heldPlaces, placeTurn, placeDigit}
 use Rattle.passes.specs.Unions.{joined, sharedOf, crowdedOf, dueOf}
 use Rattle.passes.proofs.HeldPlaces.{has-held}
-use Rattle.passes.proofs.NineBits.{single-is, single-sub, held-sub}
+use Rattle.passes.proofs.NineBits.{single-is, only-sub, has-except, held-sub}
 use Rattle.passes.proofs.PlaceTurns.{place-digit}
 use Rattle.passes.proofs.Shared.{Twice, shared-twice, joined-held, crowded-not}
-use Rattle.passes.proofs.Turns.{each-idle}
 
 -- ---- what is not due
 
@@ -42,7 +40,7 @@ module _ (nine : List ℕ) (d : ℕ) (l : d < 9) where
       says : has (dueOf nine) d ≡ (not (has (sharedOf nine) d) && not (has (joined nine) d && not (has (crowdedOf nine) d)))
       says =
           has-minus (minus 511 (sharedOf nine)) (minus (joined nine) (crowdedOf nine)) d
-          ∙ ap (λ (b : Bool). b && not (has (minus (joined nine) (crowdedOf nine)) d)) (has-minus 511 (sharedOf nine) d ∙ ap (λ (b : Bool). b && not (has (sharedOf nine) d)) (eq-eqb _ 1 (bit-all d l)))
+          ∙ ap (λ (b : Bool). b && not (has (minus (joined nine) (crowdedOf nine)) d)) (has-except (sharedOf nine) d l)
           ∙ ap (λ (b : Bool). not (has (sharedOf nine) d) && not b) (has-minus (joined nine) (crowdedOf nine) d)
 
       go : (s j c : Bool) → has (sharedOf nine) d ≡ s → has (joined nine) d ≡ j → has (crowdedOf nine) d ≡ c
@@ -83,7 +81,7 @@ module _ (g m : List ℕ) (u d : ℕ) (h : u < 27) (l : d < 9) where
   only-digit x t e =
       apart-sub (except (only d))
       (sub-of-minus x (2 ^ d) (count-zero (minus x (2 ^ d)) (omega (arith, count-without x d t))))
-      (and-except (subst (λ (k : ℕ). Sub k 511) (single-is d l) (single-sub d l)))
+      (and-except (only-sub d l))
 
   alone-idle : (i : ℕ) → i < 9 → Held (at (allMasks m u) i) d → ((j : ℕ) → j < 9 → Held (at (allMasks m u) j) d → count (at (allMasks m u) j) ≡ 1) → placeDigit g u d m ≡ m
   alone-idle i o t one =

@@ -1,23 +1,30 @@
 -- Place: an instance by the places that hold its digit, which none of the unit's instances of that digit change. Assumes nothing.
-use mathlib.Core.Path.{_≡_, refl, ap, _∙_}
-use mathlib.Core.Bool.{Bool, false, cond}
+use mathlib.Core.Path.{_≡_, refl, sym, ap, _∙_}
+use mathlib.Core.Bool.{Bool, false, cond, true≢false}
 use mathlib.Core.List.{List, [], _∷_}
 use Prim.Native.Nat.{ℕ, _<_}
 use lib.Dec.{eqb, eqb→eq}
 use Rattle.candidates.specs.Masks.{bit, has, minus, single}
-use Rattle.candidates.proofs.Tests.{below, by-test}
+use Rattle.candidates.proofs.Tests.{below, by-test, bool-iff}
 use Rattle.grid.specs.Units.{unitCell}
 use Rattle.steps.specs.Boards.{at, isOpen}
 use Rattle.steps.specs.Instances.{only, except, place, stepOf, places}
 use Rattle.steps.specs.Loops.{each, for, upTo}
 use Rattle.steps.specs.Passes.{Place, instances, instanceTaken, pass}
-use Rattle.steps.specs.Steps.{loseAt, take}
+use Rattle.steps.specs.Steps.{loseAt, loseAll, take}
 use Rattle.steps.proofs.Loops.{in-upTo}
+use Rattle.steps.proofs.Losses.{lost-digits}
+use Rattle.cells.proofs.Places.{each-alike, gather-same}
 use Rattle.passes.specs.Turns.{heldPlaces, placeTurn, placeDigit, placeUnit}
-use Rattle.passes.proofs.Losing.{kept-digit}
 use Rattle.passes.proofs.NineBits.{has-place}
-use Rattle.passes.proofs.HeldPlaces.{gather-same, confined}
-use Rattle.passes.proofs.Turns.{each-while, each-one, each-in}
+use Rattle.passes.proofs.HeldPlaces.{confined}
+use Rattle.passes.proofs.Turns.{each-one, each-in}
+
+-- a digit that the cell does not lose
+kept-digit : (free : ℕ → Bool) (cs : List ℕ) (k : ℕ → ℕ) (m : List ℕ) (e d : ℕ) → has (k e) d ≡ false → has (at (loseAll free cs k m) e) d ≡ has (at m e) d
+kept-digit free cs k m e d h =
+    bool-iff (has (at (loseAll free cs k m) e) d) (has (at m e) d) (λ t. lost-digits free k cs m e d .0 t .0)
+    (λ t. lost-digits free k cs m e d .1 (t, λ l. true≢false (sym (l .digit) ∙ h)))
 
 -- all but d leaves d
 spares-digit : (d : ℕ) → d < 9 → has (except (only d)) d ≡ false
@@ -41,8 +48,8 @@ module _ (g : List ℕ) (u d : ℕ) (h : u < 27) (l : d < 9) where
   pub place-digit : (m : List ℕ) → placeDigit g u d m ≡ each (placeTurn g u d (heldPlaces m u d)) (upTo 9) m
   unfolding placeDigit
   place-digit m =
-      each-while (λ (n : List ℕ). heldPlaces n u d ≡ heldPlaces m u d) (λ i. instanceTaken g (place u d i)) (placeTurn g u d (heldPlaces m u d)) (upTo 9)
-      (λ i k n e. taken n i (in-upTo 9 i k) ∙ ap (λ (x : ℕ). placeTurn g u d x i n) e) (λ i k n e. keeps (heldPlaces m u d) i n ∙ e) m refl
+      each-alike (λ i. instanceTaken g (place u d i)) (placeTurn g u d (heldPlaces m u d)) (λ (n : List ℕ). heldPlaces n u d ≡ heldPlaces m u d) (upTo 9)
+      (λ i k n e. (taken n i (in-upTo 9 i k) ∙ ap (λ (x : ℕ). placeTurn g u d x i n) e, keeps (heldPlaces m u d) i n ∙ e)) m refl .0
 
 pub place-pass : (g m : List ℕ) → pass g Place m ≡ each (placeUnit g) (upTo 27) m
 unfolding pass instances places placeUnit placeDigit

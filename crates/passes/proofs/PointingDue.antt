@@ -1,33 +1,33 @@
 -- Pointing does nothing at a digit that is not due: on no line does it stand outside the box while the box holds it on that line alone. Assumes nothing.
 use mathlib.Core.Path.{_≡_, refl, sym, ap, _∙_, subst}
-use mathlib.Core.Bool.{Bool, true, false, cond, true≢false}
+use mathlib.Core.Bool.{false, cond, true≢false}
 use mathlib.Core.List.{List}
 use Prim.Native.Nat.{ℕ, _+_, _<_}
 use native.Mathlib.Omega.{arith}
-use borrow.Author.Tests.{eqb-true, eqb-false}
+use borrow.Author.Tests.{eqb-true}
 use lib.Bits.{bitAnd}
 use lib.Dec.{eqb}
-use Rattle.candidates.specs.Masks.{bit, has, minus, single}
+use Rattle.candidates.specs.Masks.{has, minus, single}
 use Rattle.candidates.proofs.Held.{Held, held-minus}
-use Rattle.candidates.proofs.Order.{and-only, sub-of-minus}
+use Rattle.candidates.proofs.Order.{sub-of-minus}
 use Rattle.candidates.proofs.Tests.{by-test}
 use Rattle.grid.specs.Units.{unitCell}
 use Rattle.grid.proofs.Units.{cell-below}
 use Rattle.steps.specs.Boards.{at, isOpen}
 use Rattle.steps.specs.Instances.{lineOf}
 use Rattle.steps.specs.Loops.{upTo}
-use Rattle.steps.proofs.Loops.{in-upTo}
+use Rattle.steps.proofs.Loops.{in-upTo, each-idle}
 use Rattle.steps.proofs.Steps.{lose-none}
+use Rattle.steps.proofs.Instances.{line-below}
 use Rattle.cells.specs.Places.{allMasks, loseIn, losePlaces}
+use Rattle.cells.proofs.Places.{lose-cell}
 use Rattle.cells.proofs.Threes.{all-mask}
 use Rattle.passes.specs.Turns.{heldPlaces, boxLine, thirdOf, lockedTurn, pointingTurn, pointingDigit}
 use Rattle.passes.specs.Unions.{joinedAt, lineDue, boxDue}
 use Rattle.passes.proofs.HeldPlaces.{has-held}
-use Rattle.passes.proofs.Losing.{lose-cell}
-use Rattle.passes.proofs.NineBits.{single-is, held-sub}
-use Rattle.passes.proofs.PointingTurns.{line-below, pointing-digit}
+use Rattle.passes.proofs.NineBits.{single-is, held-sub, not-held}
+use Rattle.passes.proofs.PointingTurns.{pointing-digit}
 use Rattle.passes.proofs.Shared.{union-at, joined-at, at-joined}
-use Rattle.passes.proofs.Turns.{each-idle}
 
 -- places whose cells hold none of the digits lose nothing
 places-idle : (g : List ℕ) (u ps k : ℕ) (m : List ℕ) → u < 27 → ((i : ℕ) → i < 9 → Held ps i → bitAnd (at m (unitCell u i)) k ≡ 0) → losePlaces (isOpen g) u ps k m ≡ m
@@ -59,17 +59,13 @@ module _ (g m : List ℕ) (b d : ℕ) (h : b < 9) (l : d < 9) (free : has (boxDu
       (losePlaces (isOpen g) (lineOf b k) (minus 511 (boxLine (thirdOf b k))) (single d) m) m
       (λ t. places-idle g (lineOf b k) (minus 511 (boxLine (thirdOf b k))) (single d) m (line-below b k h n)
       (λ i o p. subst (λ (x : ℕ). bitAnd (at m (unitCell (lineOf b k) i)) x ≡ 0) (sym (single-is d l))
-      (and-only (at m (unitCell (lineOf b k) i)) d (lacking i o p (eqb-true (minus (heldPlaces m (18 + b) d) (boxLine k)) 0 t) (has (at m (unitCell (lineOf b k) i)) d) refl)))) (λ t. refl)
+      (not-held (at m (unitCell (lineOf b k) i)) d (λ q. not-on k n (due i o p (eqb-true (minus (heldPlaces m (18 + b) d) (boxLine k)) 0 t) q))))) (λ t. refl)
     where
-      lacking : (i : ℕ) → i < 9 → Held (minus 511 (boxLine (thirdOf b k))) i → minus (heldPlaces m (18 + b) d) (boxLine k) ≡ 0 → (t : Bool) → has (at m (unitCell (lineOf b k) i)) d ≡ t → bit (at m (unitCell (lineOf b k) i)) d ≡ 0
-      lacking i o p e false t = omega (arith, eqb-false (bit (at m (unitCell (lineOf b k) i)) d) 1 t)
-      lacking i o p e true t = absurd (not-on k n (due e))
-        where
-          due : minus (heldPlaces m (18 + b) d) (boxLine k) ≡ 0 → Held (lineDue m (allMasks m (18 + b)) b k) d
-          due e =
-              unfold lineDue in
-              held-minus (joinedAt (allMasks m (lineOf b k)) (minus 511 (boxLine (thirdOf b k)))) (joinedAt (allMasks m (18 + b)) (minus 511 (boxLine k))) d .1
-              (joined-at (allMasks m (lineOf b k)) (minus 511 (boxLine (thirdOf b k))) d i o p (ap (λ (x : ℕ). has x d) (all-mask m (lineOf b k) i (line-below b k h n) o) ∙ t), not-off k n e)
+      due : (i : ℕ) → i < 9 → Held (minus 511 (boxLine (thirdOf b k))) i → minus (heldPlaces m (18 + b) d) (boxLine k) ≡ 0 → Held (at m (unitCell (lineOf b k) i)) d → Held (lineDue m (allMasks m (18 + b)) b k) d
+      due i o p e t =
+          unfold lineDue in
+          held-minus (joinedAt (allMasks m (lineOf b k)) (minus 511 (boxLine (thirdOf b k)))) (joinedAt (allMasks m (18 + b)) (minus 511 (boxLine k))) d .1
+          (joined-at (allMasks m (lineOf b k)) (minus 511 (boxLine (thirdOf b k))) d i o p (ap (λ (x : ℕ). has x d) (all-mask m (lineOf b k) i (line-below b k h n) o) ∙ t), not-off k n e)
 
   pub not-due : pointingDigit g b d m ≡ m
   not-due =

@@ -15,12 +15,13 @@ use Rattle.steps.specs.Loops.{each, for, upTo}
 use Rattle.steps.specs.Passes.{Pointing, instances, instanceTaken, pass}
 use Rattle.steps.specs.Steps.{loseAll, take}
 use Rattle.steps.proofs.Loops.{in-upTo}
+use Rattle.steps.proofs.Instances.{line-below}
 use Rattle.cells.specs.Places.{losePlaces}
+use Rattle.cells.proofs.Places.{each-alike, places-lose, all-kept, gather-same}
 use Rattle.passes.specs.Turns.{heldPlaces, sharedPlaces, boxLine, thirdOf, lockedTurn, pointingTurn, pointingDigit, pointingBox}
-use Rattle.passes.proofs.Losing.{places-lose, spared}
 use Rattle.passes.proofs.NineBits.{single-is, has-except, cond-not}
-use Rattle.passes.proofs.HeldPlaces.{gather-same, has-gather, confined}
-use Rattle.passes.proofs.Turns.{each-while, each-one, each-in}
+use Rattle.passes.proofs.HeldPlaces.{has-gather, confined}
+use Rattle.passes.proofs.Turns.{each-one, each-in}
 
 -- ---- any two units
 
@@ -29,12 +30,12 @@ module _ (g : List ℕ) (u v d : ℕ) (h : u < 27) (n : v < 27) (l : d < 9) wher
   outside-lose : (m : List ℕ) → losePlaces (isOpen g) v (minus 511 (sharedPlaces v u)) (single d) m ≡ loseAll (isOpen g) (unit v) (λ e. cond (inUnit u e) 0 (only d)) m
   unfolding sharedPlaces
   outside-lose m =
-      places-lose (isOpen g) v (minus 511 (sharedPlaces v u)) (single d) (λ e. cond (inUnit u e) 0 (only d)) m n
+      places-lose (isOpen g) v n (minus 511 (sharedPlaces v u)) (single d) (λ e. cond (inUnit u e) 0 (only d))
       (λ i k. cond-not (inUnit u (unitCell v i)) 0 (only d)
       ∙ ap (λ (t : Bool). cond t (only d) 0) (sym (has-except (sharedPlaces v u) i k ∙ ap not (has-gather (λ i. inUnit u (unitCell v i)) 9 i k)))
-      ∙ ap (λ (x : ℕ). cond (has (minus 511 (sharedPlaces v u)) i) x 0) (sym (single-is d l)))
+      ∙ ap (λ (x : ℕ). cond (has (minus 511 (sharedPlaces v u)) i) x 0) (sym (single-is d l))) m
 
-  pub locked-taken : (m : List ℕ) → take (isOpen g) (lockedStep u v d) m ≡ lockedTurn g (heldPlaces m u d) (sharedPlaces u v) v (sharedPlaces v u) d m
+  locked-taken : (m : List ℕ) → take (isOpen g) (lockedStep u v d) m ≡ lockedTurn g (heldPlaces m u d) (sharedPlaces u v) v (sharedPlaces v u) d m
   unfolding take lockedTurn sharedPlaces
   locked-taken m =
       ap (λ (t : Bool). cond t (loseAll (isOpen g) (unit v) (λ e. cond (inUnit u e) 0 (only d)) m) m)
@@ -42,19 +43,16 @@ module _ (g : List ℕ) (u v d : ℕ) (h : u < 27) (n : v < 27) (l : d < 9) wher
       ∙ ap (λ (x : List ℕ). cond (eqb (minus (heldPlaces m u d) (sharedPlaces u v)) 0) x m) (sym (outside-lose m))
 
   -- what u holds of d stays
-  pub locked-keeps : (held : ℕ) (m : List ℕ) → heldPlaces (lockedTurn g held (sharedPlaces u v) v (sharedPlaces v u) d m) u d ≡ heldPlaces m u d
+  locked-keeps : (held : ℕ) (m : List ℕ) → heldPlaces (lockedTurn g held (sharedPlaces u v) v (sharedPlaces v u) d m) u d ≡ heldPlaces m u d
   unfolding lockedTurn heldPlaces
   locked-keeps held m =
       by-test (λ (x : List ℕ). heldPlaces x u d ≡ heldPlaces m u d) (eqb (minus held (sharedPlaces u v)) 0) (losePlaces (isOpen g) v (minus 511 (sharedPlaces v u)) (single d) m) m
       (λ t. ap (λ (x : List ℕ). heldPlaces x u d) (outside-lose m)
       ∙ gather-same (λ i. has (at (loseAll (isOpen g) (unit v) (λ e. cond (inUnit u e) 0 (only d)) m) (unitCell u i)) d) (λ i. has (at m (unitCell u i)) d) 9
-      (λ i k. ap (λ (x : ℕ). has x d) (spared (isOpen g) (unit v) (λ e. cond (inUnit u e) 0 (only d)) m (unitCell u i) (ap (λ (t : Bool). cond t 0 (only d)) (cell-in u i h k)))))
+      (λ i k. ap (λ (x : ℕ). has x d) (all-kept (isOpen g) (λ e. cond (inUnit u e) 0 (only d)) (unitCell u i) (ap (λ (t : Bool). cond t 0 (only d)) (cell-in u i h k)) (unit v) m)))
       (λ t. refl)
 
 -- ---- a box and a line that meets it
-
-pub line-below : (b k : ℕ) → b < 9 → k < 6 → lineOf b k < 27
-line-below b k h l = ltb→lt (lineOf b k) 27 (below-both 9 6 (λ b k. ltb (lineOf b k) 27) tt b k h l)
 
 pub third-below : (b k : ℕ) → b < 9 → k < 6 → thirdOf b k < 6
 third-below b k h l = ltb→lt (thirdOf b k) 6 (below-both 9 6 (λ b k. ltb (thirdOf b k) 6) tt b k h l)
@@ -86,8 +84,8 @@ module _ (g : List ℕ) (b d : ℕ) (h : b < 9) (l : d < 9) where
   pub pointing-digit : (m : List ℕ) → pointingDigit g b d m ≡ each (pointingTurn g b d (heldPlaces m (18 + b) d)) (upTo 6) m
   unfolding pointingDigit
   pointing-digit m =
-      each-while (λ (n : List ℕ). heldPlaces n (18 + b) d ≡ heldPlaces m (18 + b) d) (λ k. instanceTaken g (pointing b d k)) (pointingTurn g b d (heldPlaces m (18 + b) d)) (upTo 6)
-      (λ k i n e. taken n k (in-upTo 6 k i) ∙ ap (λ (x : ℕ). pointingTurn g b d x k n) e) (λ k i n e. keeps (heldPlaces m (18 + b) d) k n (in-upTo 6 k i) ∙ e) m refl
+      each-alike (λ k. instanceTaken g (pointing b d k)) (pointingTurn g b d (heldPlaces m (18 + b) d)) (λ (n : List ℕ). heldPlaces n (18 + b) d ≡ heldPlaces m (18 + b) d) (upTo 6)
+      (λ k i n e. (taken n k (in-upTo 6 k i) ∙ ap (λ (x : ℕ). pointingTurn g b d x k n) e, keeps (heldPlaces m (18 + b) d) k n (in-upTo 6 k i) ∙ e)) m refl .0
 
 pub pointing-pass : (g m : List ℕ) → pass g Pointing m ≡ each (pointingBox g) (upTo 9) m
 unfolding pass instances pointings pointingBox pointingDigit

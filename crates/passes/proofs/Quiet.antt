@@ -3,41 +3,34 @@ use mathlib.Core.Path.{_≡_, refl, sym, ap, _∙_, subst}
 use mathlib.Core.Logic.{_≢_, _⊎_, inl, inr, ⊎-elim}
 use mathlib.Core.Bool.{Bool, true, false, cond, not, true≢false}
 use mathlib.Core.List.{List}
-use Prim.Native.Nat.{ℕ, _+_, _^_, _≤_, _<_}
+use Prim.Native.Nat.{ℕ, _^_, _≤_, _<_}
 use native.Mathlib.Decide.{ℕ-discrete, decLt}
 use native.Mathlib.Omega.{arith}
-use borrow.Author.Tests.{eqb-true, eqb-false, ne-eqb}
+use borrow.Author.Tests.{eqb-true, eqb-false, ne-eqb, not-true}
 use lib.Bits.{bitAnd, and-zero-r}
 use lib.Dec.{eqb}
 use lib.ListN.{length, set, length-set, List·getD-eq-default}
 use lib.Seq.{getD-set-same, getD-set-other}
 use Rattle.candidates.specs.Masks.{union, count, tail, lowest}
 use Rattle.candidates.proofs.Counts.{count-zero, count-sub}
-use Rattle.candidates.proofs.FewDigits.{tail-count, tail-small, lowest-held, More, more-count}
+use Rattle.candidates.proofs.FewDigits.{tail-count, lowest-held, More, more-count}
 use Rattle.candidates.proofs.Held.{Held, none-held, held-union, held-ext, sub-held}
 use Rattle.candidates.proofs.Tests.{cond-true, cond-false}
 use Rattle.grid.proofs.Lists.{all-range}
 use Rattle.steps.specs.Boards.{at}
 use Rattle.steps.specs.Loops.{upTo}
-use Rattle.steps.proofs.Loops.{in-upTo}
+use Rattle.steps.proofs.Loops.{in-upTo, each-idle}
 use Rattle.passes.specs.Twos.{firstOf, secondOf, Framed, lineMasks, othersOf, reachOf, linesTaken, frameTaken, lively, quietOf}
 use Rattle.passes.specs.Unions.{joined, sharedOf}
 use Rattle.passes.specs.declared.twos.Frame.{Frame}
-use Rattle.passes.proofs.NineBits.{held-meet, nine-lt}
+use Rattle.passes.proofs.NineBits.{held-meet, nine-lt, tails-count}
 use Rattle.passes.proofs.Passed.{every-tabled, passed-over, two-held}
 use Rattle.passes.proofs.Shared.{union-held, twice-shared}
-use Rattle.passes.proofs.Turns.{each-idle}
 use Rattle.passes.proofs.TwoNumbers.{first-below, second-below, rise}
 
 -- ---- what two lines reach that hold two places or more
 
 module _ (k : ℕ) (small : k < 2 ^ 16) where
-  counted : 2 ≤ count k → count (tail (tail k)) + 2 ≡ count k
-  counted h =
-      let p = tail-count k small (omega arith) in
-      let q = tail-count (tail k) (tail-small k small (omega arith)) (omega arith) in
-      omega arith
-
   second : 2 ≤ count k → reachOf k ≡ cond (eqb (count (tail (tail k))) 0) k 0
   unfolding reachOf
   second h =
@@ -45,7 +38,7 @@ module _ (k : ℕ) (small : k < 2 ^ 16) where
       (ne-eqb (count (tail k)) 0 (λ e. omega (arith, tail-count k small (omega arith))))
 
   reach-more : 3 ≤ count k → reachOf k ≡ 0
-  reach-more h = second (omega arith) ∙ cond-false (eqb (count (tail (tail k))) 0) k 0 (ne-eqb (count (tail (tail k))) 0 (λ e. omega (arith, counted (omega arith))))
+  reach-more h = second (omega arith) ∙ cond-false (eqb (count (tail (tail k))) 0) k 0 (ne-eqb (count (tail (tail k))) 0 (λ e. omega (arith, tails-count k small (omega arith))))
 
   -- nothing that is apart from what they hold
   reach-apart : (x : ℕ) → 2 ≤ count k → bitAnd x k ≡ 0 → bitAnd x (reachOf k) ≡ 0
@@ -172,11 +165,7 @@ quiet-frame g m F framed t =
     line : (l : ℕ) → l < 9 → Still (bitAnd (at (lineMasks m F) l) 511) (sharedOf (lineMasks m F))
     line l h =
         still (bitAnd (at (lineMasks m F) l) 511) (sharedOf (lineMasks m F))
-        (not-lively (lively (bitAnd (at (lineMasks m F) l) 511) (sharedOf (lineMasks m F))) (all-range (λ l. not (lively (bitAnd (at (lineMasks m F) l) 511) (sharedOf (lineMasks m F)))) 9 t l h))
-      where
-        not-lively : (b : Bool) → not b ≡ true → b ≡ false
-        not-lively true e = absurd (true≢false (sym e))
-        not-lively false e = refl
+        (not-true (lively (bitAnd (at (lineMasks m F) l) 511) (sharedOf (lineMasks m F))) (all-range (λ l. not (lively (bitAnd (at (lineMasks m F) l) 511) (sharedOf (lineMasks m F)))) 9 t l h))
 
     pair : (p : ℕ) → p < 36 → linesTaken g F (firstOf p) (secondOf p) m ≡ m
     pair p h =

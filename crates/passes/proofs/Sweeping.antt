@@ -1,16 +1,15 @@
--- Settling, sweep by sweep, and what it removes from the 81 cells. Assumes nothing.
-use mathlib.Core.Path.{_≡_, refl, ap, _∙_}
+-- Settling, sweep by sweep: its count, and no more candidates than before. Assumes nothing.
+use mathlib.Core.Path.{_≡_, ap, _∙_}
 use mathlib.Core.Bool.{true, false}
 use mathlib.Core.List.{List}
 use Prim.Native.Nat.{ℕ, zero, suc, _+_, _-_, _≤_, _<_}
 use native.Mathlib.Omega.{arith}
+use borrow.Author.Tests.{not-true, not-false}
 use Rattle.candidates.proofs.Tests.{cond-true, cond-false, by-test}
-use Rattle.steps.specs.Boards.{at, sameMasks}
-use Rattle.steps.specs.Passes.{sweep, Sweeps, settleIn, removedBy}
+use Rattle.steps.specs.Boards.{sameMasks, total}
+use Rattle.steps.specs.Passes.{sweep, changed, Sweeps, settleIn}
 use Rattle.steps.proofs.Masks.{total-under}
 use Rattle.steps.proofs.Reach.{Reach, start, reach-trans, reach-under, reach-length, sweep-reach}
-use Rattle.passes.specs.Counts.{counted}
-use Rattle.passes.proofs.CellCounts.{past-cells, removed-is, counted-fewer}
 
 module _ (g : List ℕ) where
   -- ---- a sweep more
@@ -22,13 +21,13 @@ module _ (g : List ℕ) where
     one-more : 730 - i ≡ suc (730 - (i + 1))
     one-more = omega arith
 
-    pub settle-stops : sameMasks m (sweep g m) ≡ true → settleIn (730 - i) g m ≡ record { sweeps = 1; left = sweep g m }
+    pub settle-stops : changed m (sweep g m) ≡ false → settleIn (730 - i) g m ≡ record { sweeps = 1; left = sweep g m }
     unfolding settleIn again
-    settle-stops t = ap (λ (n : ℕ). settleIn n g m) one-more ∙ cond-true (sameMasks m (sweep g m)) _ (again (730 - (i + 1)) m) t
+    settle-stops t = ap (λ (n : ℕ). settleIn n g m) one-more ∙ cond-true (sameMasks m (sweep g m)) _ (again (730 - (i + 1)) m) (not-false (sameMasks m (sweep g m)) t)
 
-    pub settle-goes : sameMasks m (sweep g m) ≡ false → settleIn (730 - i) g m ≡ record { sweeps = settleIn (730 - (i + 1)) g (sweep g m) .sweeps + 1; left = settleIn (730 - (i + 1)) g (sweep g m) .left }
+    pub settle-goes : changed m (sweep g m) ≡ true → settleIn (730 - i) g m ≡ record { sweeps = settleIn (730 - (i + 1)) g (sweep g m) .sweeps + 1; left = settleIn (730 - (i + 1)) g (sweep g m) .left }
     unfolding settleIn again
-    settle-goes t = ap (λ (n : ℕ). settleIn n g m) one-more ∙ cond-false (sameMasks m (sweep g m)) (record { sweeps = 1; left = sweep g m }) (again (730 - (i + 1)) m) t
+    settle-goes t = ap (λ (n : ℕ). settleIn n g m) one-more ∙ cond-false (sameMasks m (sweep g m)) (record { sweeps = 1; left = sweep g m }) (again (730 - (i + 1)) m) (not-true (sameMasks m (sweep g m)) t)
 
   pub settle-ends : (i : ℕ) (m : List ℕ) → 730 ≤ i → settleIn (730 - i) g m ≡ record { sweeps = 0; left = m }
   unfolding settleIn
@@ -36,31 +35,14 @@ module _ (g : List ℕ) where
       let e : 730 - i ≡ 0 = omega arith in
       ap (λ (n : ℕ). settleIn n g m) e
 
-  -- ---- what every sweep keeps, settling keeps
+  -- ---- what settling leaves
 
-  settle-keeps : (P : List ℕ → Type 0) → ((m : List ℕ) → P m → P (sweep g m)) → (n : ℕ) (m : List ℕ) → P m → P (settleIn n g m .left)
-  unfolding settleIn
-  settle-keeps P step zero m p = p
-  settle-keeps P step (suc n) m p =
-      by-test (λ (s : Sweeps). P (s .left)) (sameMasks m (sweep g m)) (record { sweeps = 1; left = sweep g m }) (record { sweeps = settleIn n g (sweep g m) .sweeps + 1; left = settleIn n g (sweep g m) .left })
-      (λ t. step m p) (λ t. settle-keeps P step n (sweep g m) (step m p))
+  settle-reach : (n : ℕ) (m : List ℕ) → Reach g m (settleIn n g m .left)
+  unfolding settleIn again
+  settle-reach zero m = start
+  settle-reach (suc n) m =
+      by-test (λ (s : Sweeps). Reach g m (s .left)) (sameMasks m (sweep g m)) (record { sweeps = 1; left = sweep g m }) (again n m)
+      (λ t. sweep-reach g m) (λ t. reach-trans g (sweep-reach g m) (settle-reach n (sweep g m)))
 
-  module _ (n : ℕ) (m : List ℕ) where
-    left : List ℕ
-    left = settleIn n g m .left
-
-    reached : Reach g m left
-    unfolding left
-    reached = settle-keeps (λ (o : List ℕ). Reach g m o) (λ o p. reach-trans g p (sweep-reach g o)) n m start
-
-    past : (c : ℕ) → 81 ≤ c → at left c ≡ at m c
-    unfolding left
-    past c h = settle-keeps (λ (o : List ℕ). at o c ≡ at m c) (λ o p. past-cells g o c h ∙ p) n m refl
-
-    pub settle-removes : counted m - counted (settleIn n g m .left) ≡ removedBy m (settleIn n g m .left)
-    unfolding left
-    settle-removes = removed-is m left (reach-length g reached) past
-
-    pub settle-fewer : counted (settleIn n g m .left) ≤ counted m
-    unfolding left
-    settle-fewer = counted-fewer m left (reach-length g reached) past (total-under left m (reach-length g reached) (reach-under g reached))
+  pub settle-fewer : (n : ℕ) (m : List ℕ) → total (settleIn n g m .left) ≤ total m
+  settle-fewer n m = let r = settle-reach n m in total-under (settleIn n g m .left) m (reach-length g r) (reach-under g r)

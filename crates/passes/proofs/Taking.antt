@@ -1,6 +1,6 @@
 -- A step is taken where its test passes, and leaves the masks where it does not; the steps of Lone. Assumes nothing.
-use mathlib.Core.Path.{_≡_, refl, sym, ap, _∙_}
-use mathlib.Core.Bool.{Bool, true, false, _&&_}
+use mathlib.Core.Path.{_≡_, sym, ap, _∙_}
+use mathlib.Core.Bool.{Bool, true, false, and-true}
 use mathlib.Core.List.{List, [], _∷_}
 use Prim.Native.Nat.{ℕ, _<_}
 use lib.Bits.{bitAnd}
@@ -8,11 +8,14 @@ use lib.Dec.{eqb}
 use Rattle.candidates.specs.Masks.{minus, count, single}
 use Rattle.candidates.proofs.Counts.{test-none}
 use Rattle.candidates.proofs.Tests.{cond-true, cond-false}
-use Rattle.steps.specs.Boards.{at, isOpen}
+use Rattle.steps.specs.Boards.{at, isOpen, Under}
 use Rattle.steps.specs.Instances.{only, except, lone, loneStep, stepOf, lones}
 use Rattle.steps.specs.Loops.{each, for, upTo}
 use Rattle.steps.specs.Passes.{Lone, instances, instanceTaken, pass}
 use Rattle.steps.specs.Steps.{Step, lacks, applies, loseAll, take}
+use Rattle.steps.proofs.Loops.{each-keeps}
+use Rattle.steps.proofs.Masks.{under-refl, under-trans}
+use Rattle.steps.proofs.Steps.{take-under}
 use Rattle.cells.specs.Places.{maskAt}
 use Rattle.cells.proofs.Threes.{mask-at}
 use Rattle.passes.specs.Turns.{peersLose, loneCell}
@@ -28,9 +31,10 @@ module _ (free : ℕ → Bool) (s : Step) (m : List ℕ) where
   unfolding take
   left-alone t = sym (cond-false (applies s m) (loseAll free (s .hits) (s .loses) m) m t)
 
-pub and-true : (t : Bool) → (t && true) ≡ t
-and-true true = refl
-and-true false = refl
+-- steps only take away
+pub takes-under : {A : Type 0} (free : ℕ → Bool) (step : A → Step) (xs : List A) (m : List ℕ) → Under (each (λ x. take free (step x)) xs m) m
+takes-under free step xs m =
+    each-keeps (λ x. take free (step x)) (λ (n : List ℕ). Under n m) xs (λ x k n p. under-trans (take-under free (step x) n) p) m (under-refl m)
 
 -- ---- Lone
 

@@ -1,32 +1,14 @@
--- Loops whose turns do the same, while something holds that each turn keeps, or do nothing. Assumes nothing.
+-- Loops whose turns do nothing, loops over lists that loops make, and loops of code. Assumes nothing.
 use mathlib.Core.Path.{_≡_, refl, sym, ap, _∙_}
-use mathlib.Core.List.{List, [], _∷_, map, List·Memᴰ, List·Memᴰ·head, List·Memᴰ·tail}
+use mathlib.Core.List.{List, [], _∷_}
 use mathlib.Core.Logic.{_≢_}
 use Prim.Native.Nat.{ℕ, zero, suc, _+_, _-_, _≤_, _<_}
 use native.Mathlib.Decide.{ℕ-discrete}
 use native.Mathlib.Omega.{arith}
 use Rattle.grid.proofs.Lists.{each-on, each-end, mem-range}
 use Rattle.steps.specs.Loops.{each, for, range}
-use Rattle.steps.proofs.Loops.{each-for}
-
-module _ {A S : Type 0} where
-  pub each-while : (P : S → Type 0) (f g : A → S → S) (xs : List A) → ((x : A) → List·Memᴰ x xs → (s : S) → P s → f x s ≡ g x s)
-      → ((x : A) → List·Memᴰ x xs → (s : S) → P s → P (g x s)) → (s : S) → P s → each f xs s ≡ each g xs s
-  unfolding each
-  each-while P f g [] same keep s p = refl
-  each-while P f g (x ∷ xs) same keep s p =
-      ap (each f xs) (same x (List·Memᴰ·head refl) s p)
-      ∙ each-while P f g xs (λ y k. same y (List·Memᴰ·tail k)) (λ y k. keep y (List·Memᴰ·tail k)) (g x s) (keep x (List·Memᴰ·head refl) s p)
-
-  pub each-same : (f g : A → S → S) (xs : List A) → ((x : A) → List·Memᴰ x xs → (s : S) → f x s ≡ g x s) → (s : S) → each f xs s ≡ each g xs s
-  unfolding each
-  each-same f g [] same s = refl
-  each-same f g (x ∷ xs) same s = ap (each f xs) (same x (List·Memᴰ·head refl) s) ∙ each-same f g xs (λ y k. same y (List·Memᴰ·tail k)) (g x s)
-
-  pub each-idle : (f : A → S → S) (xs : List A) (s : S) → ((x : A) → List·Memᴰ x xs → f x s ≡ s) → each f xs s ≡ s
-  unfolding each
-  each-idle f [] s idle = refl
-  each-idle f (x ∷ xs) s idle = ap (each f xs) (idle x (List·Memᴰ·head refl)) ∙ each-idle f xs s (λ y k. idle y (List·Memᴰ·tail k))
+use Rattle.steps.proofs.Loops.{each-for, each-idle}
+use Rattle.cells.proofs.Places.{each-same}
 
 -- a loop over numbers in which only the turn of i does anything
 pub each-only : {S : Type 0} (f : ℕ → S → S) (i n k : ℕ) → k ≤ i → i < k + n → ((j : ℕ) → j < k + n → j ≢ i → (s : S) → f j s ≡ s) → (s : S) → each f (range n k) s ≡ f i s
@@ -39,11 +21,6 @@ each-only {S} f i (suc n) k h l idle s = go (ℕ-discrete k i) (λ m. each-only 
         each-idle f (range n (suc k)) (f k s) (λ j o. let w = mem-range n (suc k) j o in idle j (omega (arith, w .1)) (λ q. omega (arith, w .0)) (f k s))
         ∙ ap (λ (x : ℕ). f x s) e
     go (no e) more = ap (each f (range n (suc k))) (idle k (omega arith) e s) ∙ more (omega arith) s
-
-pub each-map : {A B S : Type 0} (f : B → S → S) (h : A → B) (xs : List A) (s : S) → each f (map h xs) s ≡ each (λ x. f (h x)) xs s
-unfolding each
-each-map f h [] s = refl
-each-map f h (x ∷ xs) s = each-map f h xs (f (h x) s)
 
 -- a list that a loop makes of one thing at each turn
 pub each-one : {A B S : Type 0} (f : B → S → S) (xs : List A) (h : A → B) (s : S) → each f (for xs λ x. h x ∷ []) s ≡ each (λ x. f (h x)) xs s

@@ -1,6 +1,5 @@
 pub mod Turns
 pub mod Unions
 pub mod Twos
-pub mod Counts
 pub mod Kinds
 pub mod Settlings

@@ -4,7 +4,6 @@ ghost use Rattle.passes.specs.Twos.{FirstLine, crossLines};
 ghost use Rattle.steps.specs.Passes.{pass, Lone, Place, Pair, Pointing, Cross, sweep, settle, removedBy};
 
 pub mod calls;
-mod counts;
 mod holders;
 mod lones;
 mod places;
@@ -12,6 +11,8 @@ mod pointings;
 mod twos;
 mod unions;
 
+use cells::changed;
+use cells::total;
 use twos::Frame;
 
 // Lone: a cell that holds nothing but d, or nothing: its peers lose d.
@@ -100,7 +101,8 @@ fn sweep_on(givens: &[u8; 81], masks: &mut [u16; 81]) -> usize
         let before = *masks;
         sweep(givens, masks);
         sweeps += 1;
-        if counts::same_masks(&before, masks) {
+        let after = *masks;
+        if !changed(before, after) {
             return sweeps;
         }
     }
@@ -121,10 +123,11 @@ pub fn settle(givens: &[u8; 81], masks: &mut [u16; 81]) -> Settled
     ensures { λ r. ⌜ r .removed ≡ removedBy (now (masks .entry)) (now (masks .exit)) ⌝ }
     ensures { λ _. ⌜ now (masks .exit) ≡ settle (now (givens .entry)) (now (masks .entry)) .left ⌝ }
 {
-    let before = counts::candidate_count(masks);
+    let before = *masks;
     let sweeps = sweep_on(givens, masks);
+    let after = *masks;
     Settled {
         sweeps,
-        removed: before - counts::candidate_count(masks),
+        removed: total(before) - total(after),
     }
 }

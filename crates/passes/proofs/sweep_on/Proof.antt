@@ -4,10 +4,8 @@ use mathlib.Core.List.{List}
 use Prim.Native.Nat.{ℕ, _+_, _-_, _≤_}
 use native.Mathlib.Omega.{arith}
 use borrow.Author.Needs.{needs}
-use Rattle.steps.specs.Boards.{sameMasks}
-use Rattle.steps.specs.Passes.{sweep, Sweeps, settle, settleIn}
-use Rattle.passes.specs.Counts.{sameCells}
-use Rattle.passes.proofs.CellCounts.{same-cells}
+use borrow.Author.Tests.{not-true, not-false}
+use Rattle.steps.specs.Passes.{sweep, changed, Sweeps, settle, settleIn}
 use Rattle.passes.proofs.Sweeping.{settle-stops, settle-goes, settle-ends}
 use Rattle.passes.proofs.sweep_on.Statement.{statement}
 use Rattle.passes.proofs.sweep_on.Tie as tie
@@ -28,30 +26,30 @@ sweep-requires c κs = search needs
 add-sweeps : tie.Need-add-sweeps Inv-loop μ-loop
 add-sweeps c = omega arith
 
-same-masks-requires : tie.Need-same-masks-requires Inv-loop μ-loop
-same-masks-requires c κs = search needs
+changed-requires : tie.Need-changed-requires Inv-loop μ-loop
+changed-requires c κs = search needs
 
--- whether the sweep removed nothing
-tested : (c : tie.After-same-masks Inv-loop μ-loop) → c .same-masks .result ≡ sameMasks (c .before .before .before .before .before .before .before .loop .masks) (sweep (c .before .before .before .before .before .before .before .before .args .givens .now) (c .before .before .before .before .before .before .before .loop .masks))
-tested c =
-    c .same-masks .ensures ∙ ap (sameCells (c .before .before .before .before .before .before .before .loop .masks)) (c .before .before .before .sweep .ensures) ∙ same-cells (c .before .before .before .before .before .before .before .before .args .givens .now) (c .before .before .before .before .before .before .before .loop .masks)
+-- whether the sweep removed anything
+tested : (c : tie.After-changed Inv-loop μ-loop)
+    → c .changed .result ≡ changed (c .before .before .before .before .before .before .loop .masks) (sweep (c .before .before .before .before .before .before .before .args .givens .now) (c .before .before .before .before .before .before .loop .masks))
+tested c = c .changed .ensures ∙ ap (changed (c .before .before .before .before .before .before .loop .masks)) (c .before .before .sweep .ensures)
 
 returns : tie.Need-returns Inv-loop μ-loop
 returns c =
-    let l = c .before .before .before .before .before .before .before .before .loop in
-    let g = c .before .before .before .before .before .before .before .before .before .args .givens .now in
-    let s = settle-stops g (l .sweeps) (l .masks) (omega arith) (sym (tested (c .before)) ∙ c .if1 .taken) in
-    (omega (arith, ap (λ (x : Sweeps). x .sweeps) s, l .inv .1), c .before .before .before .before .sweep .ensures ∙ sym (ap (λ (x : Sweeps). x .left) s) ∙ l .inv .2)
+    let l = c .before .before .before .before .before .before .before .loop in
+    let g = c .before .before .before .before .before .before .before .before .args .givens .now in
+    let s = settle-stops g (l .sweeps) (l .masks) (omega arith) (sym (tested (c .before)) ∙ not-true (c .before .changed .result) (c .if1 .taken)) in
+    (omega (arith, ap (λ (x : Sweeps). x .sweeps) s, l .inv .1), c .before .before .before .sweep .ensures ∙ sym (ap (λ (x : Sweeps). x .left) s) ∙ l .inv .2)
 
 loop-less : tie.Need-loop-less Inv-loop μ-loop
 loop-less c = omega arith
 
 loop-again : tie.Need-loop-again Inv-loop μ-loop
 loop-again c =
-    let l = c .before .before .before .before .before .before .before .before .loop in
-    let g = c .before .before .before .before .before .before .before .before .before .args .givens .now in
-    let s = settle-goes g (l .sweeps) (l .masks) (omega arith) (sym (tested (c .before)) ∙ c .if1 .left) in
-    let e = ap (λ (m : List ℕ). settleIn (730 - (l .sweeps + 1)) g m) (c .before .before .before .before .sweep .ensures) in
+    let l = c .before .before .before .before .before .before .before .loop in
+    let g = c .before .before .before .before .before .before .before .before .args .givens .now in
+    let s = settle-goes g (l .sweeps) (l .masks) (omega arith) (sym (tested (c .before)) ∙ not-false (c .before .changed .result) (c .if1 .left)) in
+    let e = ap (λ (m : List ℕ). settleIn (730 - (l .sweeps + 1)) g m) (c .before .before .before .sweep .ensures) in
     (omega arith, omega (arith, ap (λ (x : Sweeps). x .sweeps) s, ap (λ (x : Sweeps). x .sweeps) e, l .inv .1), ap (λ (x : Sweeps). x .left) e ∙ sym (ap (λ (x : Sweeps). x .left) s) ∙ l .inv .2)
 
 returns-2 : tie.Need-returns-2 Inv-loop μ-loop
@@ -69,7 +67,7 @@ sweep-on-spec =
     loop-holds
     sweep-requires
     add-sweeps
-    same-masks-requires
+    changed-requires
     returns
     loop-less
     loop-again

@@ -1,5 +1,5 @@
 -- `passes::calls::run_pass` meets its contract. Assumes nothing.
-use mathlib.Core.Path.{_≡_, sym, ap, _∙_}
+use mathlib.Core.Path.{sym, ap, _∙_}
 use borrow.Author.Needs.{needs}
 use Rattle.steps.specs.Passes.{pass}
 use Rattle.passes.specs.Kinds.{kindOf}

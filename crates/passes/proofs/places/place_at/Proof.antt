@@ -12,8 +12,8 @@ use Rattle.steps.specs.Boards.{isOpen}
 use Rattle.steps.specs.Instances.{only, except}
 use Rattle.steps.specs.Steps.{loseAt}
 use Rattle.cells.specs.Places.{loseIn}
+use Rattle.cells.proofs.Places.{lose-cell}
 use Rattle.passes.specs.Turns.{placeTurn}
-use Rattle.passes.proofs.Losing.{lose-cell}
 use Rattle.passes.proofs.NineBits.{except-single}
 use Rattle.passes.proofs.places.place_at.Statement.{statement}
 use Rattle.passes.proofs.places.place_at.Tie as tie

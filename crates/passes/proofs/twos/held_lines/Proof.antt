@@ -4,7 +4,7 @@ use mathlib.Core.List.{List, []}
 use Prim.Native.Nat.{ℕ, _+_, _-_, _≤_}
 use native.Mathlib.Omega.{arith}
 use lib.ListN.{set, replicate}
-use Rattle.grid.proofs.Lists.{each-set}
+use Rattle.grid.proofs.Fills.{each-set}
 use Rattle.steps.specs.Loops.{each, range}
 use Rattle.passes.specs.Turns.{heldPlaces}
 use Rattle.passes.specs.Twos.{heldLines}

@@ -5,7 +5,7 @@ use Prim.Native.Nat.{ℕ, _-_, _≤_}
 use native.Mathlib.Omega.{arith}
 use borrow.Author.Needs.{needs}
 use lib.ListN.{set, replicate}
-use Rattle.grid.proofs.Lists.{each-set}
+use Rattle.grid.proofs.Fills.{each-set}
 use Rattle.steps.specs.Loops.{each, range}
 use Rattle.cells.specs.Places.{allMasks}
 use Rattle.passes.specs.Unions.{sharedOf, sharedSets}
