@@ -3,7 +3,7 @@ use mathlib.Core.Path.{_≡_, refl, sym, ap, _∙_}
 use mathlib.Core.List.{List, [], _∷_, _++_}
 use mathlib.Core.Bool.{Bool, true, false, cond}
 use mathlib.Core.Option.{Option, none}
-use Prim.Native.Nat.{ℕ, suc, _+_, _-_, _^_, _≤_, _<_}
+use Prim.Native.Nat.{ℕ, suc, _+_, _^_, _≤_, _<_}
 use native.Mathlib.Omega.{arith}
 use lib.IntN.{ℤ}
 use lib.ListN.{length, length-append}
@@ -18,8 +18,8 @@ use Rattle.steps.proofs.Check.{clues-givens}
 use Rattle.steps.proofs.Fresh.{fresh-length, fresh-admissible, total-most}
 use Rattle.steps.proofs.Lists.{demand3}
 use Rattle.board.specs.Boards.{clueCount, verdictOf}
-use Rattle.board.specs.Texts.{parseOf}
-use Rattle.board.proofs.Readings.{read-clues}
+use Rattle.text.specs.Texts.{parseOf}
+use Rattle.text.proofs.Readings.{read-clues}
 use Rattle.passes.specs.Settlings.{Counts, countsOf}
 use Rattle.progress.specs.Answers.{reportsIn}
 use Rattle.techniques.proofs.ReportLists.{singles-few}

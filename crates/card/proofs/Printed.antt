@@ -6,7 +6,7 @@ use native.Mathlib.Omega.{arith}
 use lib.IntN.{ℤ}
 use lib.ListN.{length}
 use Rattle.candidates.specs.Answer.{Answer, gives, stop}
-use Rattle.board.specs.Texts.{parseOf}
+use Rattle.text.specs.Texts.{parseOf}
 use Rattle.card.specs.declared.layout.Card.{Card}
 use Rattle.card.specs.Answers.{writtenOf, withCard, refusalLine}
 use Rattle.card.specs.Cards.{textIn, cardRead, cardOf, cardBytes, printed}

@@ -10,13 +10,14 @@ use lib.IntN.{ℤ, pos}
 use types.Run.{OneOf}
 use Rattle.candidates.specs.Answer.{Answer, gives, stop}
 use Rattle.steps.specs.Boards as S
-use Rattle.board.specs.Answers.{parsingAnswer, countingAnswer}
+use Rattle.board.specs.Answers.{countingAnswer}
 use Rattle.board.specs.Boards.{noClues}
-use Rattle.board.specs.declared.Parsing.{Parsing}
-use Rattle.board.specs.declared.Parsing.the-variants as parsing
+use Rattle.text.specs.Answers.{parsingAnswer}
+use Rattle.text.specs.declared.Parsing.{Parsing}
+use Rattle.text.specs.declared.Parsing.the-variants as parsing
 use Rattle.board.specs.declared.Counting.{Counting}
 use Rattle.board.specs.declared.Counting.the-variants as counting
-use Rattle.board.proofs.Parsing as parsing-type
+use Rattle.text.proofs.Parsing as parsing-type
 use Rattle.board.proofs.Counting as counting-type
 use Rattle.progress.specs.Answers.{progressAnswer}
 use Rattle.progress.specs.declared.Progress.{Progress}

@@ -11,7 +11,7 @@ use Rattle.steps.specs.Boards.{givensOf, fresh}
 use Rattle.steps.specs.Calls.{advancedCall, settling, outcome}
 use Rattle.board.specs.Boards.{clueCount, verdictOf}
 use Rattle.board.specs.Boards as B
-use Rattle.board.specs.Texts.{parseOf}
+use Rattle.text.specs.Texts.{parseOf}
 use Rattle.card.specs.declared.layout.Card.{Card}
 use Rattle.card.specs.declared.layout.Verdict.{Verdict}
 use Rattle.card.specs.declared.layout.Verdict.the-variants as verdict

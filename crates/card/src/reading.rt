@@ -2,15 +2,15 @@
 ghost use mathlib.Core.Path.{_≡_};
 ghost use Rattle.board.specs.Answers.{beside};
 ghost use Rattle.board.specs.Boards.{boardOf, noBoard};
-ghost use Rattle.board.specs.Texts.{parseOf};
+ghost use Rattle.text.specs.Texts.{parseOf};
 ghost use Rattle.card.specs.Answers.{readingAnswer, boardRead};
 ghost use Rattle.card.specs.Cards.{textLength, textIn};
 use crate::Stop;
 use crate::stops;
 use board::Board;
 use board::Opening;
-use board::Parsing;
-use board::text::parse_string;
+use text::Parsing;
+use text::parse_string;
 
 // What `read_board` answers.
 pub enum Reading {

@@ -1,6 +1,7 @@
 // The stop of each answer that is taken apart on the way to a card; 0 and 0 for an answer that is no refusal.
 ghost use mathlib.Core.Path.{_≡_};
-ghost use Rattle.board.specs.Answers.{parsingAnswer, openingAnswer, countingAnswer, verdictAnswer};
+ghost use Rattle.board.specs.Answers.{openingAnswer, countingAnswer, verdictAnswer};
+ghost use Rattle.text.specs.Answers.{parsingAnswer};
 ghost use Rattle.board.specs.Boards.{noBoard, noClues};
 ghost use Rattle.passes.specs.Settlings.{settlingAnswer};
 ghost use Rattle.progress.specs.Answers.{progressAnswer};
@@ -11,9 +12,9 @@ use crate::reading::Reading;
 use board::BoardVerdict;
 use board::Counting;
 use board::Opening;
-use board::Parsing;
 use passes::calls::Settling;
 use progress::Progress;
+use text::Parsing;
 
 // The verdict on a board, or the call's stop.
 pub enum Judged {

@@ -11,31 +11,25 @@ use borrow.Author.Tests.{eqb-true, eq-eqb, ne-eqb, ltb-true}
 use lib.Bits.{bitAnd}
 use lib.Count.{onesIn, ones, ones-step}
 use lib.Pow.{shr-lt}
-use lib.Dec.{T, eqb, leb, ltb, leb→le, eqb→eq}
+use lib.Dec.{T, eqb, leb, ltb, leb→le}
 use Rattle.candidates.specs.Masks.{bit, has, nine, union, count, Sub}
 use Rattle.candidates.proofs.Counts.{count-sub, count-proper}
 use Rattle.candidates.proofs.Membership.{bit-and, bit-union, bit-none, bit-power, bit-high, bit-nine}
 use Rattle.candidates.proofs.Order.{sub-le}
 use Rattle.candidates.proofs.Tests.{allBelow, below, below-both, by-test, T-true, both-left, both-right}
-use Rattle.grid.specs.Units.{units, unit, unitCell, inUnit}
+use Rattle.grid.specs.Units.{unit, unitCell, inUnit}
 use Rattle.grid.proofs.Lists.{place-mem}
-use Rattle.grid.proofs.Units.{unit-length, in-row, in-col}
-use Rattle.grid.specs.Cells.{row, col}
+use Rattle.grid.proofs.Units.{unit-length, in-row, in-col, col-place, row-place}
 use Rattle.steps.specs.Boards.{at, isOpen}
 use Rattle.steps.specs.Instances.{Instance, pair, cross, exchanged, only, both, except, pairStep, crossStep, stepOf, pairs, crosses}
-use Rattle.steps.specs.Loops.{each, for, all, upTo, above}
+use Rattle.steps.specs.Loops.{for, all, upTo, above}
 use Rattle.steps.specs.Passes.{Pair, Cross, instances, instanceTaken, pass}
 use Rattle.steps.specs.Ported.{spots}
 use Rattle.steps.specs.Steps.{Step, lacks, applies, loseAll, take}
 use Rattle.steps.proofs.Digits.{both-small, bit-outside}
 use Rattle.steps.proofs.Spots.{spots-lt, has-spots}
-use Rattle.steps.proofs.Loops.{for-all, in-upTo, in-above, upTo-in, all-member, all-append}
+use Rattle.steps.proofs.Loops.{for-all, in-upTo, in-above, upTo-in, all-member, all-append, each-idle}
 use Rattle.steps.proofs.Steps.{all-none}
-
-each-idle : {A S : Type 0} (f : A → S → S) (xs : List A) (s : S) → ((x : A) → List·Memᴰ x xs → f x s ≡ s) → each f xs s ≡ s
-unfolding each
-each-idle f [] s h = refl
-each-idle f (x ∷ xs) s h = ap (each f xs) (h x (List·Memᴰ·head refl)) ∙ each-idle f xs s (λ y k. h y (List·Memᴰ·tail k))
 
 or-implied : (a b : Bool) → (not a || b) ≡ true → a ≡ true → b ≡ true
 or-implied true b t e = t
@@ -82,20 +76,11 @@ same-two a b {x} more ha hb p t =
     let w = over-two (onesIn 9 x) more t (omega arith) in
     (same-count p (omega (arith, w .0)), w .1)
 
--- the column of the cell at a place of a row, and the row of one of a column
-row-place : (r i : ℕ) → r < 9 → i < 9 → col (unitCell r i) ≡ i
-unfolding unit units
-row-place r i h k = eqb→eq (col (unitCell r i)) i (below-both 9 9 (λ r i. eqb (col (unitCell r i)) i) tt r i h k)
-
-col-place : (c i : ℕ) → c < 9 → i < 9 → row (unitCell (9 + c) i) ≡ i
-unfolding unit units
-col-place c i h k = eqb→eq (row (unitCell (9 + c) i)) i (below-both 9 9 (λ c i. eqb (row (unitCell (9 + c) i)) i) tt c i h k)
-
 rows-meet : (r : ℕ) → r < 9 → (i c : ℕ) → i < 9 → c < 9 → inUnit (9 + c) (unitCell r i) ≡ eqb i c
-rows-meet r h i c hi hc = in-col c (unitCell r i) hc ∙ ap (λ (x : ℕ). eqb x c) (row-place r i h hi)
+rows-meet r h i c hi hc = in-col c (unitCell r i) hc ∙ ap (λ (x : ℕ). eqb x c) (col-place r i h hi)
 
 columns-meet : (k : ℕ) → k < 9 → (i c : ℕ) → i < 9 → c < 9 → inUnit c (unitCell (9 + k) i) ≡ eqb i c
-columns-meet k h i c hi hc = in-row c (unitCell (9 + k) i) hc ∙ ap (λ (x : ℕ). eqb x c) (col-place k i h hi)
+columns-meet k h i c hi hc = in-row c (unitCell (9 + k) i) hc ∙ ap (λ (x : ℕ). eqb x c) (row-place k i h hi)
 
 module _ (g m : List ℕ) where
   -- no open cell of the list has anything to lose

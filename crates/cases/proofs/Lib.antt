@@ -1,6 +1,7 @@
 pub mod Laws
 pub mod Idle
 pub mod Conflict
+pub mod Texts
 pub mod P1
 pub mod P2to6
 pub mod P7

@@ -18,7 +18,7 @@ use Rattle.steps.specs.Passes.{Kind, Lone, Place, Pair, Pointing, Cross, instan
 use Rattle.steps.specs.Ported.{spots, nakedPairAt, nakedPairs, boxLineAt, boxLines, xWingAt, xWingDigit, xWings}
 use Rattle.steps.specs.Singles.{nakedSingles, hiddenSingles}
 use Rattle.steps.specs.Steps.{take}
-use Rattle.board.specs.Texts.{parseOf}
+use Rattle.text.specs.Texts.{parseOf}
 use Rattle.record.specs.Records.{recordOf, clueSets, lacking}
 use Rattle.record.specs.Sections.{sectionBytes, candidates}
 use Rattle.cases.specs.Grids.{gridOf, p1}

@@ -1,9 +1,12 @@
--- P10, box-line and settling in two sweeps. Assumes nothing.
+-- P10: box-line, settling in two sweeps, and the card. Assumes nothing.
 use mathlib.Core.Path.{_≡_, refl, sym, ap, _∙_}
 use mathlib.Core.Bool.{false, not}
 use mathlib.Core.List.{List, [], _∷_}
-use Prim.Native.Nat.{ℕ}
+use Prim.Native.Nat.{ℕ, _-_}
+use native.Mathlib.Omega.{arith}
 use lib.Count.{onesIn, ones}
+use lib.ListN.{length, getD}
+use Rattle.candidates.specs.Answer.{gives}
 use Rattle.candidates.specs.Masks.{firstPlace, gather}
 use Rattle.grid.specs.Cells.{cells, peers}
 use Rattle.grid.specs.Lists.{each}
@@ -11,16 +14,26 @@ use Rattle.grid.specs.Units.{units, unit}
 use Rattle.steps.specs.Boards.{givensOf, fresh, taken, total, sameMasks}
 use Rattle.steps.specs.Calls.{Outcome, boxLineCall, advancedCall, settling, outcome}
 use Rattle.steps.specs.Instances.{stepOf, lones, places, pointings}
-use Rattle.steps.specs.Loops.{for}
-use Rattle.steps.specs.Passes.{Lone, Place, Pair, Pointing, Cross, instances, pass, sweep, Sweeps, settle, removedBy}
+use Rattle.steps.specs.Loops.{for, first}
+use Rattle.steps.specs.Passes.{Lone, Place, Pair, Pointing, Cross, instances, pass, sweep, settle, removedBy}
 use Rattle.steps.specs.Ported.{spots, boxLineAt, boxLines}
 use Rattle.steps.specs.Singles.{nakedSingles, hiddenSingles}
 use Rattle.steps.specs.Steps.{take}
 use Rattle.steps.proofs.Masks.{same-refl}
+use Rattle.board.specs.Boards.{clueCount, verdictOf}
+use Rattle.board.specs.Boards as B
+use Rattle.text.specs.Texts.{parseOf}
+use Rattle.card.specs.declared.layout.Card.{Card}
+use Rattle.card.specs.declared.layout.Verdict.the-variants as verdict
+use Rattle.card.specs.Cards.{cardFor, cardBytes}
+use Rattle.card.specs.Decimals.{digitsIn, decimal}
+use Rattle.card.specs.Layout.{lineOf, cellByte}
+use Rattle.cases.specs.Bytes.{p10Text, p10Card}
 use Rattle.cases.specs.Cases.{Case10, freshMasks, onFresh}
 use Rattle.cases.specs.Grids.{gridOf, p10}
 use Rattle.cases.proofs.Idle.{pair-idle, cross-idle}
 use Rattle.cases.proofs.Laws.{Values, fresh-value, call-value, sweep-by, next-sweep, last-sweep}
+use Rattle.cases.proofs.Texts.{prints, prints-ended}
 
 g : List ℕ
 g =
@@ -141,15 +154,54 @@ sweep₂ = sweep-by g n lone₂ place₂ pair₂ pointing₂ cross
 settles : settle g m ≡ record { sweeps = 2; left = n }
 settles = next-sweep g 729 m sweep₁ differ ∙ rw (last-sweep g 728 n sweep₂)
 
+settling-value : outcome settling g m ≡ record { flag = false; reports = []; sweeps = 2; removed = 18; masks = n }
+unfolding outcome
+settling-value = rw (settles, eighteen)
+
+-- ---- the card
+
+reads : parseOf p10Text ≡ gives p10
+unfolding p10Text p10 gridOf for parseOf first cells
+reads = refl
+
+six : clueCount g cells ≡ 6
+unfolding g clueCount cells
+six = refl
+
+still-open : verdictOf n ≡ B.Open
+unfolding n verdictOf ones cells
+still-open = refl
+
+card : Card
+card = record { clues = 6; reported = 0; sweeps = 2; removed = 18; verdict = verdict.Open; masks = n }
+
+card-value : cardFor p10 ≡ card
+unfolding cardFor card
+card-value = rw (values .givens, values .masks, settling-value, none-reported, six, still-open)
+
+bytes : cardBytes card ≡ p10Card
+unfolding n card p10Card cardBytes lineOf decimal digitsIn cellByte firstPlace ones cells
+bytes = refl
+
+shows : cardBytes (cardFor p10) ≡ p10Card
+shows = ap cardBytes card-value ∙ bytes
+
+unended : getD p10Text (length p10Text - 1) 0 ≡ 10 → ⊥
+unfolding p10Text
+unended e = omega arith
+
 pub p10-holds : Case10
 unfolding outcome
 p10-holds =
     record {
+      read = reads;
       flag = ap (λ (o : Outcome). o .flag) (call-value values boxLineCall) ∙ ap (λ (l : List ℕ). not (sameMasks m l)) box-lines ∙ ap not differ;
       removed = ap (removedBy (freshMasks p10)) first-run ∙ ap (λ (l : List ℕ). removedBy l n) (fresh-value values) ∙ eighteen;
       again = ap (λ (o : Outcome). o .flag) second-run ∙ ap (λ (l : List ℕ). not (sameMasks n l)) box-lines-again ∙ ap not (same-refl n);
       same = ap (λ (o : Outcome). o .masks) second-run ∙ box-lines-again ∙ sym first-run;
       reported = ap (λ (o : Outcome). o .reports) (call-value values advancedCall) ∙ none-reported;
-      sweeps = ap (λ (o : Outcome). o .sweeps) (call-value values settling) ∙ ap (λ (s : Sweeps). s .sweeps) settles;
-      settled = ap (λ (o : Outcome). o .removed) (call-value values settling) ∙ ap (λ (s : Sweeps). removedBy m (s .left)) settles ∙ eighteen;
+      sweeps = ap (λ (o : Outcome). o .sweeps) (call-value values settling ∙ settling-value);
+      settled = ap (λ (o : Outcome). o .removed) (call-value values settling ∙ settling-value);
+      card = prints p10Text reads unended ∙ shows;
+      cardEnded = prints-ended p10Text reads ∙ shows;
     }

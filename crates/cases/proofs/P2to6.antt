@@ -1,9 +1,9 @@
 -- P2 and P3 (texts), P4 (clues out of range), P5 (one open cell) and P6 (the verifier). Assumes nothing.
-use mathlib.Core.Path.{_≡_, refl, ap}
+use mathlib.Core.Path.{_≡_, refl, _∙_}
 use mathlib.Core.List.{List}
 use Prim.Native.Nat.{ℕ}
+use native.Mathlib.Omega.{arith}
 use lib.Count.{ones}
-use lib.Dec.{eqb}
 use lib.IntN.{pos}
 use lib.ListN.{length}
 use Rattle.candidates.specs.Answer.{stop}
@@ -18,17 +18,41 @@ use Rattle.steps.specs.Loops.{for, first}
 use Rattle.steps.specs.Ported.{spots}
 use Rattle.steps.specs.Singles.{nakedSingles, hiddenSingles}
 use Rattle.board.specs.Boards.{openOf}
-use Rattle.board.specs.Texts.{parseOf}
+use Rattle.text.specs.Texts.{parseOf}
+use Rattle.card.specs.Cards.{printed}
+use Rattle.card.specs.Decimals.{digitsIn, decimal}
+use Rattle.card.specs.Layout.{lineOf, refusalBytes}
+use Rattle.cases.specs.Bytes.{p3Text, p2Line, p3Line}
 use Rattle.cases.specs.Grids.{gridOf, gridA, p1, p4Low, p4High, p5, exchanged}
 use Rattle.cases.specs.Cases.{Case2, Case3, Case4, Case5, Case6}
+use Rattle.cases.proofs.Texts.{prints, prints-ended}
+
+short : (text : List ℕ) → length text ≡ 80 → parseOf text ≡ stop 1 (pos 80)
+unfolding parseOf
+short text e = rw e
+
+line1 : printed (stop 1 (pos 80)) ≡ p2Line
+unfolding p2Line refusalBytes lineOf decimal digitsIn
+line1 = refl
 
 pub p2-holds : Case2
-unfolding parseOf
-p2-holds = record { short = λ text e. rw e }
+p2-holds =
+    record {
+      short = short;
+      card = λ text e h. prints text (short text e) (rw e h) ∙ line1;
+      cardEnded = λ text e. prints-ended text (short text e) ∙ line1;
+    }
+
+last : parseOf p3Text ≡ stop 2 (pos 80)
+unfolding parseOf first cells
+last = refl
+
+line2 : printed (stop 2 (pos 80)) ≡ p3Line
+unfolding p3Line refusalBytes lineOf decimal digitsIn
+line2 = refl
 
 pub p3-holds : Case3
-unfolding parseOf first cells
-p3-holds = record { last = refl }
+p3-holds = record { last = last; card = prints p3Text last (λ e. omega arith) ∙ line2; cardEnded = prints-ended p3Text last ∙ line2 }
 
 pub p4-holds : Case4
 unfolding p4Low p4High p1 gridOf for refusal openOf first cells

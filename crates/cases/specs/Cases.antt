@@ -1,11 +1,11 @@
 -- The published cases P1 to P11, each of document 01's sentences as an equation about the definitions; proofs/Cases.antt shows them all.
 use mathlib.Core.Path.{_≡_}
 use mathlib.Core.Bool.{true, false}
-use mathlib.Core.List.{List, [], _∷_, _++_, map}
+use mathlib.Core.List.{List, [], _∷_, map}
 use mathlib.Core.Option.{none, some}
 use Prim.Native.Nat.{ℕ, _≤_, _<_}
 use lib.IntN.{ℤ, pos, negsuc}
-use lib.ListN.{length, replicate, set}
+use lib.ListN.{length, getD, replicate, set}
 use Rattle.candidates.specs.Answer.{gives, stop}
 use Rattle.candidates.specs.Masks.{has}
 use Rattle.grid.specs.Fillings.{verified}
@@ -14,8 +14,10 @@ use Rattle.steps.specs.Calls.{Call, Outcome, nakedPairsCall, boxLineCall, xWing
 use Rattle.steps.specs.Passes.{Kind, removedBy}
 use Rattle.steps.specs.Singles.{Report}
 use Rattle.board.specs.Boards.{openOf}
-use Rattle.board.specs.Texts.{parseOf}
+use Rattle.text.specs.Texts.{parseOf}
 use Rattle.record.specs.Records.{recordOf}
+use Rattle.card.specs.Cards.{cardOf, printed}
+use Rattle.cases.specs.Bytes.{ended, p3Text, p10Text, p2Line, p3Line, p10Card}
 use Rattle.cases.specs.Grids.{gridA, p1, p4Low, p4High, p5, exchanged, p7, p8, p10, p11}
 
 -- the fresh masks of a grid
@@ -51,13 +53,17 @@ pub record Case1 : Type 0 where
   pub removed : onFresh settling p1 .removed ≡ 0
   pub bytes : recordOf (opened p1) ≡ 0 ∷ 0 ∷ 0 ∷ []
 
--- "P2 80 bytes: 1, 80."
+-- "P2 80 bytes: 1, 80." And what `scorecard` prints for such a text, as it is or with a final newline.
 pub record Case2 : Type 0 where
   pub short : (text : List ℕ) → length text ≡ 80 → parseOf text ≡ stop 1 (pos 80)
+  pub card : (text : List ℕ) → length text ≡ 80 → (getD text 79 0 ≡ 10 → ⊥) → printed (cardOf text) ≡ p2Line
+  pub cardEnded : (text : List ℕ) → length text ≡ 80 → printed (cardOf (ended text)) ≡ p2Line
 
--- "P3 `a` as last of 81: 2, 80." The others are dots.
+-- "P3 `a` as last of 81: 2, 80."
 pub record Case3 : Type 0 where
-  pub last : parseOf (replicate 80 46 ++ 97 ∷ []) ≡ stop 2 (pos 80)
+  pub last : parseOf p3Text ≡ stop 2 (pos 80)
+  pub card : printed (cardOf p3Text) ≡ p3Line
+  pub cardEnded : printed (cardOf (ended p3Text)) ≡ p3Line
 
 -- "P4 clue -1 at cell 0: 3, 0. Clue 10 at cell 80: 3, 80." The opener's, and of a board that is handed in, whatever its masks: the clues are checked first.
 pub record Case4 : Type 0 where
@@ -101,8 +107,9 @@ pub record Case9 : Type 0 where
   pub masks : onFresh advancedCall p8 .masks ≡ freshMasks p8
 
 -- "P10 row 1 `456......`, row 2 `789......`, rest open: box-line removes 18; a second run false."
--- From the card of P10: "reported 0", "sweeps 2", "removed 18".
+-- The card that "`scorecard` given P10's text prints", and three of its numbers apart: "reported 0", "sweeps 2", "removed 18".
 pub record Case10 : Type 0 where
+  pub read : parseOf p10Text ≡ gives p10
   pub flag : onFresh boxLineCall p10 .flag ≡ true
   pub removed : removedBy (freshMasks p10) (onFresh boxLineCall p10 .masks) ≡ 18
   pub again : outcome boxLineCall (givensOf p10) (onFresh boxLineCall p10 .masks) .flag ≡ false
@@ -110,6 +117,8 @@ pub record Case10 : Type 0 where
   pub reported : onFresh advancedCall p10 .reports ≡ []
   pub sweeps : onFresh settling p10 .sweeps ≡ 2
   pub settled : onFresh settling p10 .removed ≡ 18
+  pub card : printed (cardOf p10Text) ≡ p10Card
+  pub cardEnded : printed (cardOf (ended p10Text)) ≡ p10Card
 
 -- "P11 clue 5 at cells 0 and 1: opened; no other cell of row 0 holds 5." And of Pair: "in P11 the two clues 5 are a Pair with every other digit, so settling empties the open cells of row 0." Digit 5 is place 4.
 pub record Case11 : Type 0 where

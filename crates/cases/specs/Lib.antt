@@ -1,2 +1,3 @@
 pub mod Grids
+pub mod Bytes
 pub mod Cases

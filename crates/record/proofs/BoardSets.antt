@@ -1,14 +1,13 @@
 -- A board and its two sections' sets: each determines the other, and the sets are such as a section holds. Assumes nothing.
 use mathlib.Core.Path.{_≡_, refl, sym, ap, _∙_, subst}
-use mathlib.Core.Bool.{Bool, true, false, cond, not, true≢false}
+use mathlib.Core.Bool.{Bool, true, false, cond, not}
 use mathlib.Core.List.{List, map}
 use Prim.Native.Nat.{ℕ, suc, _+_, _-_, _*_, _/_, _%_, _^_, _≤_, _<_, zero-le}
-use native.Mathlib.Nat.{zero-add}
 use native.Mathlib.Decide.{ℕ-discrete, decLt}
 use native.Mathlib.Omega.{arith}
-use borrow.Author.Tests.{eq-eqb, ne-eqb, eqb-true, eqb-false, le-leb, lt-ltb, not-false}
+use borrow.Author.Tests.{eq-eqb, ne-eqb, eqb-true, eqb-false, le-leb, lt-ltb}
 use lib.Dec.{eqb, eqb→eq, leb, ltb, lit<}
-use lib.IntN.{ℤ, pos, negsuc}
+use lib.IntN.{ℤ, pos}
 use lib.ListN.{length, getD, getD-replicate, List·getD-eq-default}
 use lib.Seq.{ext-getD}
 use Rattle.candidates.specs.Masks.{bit, has, minus, single, lowest, firstPlace, Sub}
@@ -18,12 +17,12 @@ use Rattle.candidates.proofs.Membership.{bit-all, bit-minus, bit-none, ext}
 use Rattle.candidates.proofs.Order.{minus-sub, sub-le, sub-none}
 use Rattle.candidates.proofs.Tests.{below, by-test, cond-true, cond-false}
 use Rattle.grid.specs.Cells.{cells}
-use Rattle.grid.proofs.Lists.{at-range}
+use Rattle.grid.proofs.Cells.{at-cells}
 use Rattle.steps.specs.Boards.{at, digitOf, given, givensOf, givenMask, isOpen, fresh, Givens, Admissible}
 use Rattle.steps.specs.Calls.{badClue}
 use Rattle.steps.specs.Demand3.{Clues}
-use Rattle.steps.proofs.Check.{given-clue}
-use Rattle.steps.proofs.Fresh.{at-cells, fresh-out, fresh-small, givenMask-small}
+use Rattle.steps.proofs.Check.{given-clue, good-digit}
+use Rattle.steps.proofs.Fresh.{fresh-out, fresh-small, givenMask-small}
 use Rattle.steps.proofs.FreshDigits.{held-given}
 use Rattle.record.specs.declared.sections.Section.the-variants as section
 use Rattle.record.specs.Records.{clueSets, lacking, allSets, digitIn, digitsIn, openSets, cluesFrom}
@@ -45,22 +44,22 @@ module _ (f : ℕ → ℕ) where
   in-map j t = go (decLt (j / 9) 81)
     where
       go : Dec (j / 9 < 81) → (j / 9 < 81) × Held (f (j / 9)) (j % 9)
-      go (yes h) = (h, ap (λ (x : ℕ). has x (j % 9)) (sym (at-cells f (j / 9) h)) ∙ t)
+      go (yes h) = (h, ap (λ (x : ℕ). has x (j % 9)) (sym (at-cells 0 f (j / 9) h)) ∙ t)
       go (no h) = absurd (none-held (j % 9) (ap (λ (x : ℕ). has x (j % 9)) (sym (map-out (j / 9) (omega arith))) ∙ t))
 
   map-in : (j : ℕ) → j / 9 < 81 → Held (f (j / 9)) (j % 9) → inSets (map f cells) j ≡ true
-  map-in j h t = ap (λ (x : ℕ). has x (j % 9)) (at-cells f (j / 9) h) ∙ t
+  map-in j h t = ap (λ (x : ℕ). has x (j % 9)) (at-cells 0 f (j / 9) h) ∙ t
 
   map-small : ((c : ℕ) → f c < 512) → (c : ℕ) → at (map f cells) c < 512
   map-small small c = go (decLt c 81)
     where
       go : Dec (c < 81) → at (map f cells) c < 512
-      go (yes h) = rw (at-cells f c h) (small c)
+      go (yes h) = rw (at-cells 0 f c h) (small c)
       go (no h) = rw (map-out c (omega arith)) (lit< tt)
 
   -- a list of 81 with the same members
   map-ext : (s : List ℕ) → length s ≡ 81 → ((c : ℕ) → c < 81 → f c ≡ at s c) → map f cells ≡ s
-  map-ext s l h = ext-getD 0 (map f cells) s (map-size ∙ sym l) (λ c k. at-cells f c (omega (arith, map-size)) ∙ h c (omega (arith, map-size)))
+  map-ext s l h = ext-getD 0 (map f cells) s (map-size ∙ sym l) (λ c k. at-cells 0 f c (omega (arith, map-size)) ∙ h c (omega (arith, map-size)))
 
 -- ---- clues
 
@@ -91,7 +90,7 @@ module _ (g : List ℕ) (ok : Givens g) where
 
   pub digits-again : digitsIn (clueSets g) ≡ g
   unfolding digitsIn clueSets
-  digits-again = map-ext (λ c. digitIn (at (map (givenMask g) cells) c)) g (ok .size) (λ c h. ap digitIn (at-cells (givenMask g) c h) ∙ one c (isOpen g c) refl)
+  digits-again = map-ext (λ c. digitIn (at (map (givenMask g) cells) c)) g (ok .size) (λ c h. ap digitIn (at-cells 0 (givenMask g) c h) ∙ one c (isOpen g c) refl)
     where
       one : (c : ℕ) (b : Bool) → isOpen g c ≡ b → digitIn (givenMask g c) ≡ given g c
       one c true o = ap digitIn (cond-true (isOpen g c) 0 (single (given g c - 1)) o) ∙ sym (eqb-true (given g c) 0 o)
@@ -104,25 +103,21 @@ module _ (g : List ℕ) (ok : Givens g) where
   unfolding givensOf cells
   givens-again =
       map-ext (λ c. digitOf (getD (cluesFrom g) c (pos 0))) g (ok .size)
-      (λ c h. ap digitOf (at-range (λ c. pos (given g c)) (pos 0) 81 0 c h ∙ ap (λ (i : ℕ). pos (given g i)) (zero-add c)) ∙ cond-true (leb (given g c) 9) (given g c) 0 (le-leb (given g c) 9 (ok .small c)))
+      (λ c h. ap digitOf (at-cells (pos 0) (λ c. pos (given g c)) c h) ∙ cond-true (leb (given g c) 9) (given g c) 0 (le-leb (given g c) 9 (ok .small c)))
 
 pub clues-good : (g : List ℕ) → Givens g → Clues (cluesFrom g)
 unfolding cells
 clues-good g ok =
     record {
       size = refl;
-      good = λ c h. ap badClue (at-range (λ c. pos (given g c)) (pos 0) 81 0 c h) ∙ ap not (le-leb (given g (0 + c)) 9 (ok .small (0 + c)));
+      good = λ c h. ap badClue (at-cells (pos 0) (λ c. pos (given g c)) c h) ∙ ap not (le-leb (given g c) 9 (ok .small c));
     }
-
-good-digit : (z : ℤ) → badClue z ≡ false → pos (digitOf z) ≡ z
-good-digit (pos n) e = ap pos (cond-true (leb n 9) n 0 (not-false (leb n 9) e))
-good-digit (negsuc n) e = absurd (true≢false e)
 
 pub clues-again : (clues : List ℤ) → Clues clues → cluesFrom (givensOf clues) ≡ clues
 unfolding cells
 clues-again clues ok =
     ext-getD (pos 0) (cluesFrom (givensOf clues)) clues (sym (ok .size))
-    (λ c h. at-range (λ c. pos (given (givensOf clues) c)) (pos 0) 81 0 c h ∙ ap (λ (i : ℕ). pos (given (givensOf clues) i)) (zero-add c)
+    (λ c h. at-cells (pos 0) (λ c. pos (given (givensOf clues) c)) c h
     ∙ ap pos (given-clue clues c h) ∙ good-digit (getD clues c (pos 0)) (ok .good c h))
 
 -- the sets of a clue section that was read
@@ -151,7 +146,7 @@ module _ (free s : List ℕ) (h : Holds section.Clues free s) where
 
   digit-at : (c : ℕ) → c < 81 → given (digitsIn s) c ≡ digitIn (at s c)
   unfolding digitsIn
-  digit-at c l = at-cells (λ c. digitIn (at s c)) c l
+  digit-at c l = at-cells 0 (λ c. digitIn (at s c)) c l
 
   digit-most : (c : ℕ) → digitIn (at s c) ≤ 9
   digit-most c =
@@ -163,7 +158,7 @@ module _ (free s : List ℕ) (h : Holds section.Clues free s) where
   digits-good = record { size = map-size (λ c. digitIn (at s c)); small = λ c. go c (decLt c 81) }
     where
       go : (c : ℕ) → Dec (c < 81) → given (map (λ c. digitIn (at s c)) cells) c ≤ 9
-      go c (yes l) = rw (at-cells (λ c. digitIn (at s c)) c l) (digit-most c)
+      go c (yes l) = rw (at-cells 0 (λ c. digitIn (at s c)) c l) (digit-most c)
       go c (no l) = rw (map-out (λ c. digitIn (at s c)) c (omega arith)) zero-le
 
   pub clue-sets-again : clueSets (digitsIn s) ≡ s
@@ -193,7 +188,7 @@ pub lacking-twice : (f s : List ℕ) → length s ≡ 81 → ((c : ℕ) → c < 
 unfolding lacking
 lacking-twice f s l h =
     map-ext (λ c. minus (at f c) (at (map (λ c. minus (at f c) (at s c)) cells) c)) s l
-    (λ c k. ap (minus (at f c)) (at-cells (λ c. minus (at f c) (at s c)) c k) ∙ twice (at f c) (at s c) (h c k))
+    (λ c k. ap (minus (at f c)) (at-cells 0 (λ c. minus (at f c) (at s c)) c k) ∙ twice (at f c) (at s c) (h c k))
   where
     twice : (x y : ℕ) → Sub y x → minus x (minus x y) ≡ y
     twice x y p = ext (minus x (minus x y)) y (λ d. omega (arith, bit-minus x (minus x y) d, bit-minus x y d, p .at d))
@@ -243,7 +238,7 @@ module _ (g : List ℕ) (ok : Givens g) where
         }
       where
         under : (c : ℕ) → Dec (c < 81) → Sub (at (map (λ c. minus (at (fresh g) c) (at s c)) cells) c) (at (fresh g) c)
-        under c (yes l) = rw (at-cells (λ c. minus (at (fresh g) c) (at s c)) c l) (minus-sub (at (fresh g) c) (at s c))
+        under c (yes l) = rw (at-cells 0 (λ c. minus (at (fresh g) c) (at s c)) c l) (minus-sub (at (fresh g) c) (at s c))
         under c (no l) = rw (map-out (λ c. minus (at (fresh g) c) (at s c)) c (omega arith)) (sub-none (at (fresh g) c))
 
         -- a clue cell loses nothing
@@ -253,5 +248,5 @@ module _ (g : List ℕ) (ok : Givens g) where
             (λ d. (λ t. absurd (none-held d (ap (λ (x : ℕ). has x d) (sym (cond-false (isOpen g c) (at (fresh g) c) 0 o)) ∙ removable c d t)), λ t. absurd (none-held d t)))
 
         clue : (c : ℕ) → isOpen g c ≡ false → Dec (c < 81) → at (map (λ c. minus (at (fresh g) c) (at s c)) cells) c ≡ at (fresh g) c
-        clue c o (yes l) = at-cells (λ c. minus (at (fresh g) c) (at s c)) c l ∙ ap (minus (at (fresh g) c)) (empty c o) ∙ minus-zero (at (fresh g) c)
+        clue c o (yes l) = at-cells 0 (λ c. minus (at (fresh g) c) (at s c)) c l ∙ ap (minus (at (fresh g) c)) (empty c o) ∙ minus-zero (at (fresh g) c)
         clue c o (no l) = map-out (λ c. minus (at (fresh g) c) (at s c)) c (omega arith) ∙ sym (fresh-out g c (omega arith))

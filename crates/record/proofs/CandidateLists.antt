@@ -7,7 +7,7 @@ use Prim.Native.Nat.{ℕ, zero, suc, _+_, _*_, _/_, _%_, _^_, _≤_, _<_}
 use native.Mathlib.Nat.{le-refl}
 use native.Mathlib.Decide.{ℕ-discrete, decLt}
 use native.Mathlib.Omega.{arith}
-use borrow.Author.Tests.{eq-eqb, ne-eqb, eqb-true, lt-ltb}
+use borrow.Author.Tests.{eq-eqb, ne-eqb, eqb-true}
 use lib.Bits.{or-lt}
 use lib.Dec.{eqb, ltb, lit<}
 use lib.ListN.{length, getD, set, getD-replicate, length-replicate, List·getD-eq-default}
@@ -15,7 +15,7 @@ use lib.Pow.{pow-lt}
 use lib.Seq.{ext-getD, getD-set-same, getD-set-other}
 use Rattle.candidates.specs.Masks.{has, single, union}
 use Rattle.candidates.proofs.Held.{Held, held-below, held-ext, held-power, has-union}
-use Rattle.candidates.proofs.Membership.{bit-none}
+use Rattle.candidates.proofs.Membership.{bit-none, single-power}
 use Rattle.candidates.proofs.Tests.{bool-iff, by-test, cond-true, cond-false}
 use Rattle.grid.proofs.Lists.{mem-select, select-mem}
 use Rattle.steps.specs.Boards.{at}
@@ -40,9 +40,6 @@ either false b t = inr t
 abbrev more : List ℕ → ℕ → ℕ
 more s e = union (at s (e / 9)) (single (e % 9))
 
-single-is : (d : ℕ) → d < 9 → single d ≡ 2 ^ d
-single-is d h = cond-true (ltb d 16) (2 ^ d) 0 (lt-ltb d 16 (omega arith))
-
 module _ (s : List ℕ) (e : ℕ) (size : length s ≡ 81) (l : e < 729) where
   pub in-with : (k : ℕ) → inSets (with s e) k ≡ (inSets s k || eqb k e)
   in-with k = go (ℕ-discrete (k / 9) (e / 9))
@@ -52,7 +49,7 @@ module _ (s : List ℕ) (e : ℕ) (size : length s ≡ 81) (l : e < 729) where
 
       digit : k / 9 ≡ e / 9 → has (single (e % 9)) (k % 9) ≡ eqb k e
       digit p =
-          ap (λ (x : ℕ). has x (k % 9)) (single-is (e % 9) (omega arith))
+          ap (λ (x : ℕ). has x (k % 9)) (single-power (e % 9) (omega arith))
           ∙ bool-iff (has (2 ^ (e % 9)) (k % 9)) (eqb k e) (λ t. eq-eqb k e (same p (held-power (e % 9) (k % 9) .0 t)))
           (λ t. held-power (e % 9) (k % 9) .1 (ap (λ (x : ℕ). x % 9) (eqb-true k e t)))
 

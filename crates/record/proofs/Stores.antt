@@ -2,11 +2,11 @@
 use mathlib.Core.Path.{_≡_, refl, sym, ap, _∙_}
 use mathlib.Core.List.{List, [], _∷_, _++_, map}
 use Prim.Native.Nat.{ℕ, zero, suc, _+_, _≤_, _<_}
-use native.Mathlib.Nat.{add-zero, zero-add}
+use native.Mathlib.Nat.{add-zero}
 use native.Mathlib.Omega.{arith}
 use lib.ListN.{length, getD, set, drop, length-map, List·getD-append}
 use lib.Seq.{set-comm, sets, sets-eq, ext-getD}
-use Rattle.grid.proofs.Lists.{at-range}
+use Rattle.grid.proofs.Lists.{at-upTo}
 use Rattle.steps.specs.Loops.{range}
 use Rattle.record.specs.Sections.{stored, leading}
 
@@ -37,7 +37,7 @@ pub leading-stored : (l r : List ℕ) → length r ≤ length l → leading (len
 unfolding leading
 leading-stored l r h =
     ext-getD 0 (map (λ i. getD (stored l 0 r) i 0) (range (length r) 0)) r size
-    (λ i k. at-range (λ i. getD (stored l 0 r) i 0) 0 (length r) 0 i (omega (arith, size)) ∙ ap (λ (j : ℕ). getD (stored l 0 r) j 0) (zero-add i)
+    (λ i k. at-upTo (λ i. getD (stored l 0 r) i 0) 0 (length r) i (omega (arith, size))
     ∙ ap (λ (m : List ℕ). getD m i 0) (sets-eq r l 0 (omega arith)) ∙ List·getD-append r (drop (0 + length r) l) 0 i (omega (arith, size)))
   where
     size : length (map (λ i. getD (stored l 0 r) i 0) (range (length r) 0)) ≡ length r

@@ -3,8 +3,9 @@ ghost use mathlib.Core.Path.{_≡_};
 ghost use mathlib.Core.List.{_++_};
 ghost use Prim.Native.Nat.{_≤_};
 ghost use lib.ListN.{drop, length};
-ghost use Rattle.board.specs.Answers.{beside};
-ghost use Rattle.board.specs.Boards.{boardOf, handed, noBoard};
+ghost use Rattle.candidates.specs.Answer.{gives};
+ghost use Rattle.board.specs.Answers.{beside, refusalOf};
+ghost use Rattle.board.specs.Boards.{boardOf, handed, noBoard, thenAnswer};
 ghost use Rattle.record.specs.Answers.{readAnswer, readingAnswer, refusedAt, writeAnswer};
 ghost use Rattle.record.specs.Records.{readOf, readRemoved, recordOf, writeIn, writeOf, written};
 ghost use Rattle.record.specs.Sections.{leading, stored};
@@ -82,21 +83,30 @@ fn copy_out(bytes: &[u8; 2919], count: usize, out: &mut [u8]) -> RecordWriting
     RecordWriting::Written(count)
 }
 
+// The refusal of a board; of one that is not refused, no bytes.
+fn unwritten(checked: Checked) -> RecordWriting
+    ensures { λ r. ⌜ writeAnswer r ≡ thenAnswer (refusalOf checked) (gives 0) ⌝ }
+{
+    match checked {
+        Checked::Good => RecordWriting::Written(0),
+        Checked::BadClue(cell) => RecordWriting::BadClue(cell),
+        Checked::BadMask(cell) => RecordWriting::BadMask(cell),
+    }
+}
+
 // The record of a board in the first lent bytes: stops 3 and 9 of the board, then stop 6 with the lent length.
 pub fn write_record(board: Board, out: &mut [u8]) -> RecordWriting
     ensures { λ r. ⌜ (writeAnswer r ≡ writeOf (boardOf board) (length (now (out .entry)))) × (now (out .exit) ≡ written (writeOf (boardOf board) (length (now (out .entry)))) (recordOf (boardOf board)) (now (out .entry))) ⌝ }
 {
     let clues = board.clues;
     let masks = board.masks;
-    match check(&clues, &masks) {
-        Checked::BadClue(cell) => RecordWriting::BadClue(cell),
-        Checked::BadMask(cell) => RecordWriting::BadMask(cell),
-        Checked::Good => {
-            let mut bytes = [0u8; 2919];
-            let count = put_record(&clues, &masks, &mut bytes);
-            copy_out(&bytes, count, out)
-        }
-    }
+    let checked = check(&clues, &masks);
+    let Checked::Good = checked else {
+        return unwritten(checked);
+    };
+    let mut bytes = [0u8; 2919];
+    let count = put_record(&clues, &masks, &mut bytes);
+    copy_out(&bytes, count, out)
 }
 
 // The refusal of a reading, with zeros beside it; where a section was read, bytes are left over from its end on.

@@ -9,7 +9,7 @@ use Rattle.steps.specs.Boards.{givensOf, fresh}
 use Rattle.steps.specs.Calls.{advancedCall, settling, outcome, answer, opened}
 use Rattle.board.specs.Answers.{countingAnswer}
 use Rattle.board.specs.Boards.{boardOf, noBoard, verdictOf}
-use Rattle.board.specs.Texts.{parseOf}
+use Rattle.text.specs.Texts.{parseOf}
 use Rattle.passes.specs.Settlings.{settlingAnswer, countsOf}
 use Rattle.progress.specs.Answers.{flagOf}
 use Rattle.techniques.specs.Reports.{reportsOf}

@@ -3,7 +3,7 @@ use mathlib.Core.Path.{_≡_, refl, _∙_}
 use mathlib.Core.List.{_++_}
 use Prim.Native.Nat.{_-_}
 use lib.ListN.{length, getD, drop, length-set}
-use Rattle.board.proofs.Fills.{filled, fill-front, fill-on, fill-end}
+use Rattle.grid.proofs.Fills.{filled, fill-front, fill-on, fill-end}
 use Rattle.record.specs.Sections.{leading}
 use native.Mathlib.Omega.{arith}
 use Rattle.record.proofs.copy.Statement.{statement}

@@ -3,12 +3,12 @@ use mathlib.Core.Path.{sym, ap, _∙_}
 use mathlib.Core.List.{List}
 use Prim.Native.Nat.{ℕ}
 use lib.ListN.{length, replicate, length-replicate}
-use Rattle.candidates.specs.Answer.{Answer}
+use Rattle.candidates.specs.Answer.{Answer, gives}
 use Rattle.board.specs.Answers.{refusalOf}
 use Rattle.board.specs.Boards.{boardOf}
 use Rattle.record.specs.Records.{recordOf, writeIn, writeOf, written}
 use Rattle.record.specs.Sections.{leading}
-use Rattle.record.proofs.Writing.{record-leads, write-checked}
+use Rattle.record.proofs.Writing.{record-leads, unwritten-same, write-checked}
 use borrow.Author.Needs.{needs}
 use native.Mathlib.Omega.{arith}
 use Rattle.record.proofs.write_record.Statement.{statement}
@@ -17,14 +17,21 @@ use Rattle.record.proofs.write_record.Tie as tie
 check-requires : tie.Need-check-requires
 check-requires c κs = search needs
 
-enum-known-cell : tie.Need-enum-known-cell
-enum-known-cell c = search needs
-
-enum-known-cell-2 : tie.Need-enum-known-cell-2
-enum-known-cell-2 c = search needs
-
 enum-told : tie.Need-enum-told
 enum-told c = search needs
+
+unwritten-requires : tie.Need-unwritten-requires
+unwritten-requires c κs = search needs
+
+returns : tie.Need-returns
+returns c =
+    let k = c .before .before in
+    let a = k .before .before .before .before .before .before .args in
+    let b = boardOf (a .board) in
+    let n = length (a .out .now) in
+    let u = unwritten-same (k .check .result) (c .before .match .keys2) (gives 0) (writeIn (length (recordOf b)) n) (recordOf b) (a .out .now) in
+    let e = write-checked b n (k .check .ensures) in
+    (c .unwritten .ensures ∙ u .0 ∙ e, u .1 ∙ ap (λ (w : Answer ℕ). written w (recordOf b) (a .out .now)) e)
 
 put-record-requires : tie.Need-put-record-requires
 put-record-requires c κs = search needs
@@ -32,25 +39,11 @@ put-record-requires c κs = search needs
 copy-out-requires : tie.Need-copy-out-requires
 copy-out-requires c κs = search needs
 
-returns : tie.Need-returns
-returns c =
-    let k = c .before .before .before in
-    let a = k .before .before .before .before .before .before .args in
-    let e = write-checked (boardOf (a .board)) (length (a .out .now)) (sym (ap refusalOf (c .before .cell .given .1)) ∙ k .check .ensures) in
-    (e, ap (λ (w : Answer ℕ). written w (recordOf (boardOf (a .board))) (a .out .now)) e)
-
-returns-2 : tie.Need-returns-2
-returns-2 c =
-    let k = c .before .before .before in
-    let a = k .before .before .before .before .before .before .args in
-    let e = write-checked (boardOf (a .board)) (length (a .out .now)) (sym (ap refusalOf (c .before .cell2 .given .1)) ∙ k .check .ensures) in
-    (e, ap (λ (w : Answer ℕ). written w (recordOf (boardOf (a .board))) (a .out .now)) e)
-
 same-length : tie.Need-same-length
 same-length c = search needs
 
-returns-3 : tie.Need-returns-3
-returns-3 c =
+returns-2 : tie.Need-returns-2
+returns-2 c =
     let o = c .before .before in
     let p = o .before .before .before in
     let t = p .before .before .before .before in
@@ -73,12 +66,10 @@ write-record-spec =
     tie.close
     (tie.spec
     check-requires
-    enum-known-cell
-    enum-known-cell-2
     enum-told
+    unwritten-requires
+    returns
     put-record-requires
     copy-out-requires
-    returns
-    returns-2
     same-length
-    returns-3)
+    returns-2)

@@ -1,7 +1,7 @@
 -- `card::lines::push_number` meets its contract. It calls itself on the tenth of its number. Assumes nothing.
 use mathlib.Core.Path.{subst, sym, ap, _∙_}
 use mathlib.Core.List.{List, [], _∷_}
-use Prim.Native.Nat.{ℕ, _<_, _+_, _/_, _%_}
+use Prim.Native.Nat.{ℕ, _<_, _/_, _%_}
 use native.Mathlib.Nat.{div-lt-self}
 use native.Mathlib.Omega.{arith}
 use Rattle.card.specs.Decimals.{digitByte, decimal}

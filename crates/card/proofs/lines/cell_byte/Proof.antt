@@ -4,16 +4,14 @@ use mathlib.Core.Option.{none, some}
 use Prim.Native.Nat.{_+_}
 use native.Mathlib.Omega.{arith}
 use borrow.Author.Needs.{needs}
-use lib.Dec.{T}
-use lib.IntN.{ℤ, pos, natAbs}
-use lib.Signed.{nonNeg}
+use lib.IntN.{ℤ, natAbs}
 use mir.Syntax.{w8, w32}
 use mir.Val.{Fits, ofZ, toZ}
 use mir.Facts.{toZ-ofZ}
-use Rattle.candidates.specs.Masks.{nine, lowest}
 use Rattle.candidates.specs.Sets.{onlyAnswer, onlyOf}
+use Rattle.candidates.proofs.Only.{Only, single-says, digit-fits}
 use Rattle.card.specs.Decimals.{digitByte}
-use Rattle.card.proofs.CellBytes.{cell-empty, cell-read, cell-digit, cell-small}
+use Rattle.card.proofs.CellBytes.{cell-empty, cell-read}
 use Rattle.card.proofs.lines.cell_byte.Statement.{statement}
 use Rattle.card.proofs.lines.cell_byte.Tie as tie
 
@@ -50,21 +48,16 @@ answered c =
     let s = c .before .before .before in
     sym (ap onlyAnswer (c .before .digit .given .1)) ∙ s .single-candidate .ensures
 
-read : (c : tie.After-known-told) → toZ w32 (ofZ w32 (digit c)) ≡ pos (lowest (nine (c .before .before .before .before .before .before .args .mask)) + 1)
-read c = is-digit c ∙ cell-digit (c .before .before .before .before .before .before .args .mask) (answered c)
+only : (c : tie.After-known-told) → Only (c .before .before .before .before .before .before .args .mask) (digit c)
+only c = single-says (c .before .before .before .before .before .before .args .mask) (answered c)
 
 cast-result : tie.Need-cast-result
-cast-result c =
-    let e = read c in
-    let m = c .before .before .before .before .before .before .args .mask in (
-      subst (λ (z : ℤ). T (nonNeg z)) (sym e) tt,
-      subst (λ (z : ℤ). Fits w8 (natAbs z)) (sym e) (record { fits = omega (arith, cell-small m) }),
-    )
+cast-result c = digit-fits (only c) (is-digit c)
 
 add-result : tie.Need-add-result
 add-result c =
-    let m = c .before .before .before .before .before .before .args .mask in
-    subst (λ (z : ℤ). Fits w8 (48 + natAbs z)) (sym (read c)) (record { fits = omega (arith, cell-small m) })
+    let w = only c in
+    subst (λ (z : ℤ). Fits w8 (48 + natAbs z)) (sym (is-digit c ∙ w .digit)) (record { fits = omega (arith, w .below) })
 
 returns-3 : tie.Need-returns-3
 returns-3 c =

@@ -8,12 +8,13 @@ use lib.ListN.{take}
 use lib.Seq.{length-take-le}
 use Rattle.candidates.specs.Answer.{Answer, gives}
 use Rattle.steps.specs.Boards as S
-use Rattle.board.specs.Answers.{beside, parsingAnswer, openingAnswer}
+use Rattle.board.specs.Answers.{beside, openingAnswer}
 use Rattle.board.specs.Boards.{boardOf, noBoard}
-use Rattle.board.specs.Texts.{parseOf}
-use Rattle.board.specs.declared.Parsing.{Parsing}
+use Rattle.text.specs.Texts.{parseOf}
+use Rattle.text.specs.Answers.{parsingAnswer}
+use Rattle.text.specs.declared.Parsing.{Parsing}
 use Rattle.board.specs.declared.Opening.{Opening}
-use Rattle.board.proofs.Readings.{read-opens}
+use Rattle.text.proofs.Readings.{read-opens}
 use Rattle.card.specs.declared.reading.Reading.{Reading}
 use Rattle.card.specs.Answers.{readingAnswer, boardRead}
 use Rattle.card.specs.Cards.{textIn}

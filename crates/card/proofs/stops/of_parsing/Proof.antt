@@ -3,8 +3,8 @@ use mathlib.Core.Path.{sym, ap}
 use Prim.Native.Nat.{ℕ}
 use lib.IntN.{ℤ}
 use borrow.Author.Needs.{needs}
-use Rattle.board.specs.declared.Parsing.{Parsing}
-use Rattle.board.specs.Answers.{parsingAnswer}
+use Rattle.text.specs.declared.Parsing.{Parsing}
+use Rattle.text.specs.Answers.{parsingAnswer}
 use Rattle.board.specs.Boards.{noClues}
 use Rattle.card.specs.Answers.{stopIn}
 use Rattle.card.proofs.stops.of_parsing.Statement.{statement}

@@ -3,7 +3,7 @@ use mathlib.Core.Path.{_≡_, refl}
 use Prim.Native.Nat.{_-_}
 use lib.ListN.{replicate}
 use Rattle.grid.specs.Cells.{cells}
-use Rattle.board.proofs.Fills.{filled, fill-start, fill-on, fill-end}
+use Rattle.grid.proofs.Fills.{filled, fill-start, fill-on, fill-end}
 use mathlib.Core.Path.{_∙_}
 use lib.IntN.{pos}
 use mir.Facts.{toZ-ofZ}

@@ -3,7 +3,7 @@ use mathlib.Core.Path.{_≡_, refl}
 use Prim.Native.Nat.{_-_}
 use lib.ListN.{replicate}
 use Rattle.grid.specs.Cells.{cells}
-use Rattle.board.proofs.Fills.{filled, fill-start, fill-on, fill-end}
+use Rattle.grid.proofs.Fills.{filled, fill-start, fill-on, fill-end}
 use Rattle.candidates.specs.Masks.{minus}
 use Rattle.steps.specs.Boards.{at}
 use Rattle.record.specs.Records.{lacking}
