@@ -1,13 +1,15 @@
--- What stands beside a stop, a cell, an index or a length, fits an `i64`, and so does a number of clues.
-use mathlib.Core.Path.{_≡_, sym, subst}
+-- What stands beside a stop, a cell, an index, an offset or a length, fits an `i64`, and so does a number of clues or of bytes.
+use mathlib.Core.Path.{_≡_, refl, sym, subst}
 use mathlib.Core.Bool.{Bool, true, false, cond}
 use mathlib.Core.List.{List, [], _∷_}
 use mathlib.Core.Option.{Option, none, some}
 use Prim.Native.Nat.{ℕ, zero, suc, _+_, _<_, _≤_, _^_}
+use native.Mathlib.Nat.{min-le-right}
 use native.Mathlib.Omega.{arith}
-use lib.Dec.{eqb, ltb}
+use borrow.Author.Tests.{leb-true}
+use lib.Dec.{eqb, leb, ltb}
 use lib.IntN.{ℤ, pos}
-use lib.ListN.{length, getD}
+use lib.ListN.{length, getD, length-take}
 use mir.Syntax.{w64}
 use mir.Val.{SFits}
 use Rattle.candidates.specs.Answer.{Answer, gives, stop}
@@ -17,7 +19,13 @@ use Rattle.steps.specs.Boards.{Board, at, givensOf, isOpen}
 use Rattle.steps.specs.Calls.{badClue, badMask, checked, firstStop, refusal}
 use Rattle.steps.specs.Loops.{first}
 use Rattle.board.specs.Boards.{clueCount, firstBadClue, maskOr5, openedOr, openOf, thenAnswer}
-use Rattle.board.specs.Texts.{firstOther, cluesOf, readCells, parseOf}
+use Rattle.text.specs.Texts as T
+use Rattle.text.specs.Texts.{firstOther, cluesOf, readCells, parseOf, writeCells}
+use Rattle.record.specs.Records as R
+use Rattle.record.specs.Records.{recordOf, writeIn}
+use Rattle.card.specs.Answers.{writtenOf}
+use Rattle.card.specs.Cards.{cardOf, cardRead, textIn, textLength}
+use Rattle.card.proofs.Cards.{read-short}
 use Rattle.calls.specs.Replays.{callsOf, firstNoStep, openedThen, replayOf, runOr20}
 use Rattle.host.specs.Boards.{boardNumber, checkAnswer, clueNumber}
 use Rattle.host.specs.Codes.{Fitting, noNumber}
@@ -124,3 +132,40 @@ replay-fits clues steps below = go (openOf clues) (open-fits clues)
     go : (a : Answer Board) → Fitting boardNumber a → Fitting noNumber (openedThen a (runOr20 (firstNoStep steps) (callsOf steps)))
     go (gives b) f = index (firstNoStep steps) b (found-below (length steps) _ (length steps) 0 (omega arith))
     go (stop n z) f = f
+
+-- ---- texts and cards
+
+pub text-fits : (clues : List ℤ) (lent : ℕ) → lent < 2 ^ 63 → Fitting pos (T.writeOf clues lent)
+unfolding T.writeOf
+text-fits clues lent below = go (leb 81 lent)
+  where
+    cell : (r : Option ℕ) → Below 81 r → Fitting pos (writeCells r)
+    cell none b = place-fits (omega arith)
+    cell (some c) b = place-fits (omega arith)
+
+    go : (t : Bool) → Fitting pos (cond t (writeCells (firstBadClue clues)) (stop 6 (pos lent)))
+    go true = cell (firstBadClue clues) (cell-below _)
+    go false = place-fits below
+
+pub card-fits : (input : List ℕ) → length input < 2 ^ 63 → Fitting pos (writtenOf (cardOf input))
+unfolding cardOf
+card-fits input below =
+    let shorter = min-le-right (textLength input) (length input) in
+    go (parseOf (textIn input)) refl (parse-fits (textIn input) (omega (arith, length-take (textLength input) input, shorter)))
+  where
+    go : (p : Answer (List ℤ)) → parseOf (textIn input) ≡ p → Fitting clueNumber p → Fitting pos (writtenOf (cardRead p))
+    go (gives clues) is f = place-fits (omega (arith, read-short (textIn input) clues is))
+    go (stop n z) is f = f
+
+-- ---- the record writer
+
+pub record-fits : (b : Board) (lent : ℕ) → lent < 2 ^ 63 → Fitting pos (R.writeOf b lent)
+unfolding R.writeOf
+record-fits b lent below = then-fits pos b (writeIn n lent) (go (leb n lent) refl)
+  where
+    n : ℕ
+    n = length (recordOf b)
+
+    go : (t : Bool) → leb n lent ≡ t → Fitting pos (cond t (gives n) (stop 6 (pos lent)))
+    go true is = place-fits (omega (arith, leb-true n lent is))
+    go false is = place-fits below

@@ -1,5 +1,6 @@
 mod Calls
 mod Numbers
 mod Fitting
+mod RecordOffsets
 mod Cases
 mod StepNumbers

@@ -9,7 +9,7 @@ use Rattle.grid.specs.Cells.{cells}
 use Rattle.steps.specs.Boards.{Board, givensOf}
 use Rattle.steps.specs.Calls.{refusal, checked}
 use Rattle.board.specs.Boards.{Verdict, Dead, Finished, Open, clueCount, maskOr5, openOf, thenAnswer, verdictOf}
-use Rattle.board.specs.Texts.{parseOf}
+use Rattle.text.specs.Texts.{parseOf}
 use Rattle.host.specs.Codes.{coded, noNumber, unknown}
 
 -- what is lent holds, after a call, what it answers; as it was beside a stop: "lent bytes, sets and boards keep their contents"

@@ -1,7 +1,6 @@
 -- Answers as numbers, for callers in other languages: four of them, the stop's number (0 where the call answered), what stands beside the stop, the value and the mask.
 use mathlib.Core.Bool.{Bool, cond}
 use mathlib.Core.List.{List, [], _∷_}
-use mathlib.Core.Option.{Option, none, some}
 use Prim.Native.Nat.{ℕ}
 use lib.IntN.{ℤ, pos, negsuc}
 use mir.Syntax.{w64}
@@ -29,11 +28,6 @@ testNumber t = cond t (pos 1) (pos 0)
 -- a value that is no number, or stands elsewhere
 abbrev pub noNumber : {A : Type 0} → A → ℤ
 noNumber a = pos 0
-
--- a digit, or 0 for none
-abbrev pub digitOr0 : Option ℤ → ℤ
-digitOr0 none = pos 0
-digitOr0 (some z) = z
 
 -- a call number that stands for nothing: -1 and the number
 abbrev pub unknown : ℕ → List ℤ

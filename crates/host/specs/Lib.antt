@@ -2,3 +2,5 @@ pub mod Codes
 pub mod Sets
 pub mod Boards
 pub mod Steps
+pub mod Texts
+pub mod Records

@@ -7,8 +7,8 @@ use lib.IntN.{ℤ, pos}
 use lib.ListN.{getD}
 use Rattle.candidates.specs.Answer.{Answer, gives, stop}
 use Rattle.candidates.specs.Masks.{nine, count}
-use Rattle.candidates.specs.Sets.{singleOf, containsOf, insertOf, inserted, removed, onlyOf, nextOf}
-use Rattle.host.specs.Codes.{four, given, refused, coded, testNumber, noNumber, digitOr0, unknown}
+use Rattle.candidates.specs.Sets.{singleOf, containsOf, insertOf, inserted, removed, onlyOf, digitOr0, nextOf}
+use Rattle.host.specs.Codes.{four, given, refused, coded, testNumber, noNumber, unknown}
 
 -- a new set: its mask, or the stop with no mask
 abbrev pub newSet : Answer ℕ → List ℤ

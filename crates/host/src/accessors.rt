@@ -17,7 +17,7 @@ fn of_counting(counting: Counting) -> [i64; 4]
     ensures { λ r. ⌜ r ≡ coded pos (countingAnswer counting) 0 ⌝ }
 {
     match counting {
-        Counting::Clues(count) => codes::of_given(count as i64, 0),
+        Counting::Clues(count) => codes::of_count(count),
         Counting::BadClue(cell) => codes::of_stop(3, cell),
         Counting::BadMask(cell) => codes::of_stop(9, cell),
     }

@@ -1,20 +1,21 @@
 // The reader and the opener: their answers as four numbers, and what was lent after them.
 ghost use mathlib.Core.Path.{_≡_};
-ghost use Rattle.board.specs.Answers.{openingAnswer, parsingAnswer};
+ghost use Rattle.board.specs.Answers.{openingAnswer};
 ghost use Rattle.board.specs.Boards.{boardOf};
+ghost use Rattle.text.specs.Answers.{parsingAnswer};
 ghost use Rattle.host.specs.Boards.{boardNumber, clueNumber, kept};
 ghost use Rattle.host.specs.Codes.{Fitting, coded, given};
 use crate::codes;
 use board::Board;
 use board::Opening;
-use board::Parsing;
 use board::clues;
 use board::count_clues;
+use text::Parsing;
 
-fn of_clues(grid: &[i32; 81]) -> [i64; 4]
+pub fn of_clues(grid: &[i32; 81]) -> [i64; 4]
     ensures { λ r. ⌜ r ≡ given (clueNumber (now (grid .entry))) 0 ⌝ }
 {
-    codes::of_given(count_clues(&clues::givens_of(grid)) as i64, 0)
+    codes::of_count(count_clues(&clues::givens_of(grid)))
 }
 
 pub fn of_parsing(parsing: Parsing, read: [i32; 81]) -> [i64; 4]

@@ -3,8 +3,8 @@ ghost use mathlib.Core.Path.{_≡_};
 ghost use lib.IntN.{pos};
 ghost use mir.Syntax.{w64};
 ghost use mir.Val.{SFits};
-ghost use Rattle.candidates.specs.Sets.{newAnswer, presenceAnswer, insertionAnswer, onlyAnswer};
-ghost use Rattle.host.specs.Codes.{four, given, refused, coded, testNumber, noNumber, digitOr0, unknown};
+ghost use Rattle.candidates.specs.Sets.{newAnswer, presenceAnswer, insertionAnswer, onlyAnswer, digitOr0};
+ghost use Rattle.host.specs.Codes.{four, given, refused, coded, testNumber, noNumber, unknown};
 ghost use Rattle.host.specs.Sets.{newSet};
 use candidates::Insertion;
 use candidates::NewSet;
@@ -30,6 +30,14 @@ pub fn of_given(value: i64, mask: u16) -> [i64; 4]
     ensures { λ r. ⌜ r ≡ given value mask ⌝ }
 {
     [0, 0, value, mask as i64]
+}
+
+// A value that is a count.
+pub fn of_count(count: usize) -> [i64; 4]
+    requires { ⌜ SFits w64 (pos count) ⌝ }
+    ensures { λ r. ⌜ r ≡ given (pos count) 0 ⌝ }
+{
+    [0, 0, count as i64, 0]
 }
 
 // Stop 4, the one stop of the set.

@@ -5,15 +5,19 @@ ghost use Rattle.grid.specs.Fillings.{verified};
 ghost use Rattle.steps.specs.Calls.{refusal};
 ghost use Rattle.board.specs.Boards.{handed};
 ghost use Rattle.host.specs.Boards.{asked, checkCode, keptCheck, openCode, openMasks, readClues, readCode};
+ghost use Rattle.host.specs.Records.{recordClues, recordCode, recordMasks, recordReadCode, writtenRecord};
 ghost use Rattle.host.specs.Sets.{setCall, nextCall};
 ghost use Rattle.host.specs.Steps.{runCode, runMasks, stepCode, stepMasks, stepReports};
+ghost use Rattle.host.specs.Texts.{cardCode, textCode, writtenCard, writtenText};
 use board::Board;
 
 mod accessors;
 mod boards;
 mod codes;
+mod records;
 mod sets;
 mod step_calls;
+mod texts;
 
 // Whether 81 numbers are a correct filling.
 #[no_mangle]
@@ -44,11 +48,20 @@ pub extern "C" fn sudoku_next(mask: u16, place: u8, answer: &mut [i64; 4])
 pub extern "C" fn sudoku_read(text: &[u8], clues: &mut [i32; 81], answer: &mut [i64; 4])
     ensures { λ _. ⌜ (now (answer .exit) ≡ readCode (now (text .entry))) × (now (clues .exit) ≡ readClues (now (text .entry)) (now (clues .entry))) ⌝ }
 {
-    let parsed = board::text::parse_string(text);
+    let parsed = text::parse_string(text);
     let parsing = parsed.answer;
     let read = parsed.clues;
     *answer = boards::of_parsing(parsing, read);
     *clues = boards::read_into(parsing, read, *clues);
+}
+
+// The text of 81 clues.
+#[no_mangle]
+pub extern "C" fn sudoku_write_text(clues: &[i32; 81], text: &mut [u8], answer: &mut [i64; 4])
+    ensures { λ _. ⌜ (now (answer .exit) ≡ textCode (now (clues .entry)) (now (text .entry))) × (now (text .exit) ≡ writtenText (now (clues .entry)) (now (text .entry))) ⌝ }
+{
+    let writing = text::write_text(clues, text);
+    *answer = texts::of_writing(writing);
 }
 
 // The fresh masks of 81 clues.
@@ -158,4 +171,49 @@ pub extern "C" fn sudoku_run(
     let board = done.board;
     *answer = step_calls::of_replaying(replaying, board);
     *masks = step_calls::run_into(replaying, board, *masks);
+}
+
+// The record of a board.
+#[no_mangle]
+pub extern "C" fn sudoku_write_record(
+    clues: &[i32; 81],
+    masks: &[u16; 81],
+    bytes: &mut [u8],
+    answer: &mut [i64; 4],
+)
+    ensures { λ _. ⌜ (now (answer .exit) ≡ recordCode (handed (now (clues .entry)) (now (masks .entry))) (now (bytes .entry))) × (now (bytes .exit) ≡ writtenRecord (handed (now (clues .entry)) (now (masks .entry))) (now (bytes .entry))) ⌝ }
+{
+    let board = Board {
+        clues: *clues,
+        masks: *masks,
+    };
+    let writing = record::write_record(board, bytes);
+    *answer = records::of_writing(writing);
+}
+
+// The clues and the masks of a record.
+#[no_mangle]
+pub extern "C" fn sudoku_read_record(
+    bytes: &[u8],
+    clues: &mut [i32; 81],
+    masks: &mut [u16; 81],
+    answer: &mut [i64; 4],
+)
+    ensures { λ _. ⌜ (now (answer .exit) ≡ recordReadCode (now (bytes .entry))) × (now (clues .exit) ≡ recordClues (now (bytes .entry)) (now (clues .entry))) × (now (masks .exit) ≡ recordMasks (now (bytes .entry)) (now (masks .entry))) ⌝ }
+{
+    let read = record::read_record(bytes);
+    let reading = read.answer;
+    let board = read.board;
+    *answer = records::of_reading(reading, board);
+    *clues = records::clues_into(reading, board, *clues);
+    *masks = records::masks_into(reading, board, *masks);
+}
+
+// The card of a text.
+#[no_mangle]
+pub extern "C" fn sudoku_card(input: &[u8], card: &mut [u8; 256], answer: &mut [i64; 4])
+    ensures { λ _. ⌜ (now (answer .exit) ≡ cardCode (now (input .entry))) × (now (card .exit) ≡ writtenCard (now (input .entry)) (now (card .entry))) ⌝ }
+{
+    let carding = card::write_card(input, card);
+    *answer = texts::of_carding(carding);
 }

@@ -1,11 +1,8 @@
 -- Each arm says which case it is.
-use mathlib.Core.Path.{ap, _∙_}
+use mathlib.Core.Path.{_∙_}
 use borrow.Author.Needs.{needs}
-use lib.IntN.{ℤ, pos}
-use mir.Facts.{toZ-pos}
-use mir.Syntax.{w64}
+use lib.IntN.{pos}
 use Rattle.board.specs.Answers.{countingAnswer}
-use Rattle.host.specs.Codes.{given}
 use Rattle.host.proofs.Cases.{case-code, case-fits}
 use Rattle.host.proofs.accessors.of_counting.Statement.{statement}
 use Rattle.host.proofs.accessors.of_counting.Tie as tie
@@ -13,11 +10,8 @@ use Rattle.host.proofs.accessors.of_counting.Tie as tie
 enum-known-counting : tie.Need-enum-known-counting
 enum-known-counting c = search needs
 
-cast-of-given : tie.Need-cast-of-given
-cast-of-given c = case-fits pos countingAnswer (c .before .counting .given .1) (c .before .before .before .pre)
-
-of-given-requires : tie.Need-of-given-requires
-of-given-requires c κs = search needs
+of-count-requires : tie.Need-of-count-requires
+of-count-requires c κs = case-fits pos countingAnswer (c .before .counting .given .1) (c .before .before .before .pre)
 
 enum-known-counting-2 : tie.Need-enum-known-counting-2
 enum-known-counting-2 c = search needs
@@ -32,10 +26,7 @@ of-stop-requires-2 : tie.Need-of-stop-requires-2
 of-stop-requires-2 c κs = case-fits pos countingAnswer (c .before .counting3 .given .1) (c .before .before .before .pre)
 
 returns : tie.Need-returns
-returns c =
-    let n = c .before .before in
-    let fits = case-fits pos countingAnswer (n .counting .given .1) (n .before .before .pre) in
-    c .of-given .ensures ∙ ap (λ (v : ℤ). given v 0) (toZ-pos w64 (fits .sfits)) ∙ case-code pos countingAnswer (n .counting .given .1)
+returns c = c .of-count .ensures ∙ case-code pos countingAnswer (c .before .before .counting .given .1)
 
 returns-2 : tie.Need-returns-2
 returns-2 c = c .of-stop .ensures ∙ case-code pos countingAnswer (c .before .before .counting2 .given .1)
@@ -48,8 +39,7 @@ of-counting-spec =
     tie.close
     (tie.spec
     enum-known-counting
-    cast-of-given
-    of-given-requires
+    of-count-requires
     enum-known-counting-2
     of-stop-requires
     enum-known-counting-3

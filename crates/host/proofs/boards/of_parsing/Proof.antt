@@ -4,8 +4,8 @@ use mathlib.Core.List.{List}
 use borrow.Author.Needs.{needs}
 use lib.IntN.{ℤ}
 use Rattle.candidates.specs.Answer.{Answer}
-use Rattle.board.specs.Answers.{parsingAnswer}
-use Rattle.board.specs.declared.Parsing.{Parsing}
+use Rattle.text.specs.Answers.{parsingAnswer}
+use Rattle.text.specs.declared.Parsing.{Parsing}
 use Rattle.host.specs.Boards.{clueNumber}
 use Rattle.host.proofs.Cases.{case-code, case-fits}
 use Rattle.host.proofs.boards.of_parsing.Statement.{statement}

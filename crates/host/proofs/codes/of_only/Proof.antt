@@ -4,9 +4,8 @@ use borrow.Author.Needs.{needs}
 use mir.Facts.{toZ-ofZ}
 use mir.Syntax.{w32}
 use mir.Val.{toZ, ofZ}
-use Rattle.candidates.specs.Sets.{onlyAnswer}
+use Rattle.candidates.specs.Sets.{onlyAnswer, digitOr0}
 use Rattle.candidates.specs.declared.SingleCandidate.{SingleCandidate}
-use Rattle.host.specs.Codes.{digitOr0}
 use Rattle.host.proofs.codes.of_only.Statement.{statement}
 use Rattle.host.proofs.codes.of_only.Tie as tie
 

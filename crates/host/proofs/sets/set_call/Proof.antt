@@ -11,8 +11,8 @@ use mir.Syntax.{w64}
 use mir.Val.{toZ}
 use Rattle.candidates.specs.Answer.{Answer}
 use Rattle.candidates.specs.Masks.{nine, count}
-use Rattle.candidates.specs.Sets.{singleOf, containsOf, insertOf, inserted, removed}
-use Rattle.host.specs.Codes.{given, coded, testNumber, noNumber, digitOr0}
+use Rattle.candidates.specs.Sets.{singleOf, containsOf, insertOf, inserted, removed, digitOr0}
+use Rattle.host.specs.Codes.{given, coded, testNumber, noNumber}
 use Rattle.host.specs.Sets.{newSet}
 use Rattle.host.proofs.Calls.{called, not-called, past}
 use Rattle.host.proofs.sets.set_call.Statement.{statement}
