@@ -58,7 +58,7 @@ impl std::fmt::Display for Case {
 
 // ---- making them
 
-fn list(random: &mut Random, from: &[u8], most: usize) -> Vec<u8> {
+pub fn list(random: &mut Random, from: &[u8], most: usize) -> Vec<u8> {
     (0..random.within(0, most)).map(|_| *random.pick(from)).collect()
 }
 
@@ -74,7 +74,7 @@ fn ported_list(random: &mut Random, most: usize) -> Vec<u8> {
 }
 
 /// Mostly the fresh masks; else masks with candidates gone, so that rarer patterns stand on the board.
-fn kept(random: &mut Random) -> Masks {
+pub fn kept(random: &mut Random) -> Masks {
     let gone = *random.pick(&[0, 0, 0, 0, 10, 30, 50, 65]);
     let mut kept = EVERYTHING;
     for mask in &mut kept {
@@ -173,7 +173,7 @@ fn shown(answer: &Result<Outcome, Stop>) -> String {
 }
 
 /// The cells whose masks differ, with both.
-fn apart(one: &Masks, two: &Masks) -> String {
+pub fn apart(one: &Masks, two: &Masks) -> String {
     let cells = (0..81).filter(|&cell| one[cell] != two[cell]);
     cells.map(|cell| format!("cell {cell} has {} and {}; ", one[cell], two[cell])).collect()
 }
@@ -204,8 +204,8 @@ pub fn accessors_differ(case: &Case) -> Option<String> {
     fault.or_else(|| first_unlike(&numbers)).map(|what| format!("{what}, where the check of the board says {stop:?} and the cell is {cell}"))
 }
 
-/// What is lent beside an accessor's answer.
-const LENT: (Clues, Masks) = ([7; 81], [7; 81]);
+/// What is lent holds this before.
+pub const LENT: (Clues, Masks) = ([7; 81], [7; 81]);
 
 fn accessors_answer(clues: &Clues, masks: &Masks) -> Option<&'static str> {
     let (mut puzzle, mut sets) = LENT;

@@ -5,13 +5,18 @@ pub mod grids;
 pub mod oracle;
 pub mod plain;
 pub mod random;
+pub mod record_cases;
+pub mod records;
 pub mod shrink;
 pub mod sides;
+pub mod text_cases;
 
 pub type Clues = [i32; 81];
 pub type Masks = [u16; 81];
 /// Room for 324 reports, two bytes each.
 pub type ReportBytes = [u8; 648];
+/// Room for a card.
+pub type CardBytes = [u8; 256];
 type Answer = [i64; 4];
 
 extern "C" {
@@ -25,6 +30,10 @@ extern "C" {
     fn sudoku_get_candidates(clues: *const Clues, masks: *const Masks, candidates: *mut Masks, answer: *mut Answer);
     fn sudoku_step(step: u8, clues: *const Clues, masks: *mut Masks, reports: *mut ReportBytes, answer: *mut Answer);
     fn sudoku_run(steps: *const u8, length: usize, clues: *const Clues, masks: *mut Masks, answer: *mut Answer);
+    fn sudoku_write_text(clues: *const Clues, text: *mut u8, length: usize, answer: *mut Answer);
+    fn sudoku_write_record(clues: *const Clues, masks: *const Masks, record: *mut u8, length: usize, answer: *mut Answer);
+    fn sudoku_read_record(record: *const u8, length: usize, clues: *mut Clues, masks: *mut Masks, answer: *mut Answer);
+    fn sudoku_card(input: *const u8, length: usize, card: *mut CardBytes, answer: *mut Answer);
 }
 
 /// A refusal: the stop's number and what stands beside it.
@@ -144,4 +153,24 @@ pub fn step(step: u8, clues: &Clues, masks: &mut Masks, reports: &mut ReportByte
 /// The masks after a list of steps from the fresh board of the clues.
 pub fn run(steps: &[u8], clues: &Clues, masks: &mut Masks) -> Result<(), Stop> {
     answered(|answer| unsafe { sudoku_run(steps.as_ptr(), steps.len(), clues, masks, answer) }).map(drop)
+}
+
+/// The text of the clues in the first 81 lent bytes, and how many were written.
+pub fn write_text(clues: &Clues, text: &mut [u8]) -> Result<i64, Stop> {
+    Ok(answered(|answer| unsafe { sudoku_write_text(clues, text.as_mut_ptr(), text.len(), answer) })?.0)
+}
+
+/// The record of a board in the first lent bytes, and how many were written.
+pub fn write_record(clues: &Clues, masks: &Masks, record: &mut [u8]) -> Result<i64, Stop> {
+    Ok(answered(|answer| unsafe { sudoku_write_record(clues, masks, record.as_mut_ptr(), record.len(), answer) })?.0)
+}
+
+/// The board of a record, and how many clues it has.
+pub fn read_record(record: &[u8], clues: &mut Clues, masks: &mut Masks) -> Result<i64, Stop> {
+    Ok(answered(|answer| unsafe { sudoku_read_record(record.as_ptr(), record.len(), clues, masks, answer) })?.0)
+}
+
+/// The card of the bytes that the program `scorecard` read, in the first lent bytes, and how many were written.
+pub fn card(input: &[u8], card: &mut CardBytes) -> Result<i64, Stop> {
+    Ok(answered(|answer| unsafe { sudoku_card(input.as_ptr(), input.len(), card, answer) })?.0)
 }

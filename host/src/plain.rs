@@ -526,92 +526,18 @@ pub fn write_text(clues: &Clues, lent: &mut [u8]) -> Result<usize, Stop> {
     Ok(CELLS)
 }
 
-// ---- record
-
-fn clue_entries(clues: &Clues) -> Vec<[u8; 2]> {
-    (0..CELLS).filter(|&cell| clues[cell] != 0).map(|cell| [cell as u8, clues[cell] as u8]).collect()
-}
-
-/// "what the fresh mask has and the board lacks"
-fn removed_entries(clues: &Clues, masks: &Masks) -> Vec<[u8; 2]> {
-    let fresh = fresh(clues);
-    let lacks = |&(cell, digit): &(usize, i32)| fresh[cell] & !masks[cell] & bit(digit) != 0;
-    let all = (0..CELLS).flat_map(|cell| (1..=9).map(move |digit| (cell, digit)));
-    all.filter(lacks).map(|(cell, digit)| [cell as u8, digit as u8]).collect()
-}
-
-pub fn write_record(clues: &Clues, masks: &Masks, lent: &mut [u8]) -> Result<usize, Stop> {
-    if let Some(stop) = check(clues, masks) {
-        return Err(stop);
-    }
-    let (given, removed) = (clue_entries(clues), removed_entries(clues, masks));
-    let mut record = vec![given.len() as u8];
-    record.extend(given.concat());
-    record.extend((removed.len() as u16).to_le_bytes());
-    record.extend(removed.concat());
-    if lent.len() < record.len() {
-        return Err(Stop { number: 6, detail: lent.len() as i64 });
-    }
-    lent[..record.len()].copy_from_slice(&record);
-    Ok(record.len())
-}
-
-pub fn read_record(record: &[u8]) -> Result<(Clues, Masks), Stop> {
-    let missing = Stop { number: 7, detail: record.len() as i64 };
-    let mut clues = [0; CELLS];
-    let mut at = 1;
-    let mut last = None;
-    for _ in 0..*record.first().ok_or(missing)? {
-        let (cell, digit) = entry(record, at)?;
-        if last.is_some_and(|before| cell <= before) {
-            return Err(Stop { number: 8, detail: at as i64 });
-        }
-        clues[cell] = digit;
-        last = Some(cell);
-        at += 2;
-    }
-    let mut masks = fresh(&clues);
-    let count = record.get(at..at + 2).ok_or(missing)?;
-    let count = count[0] as usize + 256 * count[1] as usize;
-    at += 2;
-    let mut last = None;
-    for _ in 0..count {
-        let (cell, digit) = entry(record, at)?;
-        if last.is_some_and(|before| (cell, digit) <= before) {
-            return Err(Stop { number: 8, detail: at as i64 });
-        }
-        if clues[cell] != 0 || masks[cell] & bit(digit) == 0 {
-            return Err(Stop { number: 9, detail: at as i64 });
-        }
-        masks[cell] &= !bit(digit);
-        last = Some((cell, digit));
-        at += 2;
-    }
-    if at < record.len() {
-        return Err(Stop { number: 7, detail: at as i64 });
-    }
-    Ok((clues, masks))
-}
-
-fn entry(record: &[u8], at: usize) -> Result<(usize, i32), Stop> {
-    let Some(&[cell, digit]) = record.get(at..at + 2) else {
-        return Err(Stop { number: 7, detail: record.len() as i64 });
-    };
-    if cell > 80 || !(1..=9).contains(&digit) {
-        return Err(Stop { number: 8, detail: at as i64 });
-    }
-    Ok((cell as usize, digit as i32))
-}
-
 // ---- the program's card
 
-pub fn card(input: &[u8]) -> String {
-    let input = &input[..input.len().min(4096)];
-    let text = input.strip_suffix(b"\n").unwrap_or(input);
-    match read_text(text) {
-        Ok(clues) => lines(&clues),
-        Err(stop) => format!("refused {} {}\n", stop.number, stop.detail),
-    }
+/// What the program prints.
+pub fn printed(input: &[u8]) -> String {
+    let read = &input[..input.len().min(4096)];
+    card(read).unwrap_or_else(|stop| format!("refused {} {}\n", stop.number, stop.detail))
+}
+
+/// The card for the bytes that it read.
+pub fn card(read: &[u8]) -> Result<String, Stop> {
+    let text = read.strip_suffix(b"\n").unwrap_or(read);
+    Ok(lines(&read_text(text)?))
 }
 
 fn lines(clues: &Clues) -> String {

@@ -1,32 +1,38 @@
-//! A difference made small: fewer calls, fewer clues, fewer candidates gone.
+//! A difference made small: fewer calls, fewer clues, fewer candidates gone; fewer and lower bytes.
 
 use crate::cases::Case;
 
+/// A thing with one thing less, in every way, the greatest steps first.
+pub trait Smaller: Clone {
+    fn smaller(&self) -> impl Iterator<Item = Self>;
+}
+
 /// The smallest case that still fails by dropping one thing after the other, with what it shows.
-pub fn shrunk(case: Case, fault: &dyn Fn(&Case) -> Option<String>) -> (Case, String) {
+pub fn shrunk<T: Smaller>(case: T, fault: &dyn Fn(&T) -> Option<String>) -> (T, String) {
     let mut smallest = case;
     let mut shows = fault(&smallest).expect("a case that fails");
     loop {
-        let found = smaller(&smallest).find_map(|case| fault(&case).map(|shows| (case, shows)));
+        let found = smallest.smaller().find_map(|case| fault(&case).map(|shows| (case, shows)));
         let Some(less) = found else { return (smallest, shows) };
         (smallest, shows) = less;
     }
 }
 
-/// The case with one thing less, in every way.
-fn smaller(case: &Case) -> impl Iterator<Item = Case> + '_ {
-    let steps = (0..case.steps.len()).map(|at| changed(case, |less| _ = less.steps.remove(at)));
-    let others = (0..case.others.len()).map(|at| changed(case, |less| _ = less.others.remove(at)));
-    let numbers = (0..case.numbers.len()).map(|at| changed(case, |less| _ = less.numbers.remove(at)));
-    let masks = (0..case.masks.len()).map(|at| changed(case, |less| _ = less.masks.remove(at)));
-    let clues = (0..81).filter(|&cell| case.clues[cell] != 0).map(|cell| changed(case, |less| less.clues[cell] = 0));
-    let kept = (0..81).filter(|&cell| case.kept[cell] != 511).map(|cell| changed(case, |less| less.kept[cell] = 511));
-    let digits = (0..81).flat_map(|cell| (0..9).map(move |place| (cell, 1 << place)));
-    let digits = digits.filter(|&(cell, digit)| case.kept[cell] & digit == 0).map(|(cell, digit)| changed(case, |less| less.kept[cell] |= digit));
-    steps.chain(others).chain(numbers).chain(masks).chain(clues).chain(kept).chain(digits)
+impl Smaller for Case {
+    fn smaller(&self) -> impl Iterator<Item = Self> {
+        let steps = (0..self.steps.len()).map(|at| changed(self, |less| _ = less.steps.remove(at)));
+        let others = (0..self.others.len()).map(|at| changed(self, |less| _ = less.others.remove(at)));
+        let numbers = (0..self.numbers.len()).map(|at| changed(self, |less| _ = less.numbers.remove(at)));
+        let masks = (0..self.masks.len()).map(|at| changed(self, |less| _ = less.masks.remove(at)));
+        let clues = (0..81).filter(|&cell| self.clues[cell] != 0).map(|cell| changed(self, |less| less.clues[cell] = 0));
+        let kept = (0..81).filter(|&cell| self.kept[cell] != 511).map(|cell| changed(self, |less| less.kept[cell] = 511));
+        let digits = (0..81).flat_map(|cell| (0..9).map(move |place| (cell, 1 << place)));
+        let digits = digits.filter(|&(cell, digit)| self.kept[cell] & digit == 0).map(|(cell, digit)| changed(self, |less| less.kept[cell] |= digit));
+        steps.chain(others).chain(numbers).chain(masks).chain(clues).chain(kept).chain(digits)
+    }
 }
 
-fn changed(case: &Case, change: impl FnOnce(&mut Case)) -> Case {
+pub fn changed<T: Clone>(case: &T, change: impl FnOnce(&mut T)) -> T {
     let mut less = case.clone();
     change(&mut less);
     less

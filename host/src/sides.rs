@@ -2,7 +2,7 @@
 
 use crate::oracle::{self, SudokuSolver};
 use crate::plain::{self, Outcome};
-use crate::{Clues, Masks, Stop};
+use crate::{records, Clues, Masks, Stop};
 
 /// update_candidates, naked pairs, box-line, X-wing, both singles, apply_advanced_techniques; the chain pass.
 pub const PORTED: [u8; 8] = [0, 1, 2, 3, 4, 5, 6, CHAIN];
@@ -15,9 +15,19 @@ pub const STEPS: [u8; 14] = [0, 1, 2, 3, 4, 5, 6, 7, 8, 9, 10, 11, SETTLING, CHA
 pub const SETTLING: u8 = 12;
 pub const CHAIN: u8 = 13;
 
+/// What lent bytes hold before, and those behind them, which no call may write.
+pub const LENT_BYTE: u8 = 0xA5;
+pub const BEHIND: usize = 16;
+
 pub trait Side {
     fn start(clues: &Clues, masks: &Masks) -> Self;
     fn step(&mut self, number: u8) -> Result<Outcome, Stop>;
+}
+
+/// The record writer and reader: the bytes written, and the number of clues read.
+pub trait Records {
+    fn write(clues: &Clues, masks: &Masks, lent: &mut [u8]) -> Result<i64, Stop>;
+    fn read(record: &[u8], clues: &mut Clues, masks: &mut Masks) -> Result<i64, Stop>;
 }
 
 /// The Rust original; one solver goes through the whole list.
@@ -68,6 +78,17 @@ impl Side for Plain {
     }
 }
 
+impl Records for Plain {
+    fn write(clues: &Clues, masks: &Masks, lent: &mut [u8]) -> Result<i64, Stop> {
+        Ok(records::write(clues, masks, lent)? as i64)
+    }
+
+    fn read(record: &[u8], clues: &mut Clues, masks: &mut Masks) -> Result<i64, Stop> {
+        (*clues, *masks) = records::read(record)?;
+        Ok(clues.iter().filter(|&&clue| clue != 0).count() as i64)
+    }
+}
+
 /// The engine itself, by its exports.
 pub struct Engine {
     clues: Clues,
@@ -76,8 +97,6 @@ pub struct Engine {
 
 /// What was lent holds something else than the page says: no stop of the engine's.
 const BROKEN: Stop = Stop { number: i64::MIN, detail: 0 };
-/// What reports are lent holding.
-const LENT: u8 = 0xA5;
 
 impl Side for Engine {
     fn start(clues: &Clues, masks: &Masks) -> Self {
@@ -86,10 +105,10 @@ impl Side for Engine {
 
     fn step(&mut self, number: u8) -> Result<Outcome, Stop> {
         let before = self.masks;
-        let mut bytes = [LENT; 648];
+        let mut bytes = [LENT_BYTE; 648];
         let answer = crate::step(number, &self.clues, &mut self.masks, &mut bytes);
         let (value, second) = match answer {
-            Err(_) if self.masks != before || bytes != [LENT; 648] => return Err(BROKEN),
+            Err(_) if self.masks != before || bytes != [LENT_BYTE; 648] => return Err(BROKEN),
             Err(stop) => return Err(stop),
             Ok(values) => values,
         };
@@ -101,5 +120,15 @@ impl Side for Engine {
         }
         let (sweeps, removed) = if counts { (value as usize, second as usize) } else { (0, 0) };
         Ok(Outcome { flag: !counts && value == 1, reports, sweeps, removed, masks: self.masks })
+    }
+}
+
+impl Records for Engine {
+    fn write(clues: &Clues, masks: &Masks, lent: &mut [u8]) -> Result<i64, Stop> {
+        crate::write_record(clues, masks, lent)
+    }
+
+    fn read(record: &[u8], clues: &mut Clues, masks: &mut Masks) -> Result<i64, Stop> {
+        crate::read_record(record, clues, masks)
     }
 }

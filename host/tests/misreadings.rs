@@ -3,8 +3,9 @@
 use sudoku_host::cases::{differ, ported_case, Case};
 use sudoku_host::plain::{self, bit, block, col, row, see, unit, Outcome};
 use sudoku_host::random::Random;
+use sudoku_host::record_cases::{board_case, damaged, read_differs, record, written_differs, Record};
 use sudoku_host::shrink::shrunk;
-use sudoku_host::sides::{Original, Side, CHAIN};
+use sudoku_host::sides::{Engine, Original, Plain, Records, Side, CHAIN};
 use sudoku_host::{Clues, Masks, Stop};
 
 /// The plain implementation with one step misread.
@@ -193,4 +194,86 @@ fn hidden_reports_without_repeats() {
 #[test]
 fn pair_removals_carried_through_apply_advanced_techniques() {
     found::<6>(6);
+}
+
+// ---- the record
+
+/// The plain record with one sentence misread.
+struct MisreadRecord<const WHICH: usize>;
+
+const HIGH_FIRST: usize = 0;
+const FRESH_FIRST: usize = 1;
+const HALF_ENTRIES: usize = 2;
+
+impl<const WHICH: usize> Records for MisreadRecord<WHICH> {
+    fn write(clues: &Clues, masks: &Masks, lent: &mut [u8]) -> Result<i64, Stop> {
+        let written = Plain::write(clues, masks, lent)?;
+        if WHICH == HIGH_FIRST {
+            let count = removed_count(lent);
+            lent[count..count + 2].reverse();
+        }
+        Ok(written)
+    }
+
+    fn read(record: &[u8], clues: &mut Clues, masks: &mut Masks) -> Result<i64, Stop> {
+        let answer = Plain::read(record, clues, masks);
+        match answer {
+            Err(Stop { number: 8, detail }) if WHICH == FRESH_FIRST && !removes_fresh(record, detail as usize) => Err(Stop { number: 9, detail }),
+            Err(Stop { number: 7, detail }) if WHICH == HALF_ENTRIES && half_entry(record, detail as usize) => Err(Stop { number: 8, detail: detail - 1 }),
+            _ => answer,
+        }
+    }
+}
+
+fn removed_count(record: &[u8]) -> usize {
+    1 + 2 * record[0] as usize
+}
+
+/// Whether the entry is a clue's, or removes what the fresh mask has.
+fn removes_fresh(record: &[u8], at: usize) -> bool {
+    let (cell, digit) = (record[at] as usize, record[at + 1] as i32);
+    if at < removed_count(record) || cell > 80 || !(1..=9).contains(&digit) {
+        return true;
+    }
+    let (mut clues, mut masks) = ([0; 81], [0; 81]);
+    Plain::read(&[&record[..removed_count(record)], &[0, 0]].concat(), &mut clues, &mut masks).unwrap();
+    clues[cell] == 0 && masks[cell] & bit(digit) != 0
+}
+
+/// Whether the record ends after a cell: entries begin at odd offsets, and so does the second count.
+fn half_entry(record: &[u8], end: usize) -> bool {
+    end == record.len() && end > 0 && end % 2 == 0 && end != removed_count(record) + 1
+}
+
+/// Bytes of a seeded run which the misreading reads otherwise, made small.
+fn found_in_bytes<const WHICH: usize>() -> Record {
+    let fault = |bytes: &Record| read_differs::<Engine, MisreadRecord<WHICH>>(bytes);
+    let some_bytes = |at| {
+        let random = &mut Random::of_case(7, at);
+        let record = record(&board_case(random));
+        damaged(random, &record)
+    };
+    let bytes = (0..20_000).map(some_bytes).find(|bytes| fault(bytes).is_some());
+    let (smallest, shows) = shrunk(bytes.expect("the misreading is found"), &fault);
+    println!("{smallest}{shows}");
+    smallest
+}
+
+#[test]
+fn record_count_high_byte_first() {
+    let fault = |case: &Case| written_differs::<Engine, MisreadRecord<HIGH_FIRST>>(case);
+    let case = (0..20_000).map(|at| board_case(&mut Random::of_case(7, at))).find(|case| fault(case).is_some());
+    let (smallest, shows) = shrunk(case.expect("the misreading is found"), &fault);
+    println!("{smallest}{shows}");
+    assert_eq!(record(&smallest).0[..3], [0, 1, 0]);
+}
+
+#[test]
+fn record_removal_not_fresh_before_not_rising() {
+    assert_eq!(found_in_bytes::<FRESH_FIRST>().0.len(), 9);
+}
+
+#[test]
+fn record_half_an_entry_told_as_a_wrong_one() {
+    assert_eq!(found_in_bytes::<HALF_ENTRIES>().0, [1, 0]);
 }

@@ -1,9 +1,10 @@
-//! The published cases P1 to P11, the card and the stops of document 01, on the plain implementation.
+//! The published cases P1 to P11, the card and the stops of document 01, on the plain implementation; texts written, records and cards on
+//! the engine too.
 
 use sudoku_host::grids::{completed, of_text, GRID_A};
 use sudoku_host::plain::{self, fresh, step};
 use sudoku_host::random::Random;
-use sudoku_host::sides::{Original, Side};
+use sudoku_host::sides::{Engine, Original, Plain, Records, Side};
 use sudoku_host::{Clues, Masks, Stop};
 
 const OPEN: Clues = [0; 81];
@@ -42,9 +43,7 @@ fn p1_the_open_grid() {
     }
     let settled = step(12, &OPEN, &masks).unwrap();
     assert_eq!((settled.sweeps, settled.removed), (1, 0));
-    let mut record = [7; 4];
-    assert_eq!(plain::write_record(&OPEN, &masks, &mut record), Ok(3));
-    assert_eq!(record, [0, 0, 0, 7]);
+    written(&OPEN, &masks, &[0, 0, 0]);
 }
 
 #[test]
@@ -120,8 +119,17 @@ fn p10_box_line_and_the_card() {
     text[81] = b'\n';
     plain::write_text(&p10(), &mut text).unwrap();
     let line = ".".repeat(9) + "456......789......" + &".".repeat(54);
-    assert_eq!(plain::card(&text), format!("clues 6\nreported 0\nsweeps 2\nremoved 18\nverdict open\nline {line}\n"));
-    assert_eq!(plain::card(&[b'.'; 5000]), "refused 1 4096\n");
+    let card = format!("clues 6\nreported 0\nsweeps 2\nremoved 18\nverdict open\nline {line}\n");
+    assert_eq!(plain::printed(&text), card);
+    assert_eq!(plain::printed(&[b'.'; 5000]), "refused 1 4096\n");
+    let mut lent = [7; 256];
+    assert_eq!(sudoku_host::card(&text, &mut lent), Ok(card.len() as i64));
+    assert_eq!((&lent[..card.len()], &lent[card.len()..]), (card.as_bytes(), &[7; 256][card.len()..]));
+    for (input, number, detail) in [(&text[..80], 1, 80), (&[text, text].concat(), 1, 163), (&[b'\n'; 82], 2, 0), (b"\n", 1, 0), (b"", 1, 0)] {
+        assert_eq!(plain::card(input), stop(number, detail));
+        let mut lent = [7; 256];
+        assert_eq!((sudoku_host::card(input, &mut lent), lent), (stop(number, detail), [7; 256]));
+    }
 }
 
 #[test]
@@ -164,22 +172,142 @@ fn a_board_is_checked() {
 }
 
 #[test]
-fn records() {
-    let read = |bytes: &[u8]| plain::read_record(bytes).map(|_| ());
-    assert_eq!(read(&[]), stop(7, 0));
-    assert_eq!(read(&[1, 0]), stop(7, 2));
-    assert_eq!(read(&[1, 81, 1]), stop(8, 1));
-    assert_eq!(read(&[1, 0, 0]), stop(8, 1));
-    assert_eq!(read(&[2, 3, 1, 3, 2, 0, 0]), stop(8, 3));
-    assert_eq!(read(&[0, 0]), stop(7, 2));
-    assert_eq!(read(&[0, 0, 0, 9]), stop(7, 3));
-    assert_eq!(read(&[1, 0, 1, 1, 0, 1, 1]), stop(9, 5));
-    assert_eq!(read(&[1, 0, 1, 1, 0, 0, 1]), stop(9, 5));
-    assert_eq!(read(&[0, 2, 0, 4, 4, 4, 4]), stop(8, 5));
+fn the_text_writer() {
+    let mut bad = OPEN;
+    (bad[4], bad[80]) = (10, -1);
+    let text = ".".repeat(9) + "456......789......" + &".".repeat(54);
+    for (clues, lent, answer) in [(p10(), 80, stop(6, 80)), (p10(), 81, Ok(81)), (p10(), 90, Ok(81)), (bad, 80, stop(6, 80)), (bad, 81, stop(3, 4))] {
+        let mut expected = vec![b'x'; lent];
+        if answer.is_ok() {
+            expected[..81].copy_from_slice(text.as_bytes());
+        }
+        let (mut ours, mut theirs) = (vec![b'x'; lent], vec![b'x'; lent]);
+        assert_eq!((sudoku_host::write_text(&clues, &mut ours), &ours), (answer, &expected));
+        assert_eq!((plain::write_text(&clues, &mut theirs), &theirs), (answer.map(|written| written as usize), &expected));
+    }
+}
+
+// ---- records, on both sides
+
+/// The board's record, and the board of the record; one byte too few is stop 6.
+fn written(clues: &Clues, masks: &Masks, record: &[u8]) {
+    written_by::<Plain>(clues, masks, record);
+    written_by::<Engine>(clues, masks, record);
+}
+
+fn written_by<S: Records>(clues: &Clues, masks: &Masks, record: &[u8]) {
+    let mut lent = vec![7; record.len() + 2];
+    assert_eq!(S::write(clues, masks, &mut lent), Ok(record.len() as i64));
+    assert_eq!(lent, [record, &[7, 7]].concat());
+    let mut few = vec![7; record.len() - 1];
+    assert_eq!(S::write(clues, masks, &mut few), stop(6, few.len() as i64));
+    assert!(few.iter().all(|&byte| byte == 7));
+    let mut board = ([7; 81], [7; 81]);
+    assert_eq!(S::read(record, &mut board.0, &mut board.1), Ok(record[0] as i64));
+    assert_eq!(board, (*clues, *masks));
+}
+
+fn refused(record: &[u8], number: i64, detail: i64) {
+    refused_by::<Plain>(record, number, detail);
+    refused_by::<Engine>(record, number, detail);
+}
+
+fn refused_by<S: Records>(record: &[u8], number: i64, detail: i64) {
+    let mut board = ([7; 81], [7; 81]);
+    assert_eq!(S::read(record, &mut board.0, &mut board.1), stop(number, detail), "{record:?}");
+    assert_eq!(board, ([7; 81], [7; 81]), "{record:?}");
+}
+
+#[test]
+fn records_written() {
     let masks = step(2, &p10(), &fresh(&p10())).unwrap().masks;
-    let mut record = [9; 60];
-    let length = plain::write_record(&p10(), &masks, &mut record).unwrap();
-    assert_eq!(length, 3 + 2 * 6 + 2 * 18);
-    assert_eq!(plain::read_record(&record[..length]), Ok((p10(), masks)));
-    assert_eq!(plain::write_record(&p10(), &masks, &mut [0; 50]), stop(6, 50));
+    let clues = [9, 4, 10, 5, 11, 6, 18, 7, 19, 8, 20, 9];
+    let removed: Vec<u8> = (3..9).flat_map(|cell| [cell, 1, cell, 2, cell, 3]).collect();
+    written(&p10(), &masks, &[&[6][..], &clues, &[18, 0], &removed].concat());
+    let removed: Vec<u8> = (0..81).flat_map(|cell| (1..=9).flat_map(move |digit| [cell, digit])).collect();
+    written(&OPEN, &[0; 81], &[&[0, 0xD9, 0x02][..], &removed].concat());
+    let (mut clues, mut masks) = (OPEN, [511; 81]);
+    (clues[0], clues[1]) = (5, 5);
+    (2..9).chain([9, 10, 11, 18, 19, 20]).chain((27..81).step_by(9)).chain((28..81).step_by(9)).for_each(|cell| masks[cell] = 511 - 16);
+    (masks[0], masks[1]) = (16, 16);
+    written(&clues, &masks, &[2, 0, 5, 1, 5, 0, 0]);
+    masks[80] = 255;
+    written(&clues, &masks, &[2, 0, 5, 1, 5, 1, 0, 80, 9]);
+}
+
+/// The board's 3, then its 9, then the lent bytes' 6.
+#[test]
+fn records_not_written() {
+    let (mut clues, mut masks) = (p10(), fresh(&p10()));
+    let refused = |clues: &Clues, masks: &Masks, lent: usize, number: i64, detail: i64| {
+        for write in [Plain::write, Engine::write] {
+            let mut bytes = vec![7; lent];
+            assert_eq!(write(clues, masks, &mut bytes), stop(number, detail));
+            assert!(bytes.iter().all(|&byte| byte == 7));
+        }
+    };
+    refused(&clues, &masks, 14, 6, 14);
+    masks[30] = 512;
+    masks[20] = 0;
+    refused(&clues, &masks, 14, 9, 20);
+    refused(&clues, &masks, 60, 9, 20);
+    clues[80] = 10;
+    refused(&clues, &masks, 14, 3, 80);
+}
+
+#[test]
+fn records_with_bytes_missing_or_left_over() {
+    refused(&[], 7, 0);
+    refused(&[1], 7, 1);
+    refused(&[1, 81], 7, 2); // a cell without its digit is no whole entry
+    refused(&[255], 7, 1);
+    refused(&[0], 7, 1);
+    refused(&[0, 0], 7, 2);
+    refused(&[1, 0, 1], 7, 3);
+    refused(&[1, 0, 1, 0], 7, 4);
+    refused(&[0, 1, 0], 7, 3);
+    refused(&[0, 0, 1], 7, 3);
+    refused(&[0, 1, 0, 81], 7, 4);
+    refused(&[0, 2, 0, 4, 4], 7, 5);
+    refused(&[0, 0, 0, 9], 7, 3);
+    refused(&[0, 0, 0, 0, 0, 0], 7, 3);
+    refused(&[1, 0, 1, 0, 0, 5, 5], 7, 5);
+    refused(&[0, 1, 0, 4, 4, 4], 7, 5);
+}
+
+#[test]
+fn records_with_a_wrong_entry() {
+    for (cell, digit) in [(81, 1), (255, 1), (0, 0), (0, 10), (81, 0)] {
+        refused(&[1, cell, digit, 0, 0], 8, 1);
+        refused(&[0, 1, 0, cell, digit], 8, 3);
+    }
+    refused(&[2, 0, 1, 81, 1, 0, 0], 8, 3);
+    refused(&[2, 4, 1, 3, 2, 0, 0], 8, 3);
+    refused(&[2, 3, 1, 3, 2, 0, 0], 8, 3);
+    refused(&[2, 3, 1, 3, 1, 0, 0], 8, 3);
+    refused(&[0, 2, 0, 5, 1, 4, 9], 8, 5);
+    refused(&[0, 2, 0, 4, 5, 4, 3], 8, 5);
+    refused(&[0, 2, 0, 4, 4, 4, 4], 8, 5);
+    let all: Vec<u8> = (0..81).flat_map(|cell| [cell, 1]).collect();
+    refused(&[&[82][..], &all, &[80, 2, 0, 0]].concat(), 8, 163);
+}
+
+/// The clue 1 in cell 0: cells 1, 72 and 20 of its row, column and box cannot lose a 1, and itself loses nothing.
+#[test]
+fn records_with_a_wrong_removal() {
+    for (cell, digit) in [(1, 1), (72, 1), (20, 1), (0, 1), (0, 2)] {
+        refused(&[1, 0, 1, 1, 0, cell, digit], 9, 5);
+    }
+    refused(&[1, 0, 1, 2, 0, 1, 2, 2, 1], 9, 7);
+}
+
+/// Front to back: in an entry 7, then 8, then 9; and an entry before the next one.
+#[test]
+fn records_with_two_faults() {
+    refused(&[2, 81, 1], 8, 1);
+    refused(&[1, 0, 10, 0], 8, 1);
+    refused(&[1, 0, 1, 2, 0, 9, 2, 1, 1], 8, 7);
+    refused(&[1, 0, 1, 2, 0, 1, 1, 81, 1], 9, 5);
+    refused(&[1, 0, 1, 2, 0, 1, 1], 9, 5);
+    refused(&[1, 0, 1, 1, 0, 1, 1, 1], 9, 5);
 }

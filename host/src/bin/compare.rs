@@ -1,24 +1,29 @@
 //! Compares the engine, the plain implementation and the Rust original.
 //!
-//!     compare --seed N --seconds S [--lists N]
+//!     compare --seed N --seconds S [--lists N] [--records N]
 //!
-//! Runs until the seconds have passed (or, with --lists, until so many lists of ported calls were compared). The status is 0 where no difference
-//! was found; the last line says what was compared and how often. A difference is printed with its smallest case.
+//! Runs until the seconds have passed (or, with --lists, until so many lists of ported calls were compared). With --records so many records
+//! are compared and nothing else. The status is 0 where no difference was found; the last line says what was compared and how often. A
+//! difference is printed with its smallest case.
 
+use std::fmt::Display;
 use std::io::{IsTerminal, Write};
 use std::time::{Duration, Instant};
 
 use sudoku_host::cases::{self, Case};
 use sudoku_host::oracle::{self, SudokuCandidateSet, SudokuSolver};
 use sudoku_host::random::Random;
-use sudoku_host::shrink::shrunk;
+use sudoku_host::record_cases as records;
+use sudoku_host::shrink::{shrunk, Smaller};
 use sudoku_host::sides::{Engine, Original, Plain, Side, CHAIN, PORTED};
+use sudoku_host::text_cases as texts;
 use sudoku_host::{digits, grids, plain, read, set, verify, Clues, SetAnswer, SetCall, Stop};
 
 struct Options {
     seed: u64,
     seconds: u64,
     lists: u64,
+    records: Option<u64>,
 }
 
 #[derive(Default)]
@@ -32,18 +37,24 @@ struct Counts {
     damaged: u64,
     runs: u64,
     pairs: u64,
+    records: u64,
+    bytes: u64,
+    written: u64,
+    cards: u64,
 }
 
 impl std::fmt::Display for Counts {
     fn fmt(&self, out: &mut std::fmt::Formatter) -> std::fmt::Result {
-        let Counts { sets, grids, texts, lists, calls, boards, damaged, runs, pairs } = self;
+        let Counts { sets, grids, texts, lists, calls, boards, damaged, runs, pairs, records, bytes, written, cards } = self;
         write!(out, "{sets} set calls, {grids} filled grids, {texts} texts, {lists} lists of {calls} ported calls, ")?;
-        write!(out, "{boards} boards through the wide passes, {damaged} damaged boards, {runs} runs of lists, {pairs} pairs of lists settled")
+        write!(out, "{boards} boards through the wide passes, {damaged} damaged boards, {runs} runs of lists, {pairs} pairs of lists settled, ")?;
+        write!(out, "{records} boards written as records and read back, {bytes} damaged and random records read, ")?;
+        write!(out, "{written} texts written, {cards} cards")
     }
 }
 
 fn options() -> Options {
-    let mut found = Options { seed: 1, seconds: 60, lists: u64::MAX };
+    let mut found = Options { seed: 1, seconds: 60, lists: u64::MAX, records: None };
     let words: Vec<String> = std::env::args().skip(1).collect();
     for pair in words.chunks(2) {
         let number = pair.get(1).and_then(|word| word.parse().ok());
@@ -51,6 +62,7 @@ fn options() -> Options {
             ("--seed", Some(number)) => found.seed = number,
             ("--seconds", Some(number)) => found.seconds = number,
             ("--lists", Some(number)) => found.lists = number,
+            ("--records", Some(number)) => found.records = Some(number),
             _ => usage(),
         }
     }
@@ -58,7 +70,7 @@ fn options() -> Options {
 }
 
 fn usage() -> ! {
-    eprintln!("compare --seed N --seconds S [--lists N]");
+    eprintln!("compare --seed N --seconds S [--lists N] [--records N]");
     std::process::exit(2)
 }
 
@@ -77,26 +89,40 @@ fn main() {
 
 fn run(options: &Options, counts: &mut Counts) -> Result<(), String> {
     let end = Instant::now() + Duration::from_secs(options.seconds);
-    all_sets(counts)?;
-    published(counts)?;
+    if options.records.is_none() {
+        all_sets(counts)?;
+        published(counts)?;
+    }
     let mut progress = Progress::new();
     let mut round = 0;
-    while Instant::now() < end && counts.lists < options.lists {
+    while Instant::now() < end && counts.lists < options.lists && counts.records < options.records.unwrap_or(u64::MAX) {
         let mut random = Random::of_case(options.seed, round);
-        some_grids(&mut random, counts)?;
-        some_texts(&mut random, counts)?;
-        a_list(&cases::ported_case(&mut random), counts)?;
-        a_damaged_board(&mut random, counts)?;
-        match round % 4 {
-            0 | 2 => a_wide_board(&mut random, counts)?,
-            1 => two_lists(&mut random, counts)?,
-            _ => a_run(&mut random, counts)?,
+        match options.records {
+            Some(_) => a_record(&mut random, counts)?,
+            None => a_round(round, &mut random, counts)?,
         }
         round += 1;
         progress.show(counts);
     }
     progress.clear();
     Ok(())
+}
+
+fn a_round(round: u64, random: &mut Random, counts: &mut Counts) -> Result<(), String> {
+    some_grids(random, counts)?;
+    some_texts(random, counts)?;
+    a_list(&cases::ported_case(random), counts)?;
+    a_damaged_board(random, counts)?;
+    match round % 4 {
+        0 | 2 => a_wide_board(random, counts)?,
+        1 => two_lists(random, counts)?,
+        _ => a_run(random, counts)?,
+    }
+    match round % 4 {
+        0 => a_written_text(random, counts),
+        2 => a_card(random, counts),
+        _ => a_record(random, counts),
+    }
 }
 
 // ---- the candidate set
@@ -262,7 +288,33 @@ fn two_lists(random: &mut Random, counts: &mut Counts) -> Result<(), String> {
     sound(&case, "demand 3 on the engine", &|case| cases::unsound::<Engine>(case, filling.as_ref()))
 }
 
-fn sound(case: &Case, what: &str, fault: &dyn Fn(&Case) -> Option<String>) -> Result<(), String> {
+// ---- what is written, and read from it
+
+/// A board written as a record and read back; that record damaged, and other bytes.
+fn a_record(random: &mut Random, counts: &mut Counts) -> Result<(), String> {
+    let case = records::board_case(random);
+    let record = records::record(&case);
+    counts.records += 1;
+    sound(&case, "a record written, engine and plain", &records::written_differs::<Engine, Plain>)?;
+    sound(&case, "a board written and read", &records::returned_differs::<Engine>)?;
+    sound(&record, "a record read, engine and plain", &records::read_differs::<Engine, Plain>)?;
+    let mut others: Vec<_> = (0..4).map(|_| records::damaged(random, &record)).collect();
+    others.push(records::loose(random));
+    counts.bytes += others.len() as u64;
+    others.iter().try_for_each(|bytes| sound(bytes, "a record read, engine and plain", &records::read_differs::<Engine, Plain>))
+}
+
+fn a_written_text(random: &mut Random, counts: &mut Counts) -> Result<(), String> {
+    counts.written += texts::LENGTHS.count() as u64;
+    sound(&texts::text_case(random), "a text written, engine and plain", &texts::text_differs)
+}
+
+fn a_card(random: &mut Random, counts: &mut Counts) -> Result<(), String> {
+    counts.cards += 1;
+    sound(&texts::input(random), "a card, engine and plain", &texts::card_differs)
+}
+
+fn sound<T: Smaller + Display>(case: &T, what: &str, fault: &dyn Fn(&T) -> Option<String>) -> Result<(), String> {
     if fault(case).is_none() {
         return Ok(());
     }

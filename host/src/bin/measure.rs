@@ -2,7 +2,7 @@
 //!
 //!     measure SIDE CALL ROUNDS
 //!
-//! SIDE is original, plain or engine; CALL a step number, 255 for no step, or one of `verify`, `read`, `open`, `count` and `setN`
+//! SIDE is original, plain or engine; CALL a step number, 255 for no step, or one of `verify`, `read`, `open`, `count`, `record`, `card` and `setN`
 //! (0 insert, 1 remove, 2 contains, 3 len, 4 single_candidate). A round is 64 boards. What a call costs is the difference of two runs,
 //! divided by the difference of their calls; for a step also less what making the board costs, which 255 has alone:
 //!
@@ -13,7 +13,7 @@ use std::hint::black_box;
 use sudoku_host::oracle::{self, SudokuCandidateSet, SudokuSolver};
 use sudoku_host::random::Random;
 use sudoku_host::sides::{Original, Plain, Side};
-use sudoku_host::{clue_count, grids, open, plain, read, set, step, verify, Clues, Masks, SetCall};
+use sudoku_host::{card, clue_count, grids, open, plain, read, read_record, records, set, step, verify, write_record, Clues, Masks, SetCall};
 
 const BOARDS: usize = 64;
 
@@ -27,6 +27,8 @@ fn main() {
         (_, "read") => reading(side, &mut random, rounds),
         (_, "open") => opening(side, &mut random, rounds),
         (_, "count") => counting(side, &mut random, rounds),
+        ("plain" | "engine", "record") => recording(side, &mut random, rounds),
+        ("plain" | "engine", "card") => carding(side, &mut random, rounds),
         (_, call) if call.starts_with("set") => setting(side, call[3..].parse().unwrap_or_else(|_| usage()), rounds),
         ("original", step) => stepping::<Original>(&mut random, number(step), rounds),
         ("plain", step) => stepping::<Plain>(&mut random, number(step), rounds),
@@ -36,7 +38,7 @@ fn main() {
 }
 
 fn usage() -> ! {
-    eprintln!("measure original|plain|engine STEP|verify|read|open|count|setN ROUNDS");
+    eprintln!("measure original|plain|engine STEP|verify|read|open|count|record|card|setN ROUNDS");
     std::process::exit(2)
 }
 
@@ -134,6 +136,37 @@ fn counting(side: &str, random: &mut Random, rounds: usize) {
             match side {
                 "engine" => drop(black_box(clue_count(black_box(&clues), &masks))),
                 _ => drop(black_box(black_box(&solver).clue_count())),
+            }
+        }
+    }
+}
+
+/// A record written and read again; the original has none.
+fn recording(side: &str, random: &mut Random, rounds: usize) {
+    let mut bytes = [0; 2919];
+    let (mut clues_read, mut masks_read) = ([0; 81], [0; 81]);
+    for (clues, masks) in boards(random) {
+        for _ in 0..rounds {
+            if side == "engine" {
+                let length = write_record(black_box(&clues), &masks, &mut bytes).unwrap() as usize;
+                black_box(read_record(black_box(&bytes[..length]), &mut clues_read, &mut masks_read)).ok();
+            } else {
+                let length = records::write(black_box(&clues), &masks, &mut bytes).unwrap();
+                black_box(records::read(black_box(&bytes[..length]))).ok();
+            }
+        }
+    }
+}
+
+/// The card of a text; the original has none.
+fn carding(side: &str, random: &mut Random, rounds: usize) {
+    let mut bytes = [0; 256];
+    for (clues, _) in boards(random) {
+        let text = clues.map(|clue| clue.to_string()).concat();
+        for _ in 0..rounds {
+            match side {
+                "engine" => drop(black_box(card(black_box(text.as_bytes()), &mut bytes))),
+                _ => drop(black_box(plain::card(black_box(text.as_bytes())))),
             }
         }
     }
