@@ -46,7 +46,7 @@ for crate; do
         refused=$((refused + 1))
         sed "s|$copy/||g" "$copy/.log" >"$log"
         echo "$crate/$name: refused at $(places "$log")"
-        if grep -Eq 'error: .*(not in scope|that can be named from here|type has [0-9]+ components|has no field|expected type `tie\.Need)' "$log"; then
+        if grep -Eq 'error: .*(not in scope|that can be named from here|this pattern needs a function|type has [0-9]+ components|has no field|expected type `tie\.Need)' "$log"; then
             unfit=$((unfit + 1))
             echo "$crate/$name: THE PROOF'S TEXT NO LONGER FITS: find another edit"
         fi
