@@ -2,19 +2,18 @@
 use mathlib.Core.Path.{_≡_, refl, sym, ap, _∙_, subst}
 use mathlib.Core.Bool.{true, false, cond}
 use mathlib.Core.Logic.{_≢_}
-use Prim.Native.Nat.{ℕ, zero, suc, _+_, _-_, _*_, _/_, _%_, _^_, _≤_, _<_, min}
+use Prim.Native.Nat.{ℕ, zero, suc, _+_, _-_, _*_, _/_, _%_, _^_, _≤_, _<_}
 use native.Mathlib.Nat.{le-refl, pow-suc, not-suc-le-zero, add-zero, zero-add}
 use native.Mathlib.Numerals.{add-one}
 use native.Mathlib.Decide.{decLt}
 use native.Mathlib.Omega.{arith}
-use borrow.Author.Tests.{lt-ltb}
 use lib.Arith.{bin-ind}
 use lib.Bits.{bitAnd, and-step, and-self, and-zero-r}
 use lib.Count.{ones, ones-step, ones-cat, trailingZeros, trailing-le, under}
-use lib.Dec.{eqb, ltb}
+use lib.Dec.{eqb}
 use lib.Pow.{pow-pos, shr-shr}
 use Rattle.candidates.specs.Masks.{bit, has, minus, count, single, firstPlace, lowest, tail, Sub}
-use Rattle.candidates.proofs.Membership.{bit-and, bit-minus, bit-none, bit-power, minus-half, minus-low, ext}
+use Rattle.candidates.proofs.Membership.{and-low, bit-and, bit-minus, bit-none, bit-power, single-power, minus-half, minus-low, ext}
 use Rattle.candidates.proofs.Order.{sub-le, sub-of-and}
 use Rattle.candidates.proofs.Tests.{by-test, cond-true, cond-false, eqb-iff}
 
@@ -35,9 +34,6 @@ count-minus =
 
     and-half : (x k : ℕ) → bitAnd x k / 2 ≡ bitAnd (x / 2) (k / 2)
     and-half x k = omega (arith, and-step x k)
-
-    and-low : (x k : ℕ) → bitAnd x k % 2 ≡ min (x % 2) (k % 2)
-    and-low x k = omega (arith, and-step x k)
 
     step : (x k : ℕ) → count (minus (x / 2) (k / 2)) + count (bitAnd (x / 2) (k / 2)) ≡ count (x / 2) → count (minus x k) + count (bitAnd x k) ≡ count x
     step x k ih =
@@ -183,7 +179,7 @@ pub lowest-lt : (x : ℕ) → 0 < x → x < 2 ^ 16 → lowest x < 16
 lowest-lt x p h = lowest-cleared x p h .within
 
 single-lowest : (x : ℕ) → 0 < x → x < 2 ^ 16 → single (lowest x) ≡ 2 ^ lowest x
-single-lowest x p h = cond-true (ltb (lowest x) 16) (2 ^ lowest x) 0 (lt-ltb (lowest x) 16 (lowest-lt x p h))
+single-lowest x p h = single-power (lowest x) (lowest-lt x p h)
 
 lowest-held : (x : ℕ) → 0 < x → x < 2 ^ 16 → bitAnd x (single (lowest x)) ≡ 2 ^ lowest x
 lowest-held x p h = ap (bitAnd x) (single-lowest x p h) ∙ lowest-cleared x p h .held

@@ -5,8 +5,10 @@ use mathlib.Core.Bool.{Bool, true, false, cond, true≢false}
 use Prim.Native.Nat.{ℕ, zero, suc, _+_, _^_, _≤_, _<_}
 use native.Mathlib.Decide.{ℕ-discrete}
 use native.Mathlib.Omega.{arith}
-use Rattle.candidates.specs.Masks.{has, minus, union, count, firstPlace, lowest, tail}
-use Rattle.candidates.proofs.Counts.{count-minus, count-zero, count-some, count-power, sub-and, lowest-le, lowest-lt, tail-rest}
+use borrow.Author.Tests.{eq-eqb}
+use lib.Arith.{lt-of-le-ne}
+use Rattle.candidates.specs.Masks.{bit, has, minus, union, count, firstPlace, lowest, tail}
+use Rattle.candidates.proofs.Counts.{count-minus, count-zero, count-some, count-power, sub-and, lowest-le, bit-lowest, tail-rest, count-tail}
 use Rattle.candidates.proofs.Held.{Held, held-ext, none-held, held-power, held-minus, held-union, held-both, power-sub}
 
 -- d and no other
@@ -32,21 +34,7 @@ count-without x a t = omega (arith, count-minus x (2 ^ a), ap count (sub-and (po
 
 -- ---- the lowest digit
 
--- the first place from d on is held, if it is short of the end
-first-held : (n d x : ℕ) → firstPlace n d x < d + n → Held x (firstPlace n d x)
-unfolding firstPlace
-first-held zero d x h = absurd (omega arith)
-first-held (suc n) d x h = go (has x d) refl h (λ k. first-held n (suc d) x k)
-  where
-    go : (t : Bool) → has x d ≡ t → cond (has x d) d (firstPlace n (suc d) x) < d + suc n
-        → (firstPlace n (suc d) x < suc d + n → Held x (firstPlace n (suc d) x)) → Held x (cond (has x d) d (firstPlace n (suc d) x))
-    go true e h ih = rw e e
-    go false e h ih = rw e (ih (next (rw e at h)))
-      where
-        next : firstPlace n (suc d) x < d + suc n → firstPlace n (suc d) x < suc d + n
-        next k = omega arith
-
--- nothing before it is held
+-- nothing before the first place from d on is held
 first-least : (n d x k : ℕ) → d ≤ k → Held x k → firstPlace n d x ≤ k ⊎ (d + n ≤ k)
 unfolding firstPlace
 first-least zero d x k h t = inr (omega arith)
@@ -60,12 +48,15 @@ first-least (suc n) d x k h t = go (has x d) refl (ℕ-discrete k d) (λ l. firs
 pub lowest-least : (x d : ℕ) → Held x d → lowest x ≤ d
 lowest-least x d t = ⊎-elim (λ l. l) (λ l. omega (arith, lowest-le x)) (first-least 16 0 x d (omega arith) t)
 
+pub lowest-in : (x : ℕ) → 0 < x → x < 2 ^ 16 → Held x (lowest x)
+lowest-in x p h = eq-eqb (bit x (lowest x)) 1 (bit-lowest x p h)
+
 module _ (x : ℕ) (small : x < 2 ^ 16) (some : 0 < count x) where
   pos : 0 < x
   pos = count-some x some
 
   pub lowest-held : Held x (lowest x)
-  lowest-held = first-held 16 0 x (lowest-lt x pos small)
+  lowest-held = lowest-in x pos small
 
   pub held-tail : (d : ℕ) → Held (tail x) d ↔ (Held x d × (d ≢ lowest x))
   held-tail d = rw (tail-rest x pos small) (λ t. down (held-minus x (2 ^ lowest x) d .0 t), λ p. held-minus x (2 ^ lowest x) d .1 (p .0, λ t. p .1 (held-power (lowest x) d .0 t)))
@@ -74,7 +65,7 @@ module _ (x : ℕ) (small : x < 2 ^ 16) (some : 0 < count x) where
       down p = (p .0, λ e. p .1 (held-power (lowest x) d .1 e))
 
   pub tail-count : count (tail x) + 1 ≡ count x
-  tail-count = ap (λ (k : ℕ). count k + 1) (tail-rest x pos small) ∙ count-without x (lowest x) lowest-held
+  tail-count = count-tail x pos small
 
   pub tail-small : tail x < 2 ^ 16
   tail-small = omega arith
@@ -85,17 +76,25 @@ pub one-count : {x d : ℕ} → One x d → count x ≡ 1
 one-count {x} {d} o = ap count (held-ext x (2 ^ d) (λ e. (λ t. held-power d e .1 (o .alone e t), λ t. subst (λ (k : ℕ). Held x k) (sym (held-power d e .0 t)) (o .held)))) ∙ count-power d
 
 pub count-one : (x : ℕ) → x < 2 ^ 16 → count x ≡ 1 → One x (lowest x)
-count-one x h e = record { held = held; alone = λ d t. alone d t (ℕ-discrete d (lowest x)) }
+count-one x h e = record { held = lowest-held x h (omega arith); alone = λ d t. alone d t (ℕ-discrete d (lowest x)) }
   where
-    held : Held x (lowest x)
-    held = lowest-held x h (omega arith)
-
     rest : tail x ≡ 0
     rest = count-zero (tail x) (omega (arith, tail-count x h (omega arith)))
 
     alone : (d : ℕ) → Held x d → Dec (d ≡ lowest x) → d ≡ lowest x
     alone d t (yes p) = p
     alone d t (no n) = absurd (none-held d (subst (λ (k : ℕ). Held k d) rest (held-tail x h (omega arith) d .1 (t, n))))
+
+-- ---- two digits or more
+
+pub more-count : {x a b : ℕ} → More x a b → 2 ≤ count x
+more-count {x} {a} {b} w = omega (arith, count-without x a (w .held₁), count-without (minus x (2 ^ a)) b (held-minus x (2 ^ a) b .1 (w .held₂, λ t. w .apart (sym (held-power a b .0 t)))))
+
+pub count-more : (x : ℕ) → x < 2 ^ 16 → 2 ≤ count x → More x (lowest x) (lowest (tail x))
+count-more x h l = record { apart = λ p. snd .1 (sym p); held₁ = lowest-held x h (omega arith); held₂ = snd .0 }
+  where
+    snd : Held x (lowest (tail x)) × (lowest (tail x) ≢ lowest x)
+    snd = held-tail x h (omega arith) (lowest (tail x)) .0 (lowest-held (tail x) (tail-small x h (omega arith)) (omega (arith, tail-count x h (omega arith))))
 
 -- ---- two digits
 
@@ -114,19 +113,16 @@ two-count {x} {a} {b} w = omega (arith, count-without x a (w .held a .1 (inl ref
     }
 
 pub count-two : (x : ℕ) → x < 2 ^ 16 → count x ≡ 2 → Two x (lowest x) (lowest (tail x))
-count-two x h e = record { apart = λ p. snd .1 (sym p); held = λ d. (λ t. down d t (ℕ-discrete d (lowest x)), λ p. ⊎-elim (λ q. up d (lowest x) q low) (λ q. up d (lowest (tail x)) q (snd .0)) p) }
+count-two x h e = record { apart = two .apart; held = λ d. (λ t. down d t (ℕ-discrete d (lowest x)), λ p. ⊎-elim (λ q. up d (lowest x) q (two .held₁)) (λ q. up d (lowest (tail x)) q (two .held₂)) p) }
   where
-    low : Held x (lowest x)
-    low = lowest-held x h (omega arith)
+    two : More x (lowest x) (lowest (tail x))
+    two = count-more x h (omega arith)
 
     up : (d k : ℕ) → d ≡ k → Held x k → Held x d
     up d k q t = rw q t
 
     rest : One (tail x) (lowest (tail x))
     rest = count-one (tail x) (tail-small x h (omega arith)) (omega (arith, tail-count x h (omega arith)))
-
-    snd : Held x (lowest (tail x)) × (lowest (tail x) ≢ lowest x)
-    snd = held-tail x h (omega arith) (lowest (tail x)) .0 (rest .held)
 
     down : (d : ℕ) → Held x d → Dec (d ≡ lowest x) → (d ≡ lowest x) ⊎ (d ≡ lowest (tail x))
     down d t (yes p) = inl p
@@ -145,24 +141,10 @@ two-same {x} {a} {b} {c} {e} v w = go (w .held a .0 (v .held a .1 (inl refl))) (
     go (inr p) (inl q) = inr (p, q)
     go (inr p) (inr q) = absurd (v .apart (p ∙ sym q))
 
--- ---- two digits or more
-
-pub more-count : {x a b : ℕ} → More x a b → 2 ≤ count x
-more-count {x} {a} {b} w = omega (arith, count-without x a (w .held₁), count-without (minus x (2 ^ a)) b (held-minus x (2 ^ a) b .1 (w .held₂, λ t. w .apart (sym (held-power a b .0 t)))))
-
-pub count-more : (x : ℕ) → x < 2 ^ 16 → 2 ≤ count x → More x (lowest x) (lowest (tail x))
-count-more x h l = record { apart = λ p. snd .1 (sym p); held₁ = lowest-held x h (omega arith); held₂ = snd .0 }
-  where
-    snd : Held x (lowest (tail x)) × (lowest (tail x) ≢ lowest x)
-    snd = held-tail x h (omega arith) (lowest (tail x)) .0 (lowest-held (tail x) (tail-small x h (omega arith)) (omega (arith, tail-count x h (omega arith))))
-
 pub lowest-rises : (x : ℕ) → x < 2 ^ 16 → 2 ≤ count x → lowest x < lowest (tail x)
 lowest-rises x h l =
     let w = count-more x h l in
-    go (lowest x) (lowest (tail x)) (w .apart) (lowest-least x (lowest (tail x)) (w .held₂))
-  where
-    go : (a b : ℕ) → a ≢ b → a ≤ b → a < b
-    go a b n k = omega arith
+    lt-of-le-ne (lowest-least x (lowest (tail x)) (w .held₂)) (w .apart)
 
 -- two digits as a union, the lower first
 pub record Pair (x : ℕ) : Type 0 where

@@ -7,9 +7,9 @@ use native.Mathlib.Decide.{ℕ-discrete, decLt}
 use native.Mathlib.Omega.{arith}
 use borrow.Author.Tests.{eq-eqb, eqb-true}
 use lib.Dec.{eqb, lit≤}
-use Rattle.candidates.specs.Masks.{bit, has, minus, union, Sub}
-use Rattle.candidates.proofs.Membership.{bit-power, bit-other, bit-minus, bit-union, bit-none, bit-high, ext}
-use Rattle.candidates.proofs.Tests.{bool-iff}
+use Rattle.candidates.specs.Masks.{bit, has, minus, union, gather, Sub}
+use Rattle.candidates.proofs.Membership.{bit-power, bit-other, bit-minus, bit-union, bit-none, bit-all, bit-high, bit-gather, ext}
+use Rattle.candidates.proofs.Tests.{bool-iff, either}
 
 abbrev pub Held : ℕ → ℕ → Type 0
 Held x d = has x d ≡ true
@@ -30,10 +30,12 @@ has-of : (x y z d : ℕ) (f : ℕ → ℕ → ℕ) (h : Bool → Bool → Bool) 
 has-of x y z d f h table e =
     ap (λ (b : ℕ). eqb b 1) (e ∙ ap (λ (b : ℕ). f b (bit y d)) (bit-has x d) ∙ ap (f (cond (has x d) 1 0)) (bit-has y d)) ∙ table (has x d) (has y d)
 
+pub bit-same : (x y d : ℕ) → has x d ≡ has y d → bit x d ≡ bit y d
+bit-same x y d e = bit-has x d ∙ ap {B = ℕ} (λ (b : Bool). cond b 1 0) e ∙ sym (bit-has y d)
+
 -- masks that hold the same digits are the same
 pub held-ext : (x y : ℕ) → ((d : ℕ) → Held x d ↔ Held y d) → x ≡ y
-held-ext x y h =
-    ext x y (λ d. bit-has x d ∙ ap {B = ℕ} (λ (b : Bool). cond b 1 0) (bool-iff (has x d) (has y d) (h d .0) (h d .1)) ∙ sym (bit-has y d))
+held-ext x y h = ext x y (λ d. bit-same x y d (bool-iff (has x d) (has y d) (h d .0) (h d .1)))
 
 pub sub-held : (x y : ℕ) → ((d : ℕ) → Held x d → Held y d) → Sub x y
 sub-held x y h = record { at = λ d. rw (bit-has x d, bit-has y d) (go (has x d) (has y d) (h d)) }
@@ -43,6 +45,9 @@ sub-held x y h = record { at = λ d. rw (bit-has x d, bit-has y d) (go (has x d)
     go true false f = absurd (true≢false (sym (f refl)))
     go false true f = lit≤ tt
     go false false f = lit≤ tt
+
+pub held-sub : {x y : ℕ} (d : ℕ) → Sub x y → Held x d → Held y d
+held-sub {x} {y} d s t = eq-eqb (bit y d) 1 (omega (arith, s .at d, eqb-true (bit x d) 1 t))
 
 -- ---- no digit, one digit, n digits
 
@@ -59,6 +64,9 @@ held-below x n d h t = go (decLt d n)
       where
         clash : (b : ℕ) → b ≡ 0 → b ≡ 1 → ⊥
         clash b p q = omega arith
+
+pub held-all : (d : ℕ) → d < 9 → Held 511 d
+held-all d h = eq-eqb (bit 511 d) 1 (bit-all d h)
 
 pub held-power : (a d : ℕ) → Held (2 ^ a) d ↔ (d ≡ a)
 held-power a d = (λ t. same (ℕ-discrete a d) t, λ e. rw e (eq-eqb (bit (2 ^ a) a) 1 (bit-power a)))
@@ -96,11 +104,15 @@ has-union x y d = has-of x y (union x y) d max _||_ table (bit-union x y d)
     table false false = refl
 
 pub held-union : (x y d : ℕ) → Held (union x y) d ↔ (Held x d ⊎ Held y d)
-held-union x y d = subst (λ (t : Bool). (t ≡ true) ↔ (Held x d ⊎ Held y d)) (sym (has-union x y d)) (go (has x d) (has y d))
+held-union x y d = subst (λ (t : Bool). (t ≡ true) ↔ (Held x d ⊎ Held y d)) (sym (has-union x y d)) (either (has x d) (has y d))
+
+-- the places that pass a test
+pub has-gather : (f : ℕ → Bool) (n i : ℕ) → i < n → has (gather f n) i ≡ f i
+has-gather f n i h = ap (λ (b : ℕ). eqb b 1) (bit-gather f n i h) ∙ go (f i)
   where
-    go : (a b : Bool) → ((a || b) ≡ true) ↔ ((a ≡ true) ⊎ (b ≡ true))
-    go true b = (λ t. inl refl, λ w. refl)
-    go false b = (λ t. inr t, ⊎-elim (λ t. absurd (true≢false (sym t))) (λ t. t))
+    go : (b : Bool) → eqb (cond b 1 0) 1 ≡ b
+    go true = refl
+    go false = refl
 
 -- a and b alone
 pub held-both : (a b d : ℕ) → Held (union (2 ^ a) (2 ^ b)) d → (d ≡ a) ⊎ (d ≡ b)
@@ -111,4 +123,4 @@ pub power-sub : (x a : ℕ) → Held x a → Sub (2 ^ a) x
 power-sub x a t = sub-held (2 ^ a) x (λ d s. subst (λ (k : ℕ). Held x k) (sym (held-power a d .0 s)) t)
 
 pub sub-power : (x a : ℕ) → Sub (2 ^ a) x → Held x a
-sub-power x a s = eq-eqb (bit x a) 1 (omega (arith, s .at a, bit-power a))
+sub-power x a s = held-sub a s (held-power a a .1 refl)

@@ -1,4 +1,5 @@
 pub mod Tests
+pub mod Answers
 pub mod Membership
 pub mod Order
 pub mod Counts
@@ -6,6 +7,6 @@ pub mod Held
 pub mod FewDigits
 pub mod Only
 pub mod Sets
-mod Places
+pub mod Places
 mod Methods
 mod Lends

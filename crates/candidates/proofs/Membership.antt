@@ -25,7 +25,7 @@ bit-suc x d = ap (λ (n : ℕ). n % 2) (ap (λ (k : ℕ). x / 2 ^ k) (sym (one-a
 
 -- ---- both, either, without
 
-and-low : (a b : ℕ) → bitAnd a b % 2 ≡ min (a % 2) (b % 2)
+pub and-low : (a b : ℕ) → bitAnd a b % 2 ≡ min (a % 2) (b % 2)
 and-low a b = omega (arith, and-step a b)
 
 or-low : (a b : ℕ) → bitOr a b % 2 ≡ max (a % 2) (b % 2)
@@ -136,7 +136,7 @@ bit-gather f (suc n) d h = go (f n) refl (ℕ-discrete d n) (λ k. bit-gather f 
 pub gather-here : (f : ℕ → Bool) (n : ℕ) → n < 16 → f n ≡ true → union (gather f n) (single n) ≡ gather f (n + 1)
 unfolding gather
 gather-here f n h t =
-    ap (union (gather f n)) (cond-true (ltb n 16) (2 ^ n) 0 (lt-ltb n 16 h)) ∙ join (gather f n) (gather-lt f n)
+    ap (union (gather f n)) (single-power n h) ∙ join (gather f n) (gather-lt f n)
     ∙ sym (ap (gather f) (add-one n) ∙ ap (λ (b : Bool). gather f n + cond b (2 ^ n) 0) t)
   where
     join : (x : ℕ) → x < 2 ^ n → union x (2 ^ n) ≡ x + 2 ^ n

@@ -10,8 +10,9 @@ use borrow.Author.Tests.{eqb-true, eqb-false}
 use lib.Dec.{T, eqb, lit<}
 use lib.IntN.{ℤ, pos, natAbs}
 use lib.Signed.{nonNeg}
-use mir.Syntax.{w8}
-use mir.Val.{Fits}
+use mir.Syntax.{w8, w32}
+use mir.Val.{Fits, SFits, toZ, ofZ}
+use mir.Facts.{toZ-ofZ}
 use Rattle.candidates.specs.Masks.{nine, count, lowest}
 use Rattle.candidates.specs.Sets.{onlyOf}
 use Rattle.candidates.proofs.FewDigits.{One, one-count, count-one}
@@ -54,6 +55,10 @@ module _ (m : ℕ) where
       go : (o : Option ℤ) → Says m o → One (nine m) d → o ≡ some (pos (suc d))
       go (some z) w o = ap some (w .digit ∙ ap (λ (k : ℕ). pos (suc k)) (o .alone (w .place) (w .one .held)))
       go none w o = absurd (w (one-count o))
+
+-- a caller reads the digit that was handed back
+pub digit-read : {m : ℕ} {z : ℤ} → Only m z → toZ w32 (ofZ w32 z) ≡ z
+digit-read w = toZ-ofZ (subst (SFits w32) (sym (w .digit)) (record { sfits = omega (arith, w .below) }))
 
 -- a caller that casts the digit loses nothing; y is the digit as the cast reads it
 pub digit-fits : {m : ℕ} {z y : ℤ} → Only m z → y ≡ z → T (nonNeg y) × Fits w8 (natAbs y)

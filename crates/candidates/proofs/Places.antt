@@ -34,6 +34,10 @@ digit (pos zero) l h = absurd (true≢false l)
 digit (pos (suc n)) l h = record { positive = tt; some = omega arith; placed = omega (arith, ltb-false 9 (suc n) h) }
 digit (negsuc n) l h = absurd (true≢false l)
 
+pub place-pos : (n : ℕ) → 1 ≤ n → n ≤ 9 → place (pos n) ≡ n - 1
+place-pos zero h k = absurd (omega arith)
+place-pos (suc n) h k = omega arith
+
 -- ---- which answer a call gives, by the place p that `place_of` found for the bits of z
 
 found : (z : ℤ) (p : ℕ) → SFits w32 z → p ≡ place (toZ w32 (ofZ w32 z)) → p ≡ place z

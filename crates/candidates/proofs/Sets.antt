@@ -8,30 +8,19 @@ use native.Mathlib.Nat.{mod-lt}
 use native.Mathlib.Decide.{decLt}
 use native.Mathlib.Numerals.{add-one}
 use native.Mathlib.Omega.{arith}
-use borrow.Author.Tests.{lt-ltb, le-ltb, eqb-true, eqb-false, eq-eqb, ne-eqb}
+use borrow.Author.Tests.{lt-ltb, le-ltb}
 use lib.Dec.{ltb, lit<}
 use lib.IntN.{ℤ, pos}
-use Rattle.candidates.specs.Answer.{Answer, gives, stop}
+use Rattle.candidates.specs.Answer.{gives, stop}
 use Rattle.candidates.specs.Masks.{bit, has, nine, firstPlace}
 use Rattle.candidates.specs.Sets.{containsOf, nextAt, nextOf, after, digitsFrom, drained}
+use Rattle.candidates.proofs.Answers.{gives-same}
+use Rattle.candidates.proofs.Held.{bit-same}
 use Rattle.candidates.proofs.Membership.{bit-high, ext}
 use Rattle.candidates.proofs.Counts.{first-hit, first-miss, first-end, first-ge}
 use Rattle.candidates.proofs.Tests.{cond-true, cond-false}
 
 -- ---- "Equal sets have equal masks"
-
-has-same : (x y d : ℕ) → has x d ≡ has y d → bit x d ≡ bit y d
-has-same x y d e = go (bit x d) refl
-  where
-    go : (b : ℕ) → bit x d ≡ b → bit x d ≡ bit y d
-    go zero h =
-        let n : bit y d ≡ 1 → ⊥ = eqb-false (bit y d) 1 (sym e ∙ ne-eqb (bit x d) 1 (omega arith)) in
-        omega arith
-    go (suc zero) h = h ∙ sym (eqb-true (bit y d) 1 (sym e ∙ eq-eqb (bit x d) 1 h))
-    go (suc (suc b)) h = absurd (omega (arith, h))
-
-gives-same : (a b : Bool) → _≡_ {A = Answer Bool} (gives a) (gives b) → a ≡ b
-gives-same a b e = cc
 
 contains-at : (x d : ℕ) → d < 9 → containsOf x (pos (suc d)) ≡ gives (has (nine x) d)
 contains-at x d k =
@@ -44,8 +33,7 @@ equal-sets x y h = ext (nine x) (nine y) (λ d. go d (decLt d 9))
   where
     go : (d : ℕ) → Dec (d < 9) → bit (nine x) d ≡ bit (nine y) d
     go d (yes k) =
-        has-same (nine x) (nine y) d
-        (gives-same (has (nine x) d) (has (nine y) d) (sym (contains-at x d k) ∙ h (pos (suc d)) ∙ contains-at y d k))
+        bit-same (nine x) (nine y) d (gives-same (sym (contains-at x d k) ∙ h (pos (suc d)) ∙ contains-at y d k))
     go d (no k) =
         bit-high (nine x) 9 d (mod-lt x (lit< tt)) (omega arith) ∙ sym (bit-high (nine y) 9 d (mod-lt y (lit< tt)) (omega arith))
 

@@ -1,10 +1,12 @@
 -- A fact about each number below a bound, by one test that the checker computes; which case a test picks; what tests on truth values say. Assumes nothing.
 use mathlib.Core.Path.{_≡_, refl, sym, subst, _∙_}
-use mathlib.Core.Bool.{Bool, true, false, cond, _&&_, false≢true}
-use Prim.Native.Nat.{ℕ, zero, suc, _<_}
+use mathlib.Core.Logic.{_⊎_, _↔_, inl, inr, ⊎-elim}
+use mathlib.Core.Bool.{Bool, true, false, cond, not, _&&_, _||_, true≢false, false≢true}
+use Prim.Native.Nat.{ℕ, zero, suc, _≤_, _<_}
 use native.Mathlib.Nat.{not-suc-le-zero}
 use native.Mathlib.Omega.{arith}
 use borrow.Author.Tests.{eqb-true, eq-eqb, ne-eqb}
+use lib.Arith.{lt-of-le-ne}
 use lib.Dec.{T, eqb}
 use native.Mathlib.Decide.{ℕ-discrete}
 
@@ -66,6 +68,18 @@ pub both-right : (a b : Bool) → (a && b) ≡ true → b ≡ true
 both-right true b e = e
 both-right false b e = absurd (false≢true e)
 
+pub either : (a b : Bool) → ((a || b) ≡ true) ↔ ((a ≡ true) ⊎ (b ≡ true))
+either true b = (λ t. inl refl, λ w. refl)
+either false b = (λ t. inr t, ⊎-elim (λ t. absurd (false≢true t)) (λ t. t))
+
+pub neither : (a b : Bool) → ((a || b) ≡ false) ↔ ((a ≡ false) × (b ≡ false))
+neither true b = (λ e. absurd (true≢false e), λ w. w .0)
+neither false b = (λ e. (refl, e), λ w. w .1)
+
+pub or-implied : (a b : Bool) → (not a || b) ≡ true → a ≡ true → b ≡ true
+or-implied true b t e = t
+or-implied false b t e = absurd (false≢true e)
+
 -- two tests that pass together
 pub bool-iff : (a b : Bool) → (a ≡ true → b ≡ true) → (b ≡ true → a ≡ true) → a ≡ b
 bool-iff true true f g = refl
@@ -81,6 +95,10 @@ implies false b = true
 pub implied : (a b : Bool) → T (implies a b) → a ≡ true → T b
 implied true b t e = t
 implied false b t e = absurd (false≢true e)
+
+-- one number after the other
+pub past : {k n : ℕ} → k ≤ n → (n ≡ k → ⊥) → suc k ≤ n
+past low other = lt-of-le-ne low (λ e. other (sym e))
 
 pub eqb-sym : (a b : ℕ) → eqb a b ≡ eqb b a
 eqb-sym a b =
