@@ -3,11 +3,11 @@ use mathlib.Core.Path.{_≡_, refl, sym, ap, _∙_}
 use mathlib.Core.Logic.{_≢_}
 use mathlib.Core.Bool.{Bool, true, false, not, _&&_, _||_, false≢true}
 use mathlib.Core.List.{List·Memᴰ, map}
-use Prim.Native.Nat.{ℕ, _+_, _<_}
+use Prim.Native.Nat.{ℕ, _+_, _≤_, _<_}
 use native.Mathlib.Omega.{arith}
 use borrow.Author.Tests.{eqb-true, eq-eqb, ne-eqb}
 use lib.Dec.{eqb, eqb→eq, eqb-refl}
-use lib.ListN.{length, getD}
+use lib.ListN.{length, getD, List·getD-eq-default}
 use Rattle.grid.specs.Cells.{cell, row, col, box, aligned, sees, cells, peers}
 use Rattle.grid.specs.Lists.{all}
 use Rattle.grid.specs.Units.{inUnit, ShareUnit}
@@ -44,6 +44,13 @@ module _ {A : Type 0} where
   pub at-cells : (d : A) (f : ℕ → A) (c : ℕ) → c < 81 → getD (map f cells) c d ≡ f c
   unfolding cells
   at-cells d f c h = at-upTo f d 81 c h
+
+  pub cells-size : (f : ℕ → A) → length (map f cells) ≡ 81
+  unfolding cells
+  cells-size f = refl
+
+  pub past-cells : (d : A) (f : ℕ → A) (c : ℕ) → 81 ≤ c → getD (map f cells) c d ≡ d
+  past-cells d f c h = List·getD-eq-default (map f cells) d (omega (arith, cells-size f))
 
   pub map-cells : (f g : ℕ → A) → ((c : ℕ) → c < 81 → f c ≡ g c) → map f cells ≡ map g cells
   unfolding cells

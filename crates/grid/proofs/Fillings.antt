@@ -15,6 +15,7 @@ use Rattle.grid.specs.Cells.{row, sees, cells}
 use Rattle.grid.specs.Units.{units, unit, unitCell, Member}
 use Rattle.grid.specs.Fillings.{numberAt, Digit, Correct, isDigit, distinct, verified}
 use Rattle.candidates.specs.Sets.{place}
+use Rattle.candidates.proofs.Places.{place-pos}
 use Rattle.candidates.proofs.Tests.{both, both-left, both-right, T-true}
 use Rattle.grid.proofs.Lists.{all-at, at-all, all-range, range-all, distinct-at, at-distinct}
 use Rattle.grid.proofs.Units.{unit-length, cell-below, placeIn, place-below, place-cell, in-row}
@@ -35,10 +36,6 @@ place-digit z h = record {
   high = omega arith;
   is = number-of z (place z) refl h;
 }
-
-place-pos : (n : ℕ) → 1 ≤ n → n ≤ 9 → place (pos n) ≡ n - 1
-place-pos zero h k = absurd (omega arith)
-place-pos (suc n) h k = omega arith
 
 pub digit-place : {z : ℤ} (d : Digit z) → place z ≡ d .digit - 1
 digit-place d = ap place (d .is) ∙ place-pos (d .digit) (d .low) (d .high)

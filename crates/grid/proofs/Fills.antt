@@ -3,7 +3,7 @@ use mathlib.Core.Path.{_≡_, refl, sym, ap, _∙_}
 use mathlib.Core.List.{List, [], _∷_, _++_, map, append-nil}
 use Prim.Native.Nat.{ℕ, zero, suc, _+_, _-_, _≤_, _<_}
 use native.Mathlib.Omega.{arith}
-use lib.ListN.{length, set, drop, length-append}
+use lib.ListN.{length, set, drop, replicate, length-append}
 use lib.Seq.{set-at, append-snoc, drop-length}
 use Rattle.grid.specs.Lists.{range, each}
 use Rattle.grid.proofs.Lists.{each-on, each-end}
@@ -51,3 +51,12 @@ module _ {A : Type 0} (f : ℕ → A) where
     pub fill-end : n ≤ i → xs ≡ r
     unfolding filled
     fill-end h = sym (each-end (λ k l. set l k (f k)) n i xs h) ∙ left
+
+-- a list in front of an array of n that z fills up, with one more element
+pub fill-next : {A : Type 0} (z : A) (n : ℕ) (xs : List A) (k : ℕ) (x : A) → length xs ≡ k → k < n
+    → set (xs ++ replicate (n - length xs) z) k x ≡ (xs ++ (x ∷ [])) ++ replicate (n - length (xs ++ (x ∷ []))) z
+fill-next z n xs k x e h =
+    let a : n - length xs ≡ suc (n - (k + 1)) = omega arith in
+    let b : n - (k + 1) ≡ n - length (xs ++ (x ∷ [])) = omega (arith, length-append xs (x ∷ [])) in
+    ap (λ (m : ℕ). set (xs ++ replicate m z) k x) a ∙ set-at xs z (replicate (n - (k + 1)) z) x k e ∙ sym (append-snoc xs x (replicate (n - (k + 1)) z))
+    ∙ ap (λ (m : ℕ). (xs ++ (x ∷ [])) ++ replicate m z) b

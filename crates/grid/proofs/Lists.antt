@@ -13,7 +13,7 @@ use lib.IntN.{ℤ, pos, negsuc}
 use lib.ListN.{length, getD}
 use Rattle.grid.specs.Lists.{range, select, all, each}
 use Rattle.grid.specs.Fillings.{sameNumber, holds, distinct}
-use Rattle.candidates.proofs.Tests.{both, both-left, both-right}
+use Rattle.candidates.proofs.Tests.{cond-false, both, both-left, both-right}
 
 -- ---- a membership and a place
 
@@ -83,6 +83,14 @@ mem-select f (x ∷ xs) c m = go (f x) refl m (λ r. mem-select f xs c r)
         ⊎-elim (λ p. (List·Memᴰ·head p, ap f p ∙ e)) (λ s. (List·Memᴰ·tail (more s .0), more s .1)) (List·Memᴰ·cases-cons r)
     go false e r more = (List·Memᴰ·tail (more r .0), more r .1)
 
+pub select-none : (f : ℕ → Bool) (l : List ℕ) → ((c : ℕ) → List·Memᴰ c l → f c ≡ false) → select f l ≡ []
+select-none f [] h = refl
+select-none f (x ∷ xs) h = cond-false (f x) (x ∷ select f xs) (select f xs) (h x (List·Memᴰ·head refl)) ∙ select-none f xs (λ c m. h c (List·Memᴰ·tail m))
+
+pub range-length : (n k : ℕ) → length (range n k) ≡ n
+range-length zero k = refl
+range-length (suc n) k = ap suc (range-length n (suc k))
+
 -- ---- a loop over i from 0 up to n: what is left of it at i
 
 pub range-on : (n i : ℕ) → i < n → range (n - i) i ≡ i ∷ range (n - (i + 1)) (i + 1)
@@ -112,16 +120,35 @@ all-stop f n i h e = ap (all f) (range-on n i h) ∙ ap (λ (t : Bool). t && all
 pub all-end : (f : ℕ → Bool) (n i : ℕ) → n ≤ i → all f (range (n - i) i) ≡ true
 all-end f n i h = ap (all f) (range-end n i h)
 
+-- steps that agree on the members
+pub each-same : {A S : Type 0} (f g : A → S → S) (xs : List A) → ((x : A) → List·Memᴰ x xs → (s : S) → f x s ≡ g x s) → (s : S) → each f xs s ≡ each g xs s
+unfolding each
+each-same f g [] h s = refl
+each-same f g (x ∷ xs) h s = ap (each f xs) (h x (List·Memᴰ·head refl) s) ∙ each-same f g xs (λ y k. h y (List·Memᴰ·tail k)) (g x s)
+
 -- ---- a test of every element
 
+pub all-member {ℓ} : {A : Type ℓ} (f : A → Bool) (xs : List A) → all f xs ≡ true → (x : A) → List·Memᴰ x xs → f x ≡ true
+all-member f [] t x k = absurd (List·Memᴰ·not-nil k)
+all-member f (y ∷ ys) t x k =
+    ⊎-elim (λ (q : x ≡ y). ap f q ∙ both-left (f y) (all f ys) t) (λ r. all-member f ys (both-right (f y) (all f ys) t) x r) (List·Memᴰ·cases-cons k)
+
+pub member-all {ℓ} : {A : Type ℓ} (f : A → Bool) (xs : List A) → ((x : A) → List·Memᴰ x xs → f x ≡ true) → all f xs ≡ true
+member-all f [] h = refl
+member-all f (x ∷ xs) h = both (h x (List·Memᴰ·head refl)) (member-all f xs (λ y k. h y (List·Memᴰ·tail k)))
+
+-- by their places, and for a range by its numbers
 pub all-at {ℓ} : {A : Type ℓ} (f : A → Bool) (l : List A) (d : A) → all f l ≡ true → (i : ℕ) → i < length l → f (getD l i d) ≡ true
-all-at f [] d e i h = absurd (not-suc-le-zero h)
-all-at f (x ∷ xs) d e zero h = both-left (f x) (all f xs) e
-all-at f (x ∷ xs) d e (suc i) h = all-at f xs d (both-right (f x) (all f xs) e) i (le-of-suc-le-suc h)
+all-at f l d e i h = all-member f l e (getD l i d) (place-mem l d i h)
 
 pub at-all {ℓ} : {A : Type ℓ} (f : A → Bool) (l : List A) (d : A) → ((i : ℕ) → i < length l → f (getD l i d) ≡ true) → all f l ≡ true
-at-all f [] d h = refl
-at-all f (x ∷ xs) d h = both (h 0 (omega arith)) (at-all f xs d (λ i k. h (suc i) (omega arith)))
+at-all f l d h = member-all f l (λ x m. let p = mem-place d m in ap f (sym (p .2)) ∙ h (p .0) (p .1))
+
+pub all-range : (f : ℕ → Bool) (n : ℕ) → all f (range n 0) ≡ true → (i : ℕ) → i < n → f i ≡ true
+all-range f n e i h = all-member f (range n 0) e i (range-mem n 0 i (omega arith) (omega arith))
+
+pub range-all : (f : ℕ → Bool) (n : ℕ) → ((i : ℕ) → i < n → f i ≡ true) → all f (range n 0) ≡ true
+range-all f n h = member-all f (range n 0) (λ i m. h i (omega (arith, mem-range n 0 i m)))
 
 -- tests and values that agree on the members
 pub all-same : {A : Type 0} (f g : A → Bool) (xs : List A) → ((x : A) → List·Memᴰ x xs → f x ≡ g x) → all f xs ≡ all g xs
@@ -133,25 +160,6 @@ pub map-same : {A B : Type 0} (f g : A → B) (xs : List A) → ((x : A) → Lis
 map-same f g [] h = refl
 map-same {A} {B} f g (x ∷ xs) h =
     ap (λ (y : B). y ∷ map f xs) (h x (List·Memᴰ·head refl)) ∙ ap (λ (ys : List B). g x ∷ ys) (map-same f g xs (λ y k. h y (List·Memᴰ·tail k)))
-
-all-from : (f : ℕ → Bool) (n k : ℕ) → all f (range n k) ≡ true → (i : ℕ) → k ≤ i → i < k + n → f i ≡ true
-all-from f zero k e i h l = absurd (omega arith)
-all-from f (suc n) k e i h l =
-    go (ℕ-discrete k i) (λ m. all-from f n (suc k) (both-right (f k) (all f (range n (suc k))) e) i m (omega arith))
-  where
-    go : Dec (k ≡ i) → (suc k ≤ i → f i ≡ true) → f i ≡ true
-    go (yes p) more = ap f (sym p) ∙ both-left (f k) (all f (range n (suc k))) e
-    go (no p) more = more (omega arith)
-
-from-all : (f : ℕ → Bool) (n k : ℕ) → ((i : ℕ) → i < k + n → f i ≡ true) → all f (range n k) ≡ true
-from-all f zero k h = refl
-from-all f (suc n) k h = both (h k (omega arith)) (from-all f n (suc k) (λ i l. h i (omega arith)))
-
-pub all-range : (f : ℕ → Bool) (n : ℕ) → all f (range n 0) ≡ true → (i : ℕ) → i < n → f i ≡ true
-all-range f n e i h = all-from f n 0 e i (omega arith) (omega arith)
-
-pub range-all : (f : ℕ → Bool) (n : ℕ) → ((i : ℕ) → i < n → f i ≡ true) → all f (range n 0) ≡ true
-range-all f n h = from-all f n 0 (λ i l. h i (omega arith))
 
 -- ---- numbers that differ
 

@@ -37,7 +37,7 @@ unit-length u h = eqb→eq (length (unit u)) 9 (below 27 (λ u. eqb (length (uni
 pub cells-unit : (u : ℕ) → u < 27 → unitCells u ≡ unit u
 cells-unit u h = cond-true (ltb u 27) (unit u) (replicate 9 81) (lt-ltb u 27 h)
 
-past-table : (u : ℕ) → 27 ≤ u → unit u ≡ []
+pub past-table : (u : ℕ) → 27 ≤ u → unit u ≡ []
 unfolding unit units
 past-table u h = List·getD-eq-default units [] h
 

@@ -1,28 +1,27 @@
 -- `grid::number_masks` meets its contract. The invariant: the cells that are left still make the whole list. Assumes nothing.
-use mathlib.Core.Path.{_≡_, sym, ap, _∙_}
-use mathlib.Core.List.{List}
-use Prim.Native.Nat.{ℕ, _+_, _-_, _≤_}
+use mathlib.Core.Path.{_≡_, refl, ap, _∙_}
+use Prim.Native.Nat.{_-_}
 use native.Mathlib.Omega.{arith}
 use borrow.Author.Needs.{needs}
+use lib.ListN.{replicate}
 use mir.Facts.{toZ-ofZ}
 use mir.Syntax.{w32}
-use lib.IntN.{ℤ}
-use lib.ListN.{set}
-use Rattle.grid.specs.Lists.{range}
+use Rattle.grid.specs.Cells.{cells}
 use Rattle.grid.specs.Fillings.{numberAt}
 use Rattle.grid.specs.Seen.{numberMask, numberMasks}
-use Rattle.grid.proofs.Verifier.{filled, filled-start, filled-on, filled-end}
+use Rattle.grid.proofs.Fills.{filled, fill-start, fill-on, fill-end}
 use Rattle.grid.proofs.number_masks.Statement.{statement}
 use Rattle.grid.proofs.number_masks.Tie as tie
 
 abbrev Inv-loop : tie.InvT-loop
-Inv-loop grid masks₀ cell₀ masks cell = (cell ≤ 81) × (filled grid (range (81 - cell) cell) masks ≡ numberMasks grid)
+Inv-loop grid masks₀ cell₀ masks cell = filled (λ c. numberMask (numberAt grid c)) 81 cell masks ≡ numberMasks grid
 
 abbrev μ-loop : tie.MeasureT-loop
 μ-loop grid masks₀ cell₀ masks cell = 81 - cell
 
 loop-holds : tie.Need-loop-holds Inv-loop μ-loop
-loop-holds c = (omega arith, filled-start (c .args .grid .now))
+unfolding numberMasks cells
+loop-holds c = fill-start _ 81 (replicate 81 0) refl
 
 mul-number-mask : tie.Need-mul-number-mask Inv-loop μ-loop
 mul-number-mask c = omega arith
@@ -46,25 +45,13 @@ loop-less : tie.Need-loop-less Inv-loop μ-loop
 loop-less c = omega arith
 
 loop-again : tie.Need-loop-again Inv-loop μ-loop
-loop-again c = (
-  omega arith,
-  ap (λ (m : ℕ). filled g (range (81 - (i + 1)) (i + 1)) (set (c .before .before .before .loop .masks) i m)) number
-      ∙ sym (filled-on g i (c .before .before .before .loop .masks) (omega arith)) ∙ c .before .before .before .loop .inv .1,
-)
-  where
-    g : List ℤ
-    g = c .before .before .before .before .args .grid .now
-
-    i : ℕ
-    i = c .before .before .before .loop .cell
-
-    number : c .number-mask .result ≡ numberMask (numberAt g i)
-    number = c .number-mask .ensures ∙ ap numberMask (toZ-ofZ {w = w32} {z = numberAt g i} (record { sfits = c .before .number-mask-arg .given }))
+loop-again c =
+    let l = c .before .before .before in
+    fill-on _ 81 (l .loop .cell) (l .loop .masks) (l .loop .inv) (omega arith)
+    (c .number-mask .ensures ∙ ap numberMask (toZ-ofZ {w = w32} {z = numberAt (l .before .args .grid .now) (l .loop .cell)} (record { sfits = c .before .number-mask-arg .given })))
 
 returns : tie.Need-returns Inv-loop μ-loop
-returns c =
-    sym (filled-end (c .before .before .args .grid .now) (c .before .loop .cell) (c .before .loop .masks) (c .loop-test .left))
-    ∙ c .before .loop .inv .1
+returns c = fill-end _ 81 (c .before .loop .cell) (c .before .loop .masks) (c .before .loop .inv) (c .loop-test .left)
 
 pub number-masks-spec : {M : Type 1} → statement M
 number-masks-spec =
