@@ -1,8 +1,8 @@
 -- The check of a handed board: it admits just the boards whose clues are 0 to 9 and whose masks are admissible. Assumes nothing.
 use mathlib.Core.Path.{_≡_, refl, sym, ap, _∙_, subst}
 use mathlib.Core.Bool.{Bool, true, false, not, _&&_, _||_, true≢false}
-use mathlib.Core.List.{List, List·Memᴰ}
-use mathlib.Core.Option.{Option, none, some}
+use mathlib.Core.List.{List}
+use mathlib.Core.Option.{Option, none, some, Option·some-ne-none}
 use Prim.Native.Nat.{ℕ, _≤_, _<_, zero-le}
 use native.Mathlib.Decide.{decLt}
 use native.Mathlib.Omega.{arith}
@@ -20,15 +20,7 @@ use Rattle.steps.specs.Calls.{badClue, misfit, badMask, firstStop, refus
 use Rattle.steps.specs.Demand3.{Clues}
 use Rattle.steps.specs.Loops.{first}
 use Rattle.steps.proofs.Fresh.{fresh-at, fresh-out}
-use Rattle.steps.proofs.Loops.{first-none, none-first, in-upTo, upTo-in}
-
-in-cells : (c : ℕ) → c < 81 → List·Memᴰ c cells
-unfolding cells
-in-cells c h = upTo-in 81 c h
-
-cells-in : (c : ℕ) → List·Memᴰ c cells → c < 81
-unfolding cells
-cells-in c k = in-upTo 81 c k
+use Rattle.steps.proofs.Searches.{cells-none, none-cells}
 
 -- ---- clues and givens
 
@@ -57,7 +49,7 @@ clues-givens clues = record { size = givens-length clues; small = λ c. go c (de
 
 -- ---- masks
 
-fitting : (x f : ℕ) (o : Bool) → misfit x f o ≡ false → Sub x f × (o ≡ false → x ≡ f)
+pub fitting : (x f : ℕ) (o : Bool) → misfit x f o ≡ false → Sub x f × (o ≡ false → x ≡ f)
 fitting x f o t = go (eqb (minus x f) 0) refl o refl (eqb x f) refl t
   where
     go : (a : Bool) → eqb (minus x f) 0 ≡ a → (b : Bool) → o ≡ b → (e : Bool) → eqb x f ≡ e → not (a && (b || e)) ≡ false → Sub x f × (o ≡ false → x ≡ f)
@@ -92,28 +84,25 @@ module _ (g m : List ℕ) where
 
 -- ---- the check
 
-some-none : {A : Type 0} (a : A) → _≡_ {A = Option A} (some a) none → ⊥
-some-none a q = let w : _≡_ {A = ℕ} 0 1 = cc in omega arith
-
 -- neither stop
-stops-none : (n k : ℕ) (x y : Option ℕ) → firstStop n x (firstStop k y none) ≡ none → (x ≡ none) × (y ≡ none)
+pub stops-none : (n k : ℕ) (x y : Option ℕ) → firstStop n x (firstStop k y none) ≡ none → (x ≡ none) × (y ≡ none)
 stops-none n k none none t = (refl, refl)
-stops-none n k none (some c) t = absurd (some-none (k, c) t)
-stops-none n k (some c) y t = absurd (some-none (n, c) t)
+stops-none n k none (some c) t = absurd (Option·some-ne-none (k, c) t)
+stops-none n k (some c) y t = absurd (Option·some-ne-none (n, c) t)
 
 module _ (b : Board) where
   pub admitted : Clues (b .clues) → Admissible (givensOf (b .clues)) (b .masks) → refusal b ≡ none
   unfolding refusal
   admitted ok a =
       ap (λ (x : Option ℕ). firstStop 3 x (firstStop 9 (first (badMask (givensOf (b .clues)) (b .masks)) cells) none))
-      (none-first (λ c. badClue (getD (b .clues) c (pos 0))) cells (λ c k. ok .good c (cells-in c k)))
+      (cells-none (λ c. badClue (getD (b .clues) c (pos 0))) (ok .good))
       ∙ ap (λ (x : Option ℕ). firstStop 9 x none)
-      (none-first (badMask (givensOf (b .clues)) (b .masks)) cells (λ c k. admissible-good (givensOf (b .clues)) (b .masks) a c (cells-in c k)))
+      (cells-none (badMask (givensOf (b .clues)) (b .masks)) (admissible-good (givensOf (b .clues)) (b .masks) a))
 
   pub admits : length (b .clues) ≡ 81 → length (b .masks) ≡ 81 → refusal b ≡ none → Clues (b .clues) × Admissible (givensOf (b .clues)) (b .masks)
   unfolding refusal
   admits lc lm t =
       let w = stops-none 3 9 (first (λ c. badClue (getD (b .clues) c (pos 0))) cells) (first (badMask (givensOf (b .clues)) (b .masks)) cells) t in (
-        record { size = lc; good = λ c h. first-none (λ c. badClue (getD (b .clues) c (pos 0))) cells (w .0) c (in-cells c h) },
-        good-admissible (givensOf (b .clues)) (b .masks) lm (λ c h. first-none (badMask (givensOf (b .clues)) (b .masks)) cells (w .1) c (in-cells c h)),
+        record { size = lc; good = none-cells (λ c. badClue (getD (b .clues) c (pos 0))) (w .0) },
+        good-admissible (givensOf (b .clues)) (b .masks) lm (none-cells (badMask (givensOf (b .clues)) (b .masks)) (w .1)),
       )

@@ -1,31 +1,30 @@
 -- A correct filling lies in reached masks exactly if it keeps the clues. Assumes nothing.
 use mathlib.Core.Path.{_≡_, refl, sym, ap, _∙_, subst}
 use mathlib.Core.Logic.{_≢_}
-use mathlib.Core.Bool.{Bool, true, false, cond, not, true≢false}
+use mathlib.Core.Bool.{Bool, true, false}
 use mathlib.Core.List.{List, map}
-use Prim.Native.Nat.{ℕ, zero, suc, _-_, _^_, _≤_, _<_}
+use Prim.Native.Nat.{ℕ, suc, _-_, _^_, _≤_, _<_}
 use native.Mathlib.Decide.{decLt}
 use native.Mathlib.Omega.{arith}
 use borrow.Author.Tests.{eqb-true, eqb-false}
-use lib.Dec.{leb}
-use lib.IntN.{ℤ, pos, negsuc}
-use lib.ListN.{length, getD, List·getD-eq-default}
+use lib.IntN.{ℤ, pos}
+use lib.ListN.{getD}
 use Rattle.candidates.specs.Masks.{Sub}
 use Rattle.candidates.proofs.Held.{Held, power-sub, sub-power}
 use Rattle.candidates.proofs.Order.{sub-none}
+use Rattle.candidates.proofs.Places.{place-pos}
 use Rattle.grid.specs.Cells.{cells, sees}
 use Rattle.grid.specs.Fillings.{numberAt, Correct}
 use Rattle.candidates.specs.Sets.{place}
 use Rattle.grid.specs.Units.{unitCell, Member}
-use Rattle.grid.proofs.Cells.{at-cells, sees-shared}
-use Rattle.grid.proofs.Fillings.{number-of, place-lt, correct-complete}
+use Rattle.grid.proofs.Cells.{at-cells, past-cells, sees-shared}
+use Rattle.grid.proofs.Fillings.{number-of, place-lt, same-number, correct-complete, digit-once}
 use Rattle.grid.proofs.Pigeonhole.{onto}
-use Rattle.grid.proofs.Units.{at-place}
-use Rattle.steps.specs.Boards.{at, digitOf, givensOf, given, isOpen, fresh, Givens, Under, Admissible}
-use Rattle.steps.specs.Calls.{badClue}
+use Rattle.grid.proofs.Units.{at-place, member-below}
+use Rattle.steps.specs.Boards.{at, givensOf, given, isOpen, fresh, Givens, Under, Admissible}
 use Rattle.steps.specs.Demand3.{Clues}
 use Rattle.steps.specs.Fillings.{KeepsClues, InMasks}
-use Rattle.steps.proofs.Check.{clues-givens, given-clue}
+use Rattle.steps.proofs.Check.{clues-givens, given-clue, good-digit}
 use Rattle.steps.proofs.Fillings.{Filling, filling-still}
 use Rattle.steps.proofs.FreshDigits.{fresh-open, fresh-clue}
 use Rattle.steps.proofs.Reach.{Reach, reach-keeps}
@@ -40,8 +39,7 @@ pub correct-filling : (f : List ℤ) → Correct f → Filling (placed f)
 correct-filling f ok = record { small = λ c h. place-lt (ok .digits c h); once = once; every = every }
   where
     once : (u c e : ℕ) → u < 27 → Member u c → Member u e → c ≢ e → placed f c ≢ placed f e
-    once u c e h m n d q =
-        d (sym (m .is) ∙ ap (unitCell u) (correct-complete ok .at u h .apart (m .place) (n .place) (m .within) (n .within) (ap (placed f) (m .is) ∙ q ∙ sym (ap (placed f) (n .is)))) ∙ n .is)
+    once u c e h m n d q = d (digit-once ok h m n (same-number (numberAt f c) (numberAt f e) (place-lt (ok .digits c (member-below h m))) q))
 
     every : (u d : ℕ) → u < 27 → d < 9 → (c : ℕ) × Member u c × (placed f c ≡ d)
     every u d h k =
@@ -52,41 +50,25 @@ correct-filling f ok = record { small = λ c h. place-lt (ok .digits c h); once 
 filled : (ℕ → ℕ) → List ℕ
 filled p = map (λ c. 2 ^ p c) cells
 
-filled-length : (p : ℕ → ℕ) → length (filled p) ≡ 81
-unfolding filled cells
-filled-length p = refl
-
 filled-at : (p : ℕ → ℕ) (c : ℕ) → c < 81 → at (filled p) c ≡ 2 ^ p c
 unfolding filled
 filled-at p c h = at-cells 0 (λ c. 2 ^ p c) c h
 
 filled-out : (p : ℕ → ℕ) (c : ℕ) → 81 ≤ c → at (filled p) c ≡ 0
-filled-out p c h = List·getD-eq-default (filled p) 0 {n = c} (omega (arith, filled-length p))
+unfolding filled
+filled-out p c h = past-cells 0 (λ c. 2 ^ p c) c h
 
 -- ---- keeping the clues, by places
 
 pos-same : (a b : ℕ) → pos a ≡ pos b → a ≡ b
 pos-same a b e = cc
 
-place-pos : (n : ℕ) → 1 ≤ n → n ≤ 9 → place (pos n) ≡ n - 1
-place-pos zero h k = absurd (omega arith)
-place-pos (suc n) h k = omega arith
-
--- a good clue is its digit
-clue-digit : (z : ℤ) → badClue z ≡ false → z ≡ pos (digitOf z)
-clue-digit (pos n) b = go (leb n 9) refl b
-  where
-    go : (t : Bool) → leb n 9 ≡ t → not (leb n 9) ≡ false → pos n ≡ pos (cond (leb n 9) n 0)
-    go true t b = rw t
-    go false t b = absurd (true≢false (rw t at b))
-clue-digit (negsuc n) b = absurd (true≢false b)
-
 module _ (clues : List ℤ) (ok : Clues clues) where
   abbrev g : List ℕ
   g = givensOf clues
 
   clue-given : (c : ℕ) → c < 81 → getD clues c (pos 0) ≡ pos (given g c)
-  clue-given c h = clue-digit (getD clues c (pos 0)) (ok .good c h) ∙ ap pos (sym (given-clue clues c h))
+  clue-given c h = sym (ap pos (given-clue clues c h) ∙ good-digit (getD clues c (pos 0)) (ok .good c h))
 
   module _ (f : List ℤ) (right : Correct f) where
     -- the filling's places at clue cells are the clues'

@@ -4,21 +4,17 @@ use mathlib.Core.Logic.{_≢_, _⊎_, inl, inr}
 use Prim.Native.Nat.{ℕ, _-_, _^_, _<_}
 use native.Mathlib.Decide.{ℕ-discrete}
 use native.Mathlib.Omega.{arith}
-use lib.Bits.{bitAnd, or-lt}
+use lib.Bits.{bitAnd, and-comm, or-lt}
 use lib.Pow.{pow-lt}
 use Rattle.candidates.specs.Masks.{bit}
-use Rattle.candidates.proofs.Membership.{bit-and, bit-union, bit-none, bit-power, bit-other, bit-all, ext}
-use Rattle.candidates.proofs.Order.{sub-all}
+use Rattle.candidates.proofs.Membership.{bit-and, bit-union, bit-none, bit-power, bit-other, bit-all}
+use Rattle.candidates.proofs.Order.{sub-all, and-only}
 use Rattle.candidates.proofs.Counts.{bit-except}
 use Rattle.steps.specs.Instances.{only, both, except}
 
 -- the digit at p and the mask k share nothing exactly if k lacks p
 pub apart-bit : (p k : ℕ) → bit k p ≡ 0 → bitAnd (2 ^ p) k ≡ 0
-apart-bit p k h = ext (bitAnd (2 ^ p) k) 0 (λ d. go d (ℕ-discrete p d))
-  where
-    go : (d : ℕ) → Dec (p ≡ d) → bit (bitAnd (2 ^ p) k) d ≡ bit 0 d
-    go d (yes e) = omega (arith, bit-and (2 ^ p) k d, ap (bit k) e, bit-none d)
-    go d (no e) = omega (arith, bit-and (2 ^ p) k d, bit-other p d e, bit-none d)
+apart-bit p k h = and-comm (2 ^ p) k ∙ and-only k p h
 
 pub bit-apart : (p k : ℕ) → bitAnd (2 ^ p) k ≡ 0 → bit k p ≡ 0
 bit-apart p k h = omega (arith, bit-and (2 ^ p) k p, ap (λ (n : ℕ). bit n p) h, bit-none p, bit-power p)

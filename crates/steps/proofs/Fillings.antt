@@ -10,7 +10,7 @@ use lib.Bits.{bitAnd}
 use lib.Dec.{eqb}
 use Rattle.candidates.specs.Masks.{bit}
 use Rattle.candidates.proofs.Membership.{bit-none, bit-power, bit-other}
-use Rattle.candidates.proofs.Tests.{by-test}
+use Rattle.candidates.proofs.Tests.{by-test, either, neither}
 use Rattle.grid.specs.Cells.{row, col, peers}
 use Rattle.grid.specs.Units.{unit, unitCell, inUnit, Member}
 use Rattle.grid.proofs.Cells.{peer-sees, sees-shared}
@@ -39,14 +39,6 @@ spared t d q h = by-test (λ (x : ℕ). bit x q ≡ 0) t 0 (only d) (λ e. bit-n
 is-spared : (t : Bool) (d q : ℕ) → bit (cond t 0 (only d)) q ≡ 0 → q ≡ d → t ≡ true
 is-spared true d q b e = refl
 is-spared false d q b e = absurd (omega (arith, bit-power d, ap (bit (only d)) e))
-
-either : (a b : Bool) → (a || b) ≡ true → (a ≡ true) ⊎ (b ≡ true)
-either true b e = inl refl
-either false b e = inr e
-
-neither : (a b : Bool) → (a || b) ≡ false → (a ≡ false) × (b ≡ false)
-neither true b e = absurd (true≢false e)
-neither false b e = (refl, e)
 
 module _ (p : ℕ → ℕ) (F : Filling p) (z : List ℕ) (one : (c : ℕ) → c < 81 → at z c ≡ 2 ^ p c) (free : ℕ → Bool) where
   -- a cell that a step reads lacks what it bars
@@ -117,7 +109,7 @@ module _ (p : ℕ → ℕ) (F : Filling p) (z : List ℕ) (one : (c : ℕ) → c
 
       loses : applies s z ≡ true → (x : ℕ) → List·Memᴰ x (unit u) → bit (cond (eqb x c || eqb x e) 0 (both a b)) (p x) ≡ 0
       loses t x k =
-          by-test (λ (m : ℕ). bit m (p x) ≡ 0) (eqb x c || eqb x e) 0 (both a b) (λ _. bit-none (p x)) (λ r. other (neither (eqb x c) (eqb x e) r))
+          by-test (λ (m : ℕ). bit m (p x) ≡ 0) (eqb x c || eqb x e) 0 (both a b) (λ _. bit-none (p x)) (λ r. other (neither (eqb x c) (eqb x e) .0 r))
         where
           other : (eqb x c ≡ false) × (eqb x e ≡ false) → bit (both a b) (p x) ≡ 0
           other f =
@@ -164,14 +156,14 @@ module _ (p : ℕ → ℕ) (F : Filling p) (z : List ℕ) (one : (c : ℕ) → c
 
       -- the digit's cell in a line lies in x or y
       corner : applies s z ≡ true → (e : ℕ) → e < 81 → List·Memᴰ e (unit u ++ unit v) → p e ≡ d → (inUnit x e ≡ true) ⊎ (inUnit y e ≡ true)
-      corner t e h k q = either (inUnit x e) (inUnit y e) (is-spared (inUnit x e || inUnit y e) d (p e) (reads-lack s t e h k) q)
+      corner t e h k q = either (inUnit x e) (inUnit y e) .0 (is-spared (inUnit x e || inUnit y e) d (p e) (reads-lack s t e h k) q)
 
       -- no other cell of a line that has the digit's cell takes the digit
       clash : (l e f : ℕ) → l < 27 → e < 81 → f < 81 → inUnit l e ≡ true → inUnit l f ≡ true → e ≢ f → p e ≡ d → p f ≡ d → ⊥
       clash l e f hl he hf ie jf n q r = F .once l e f hl (in-member l e hl he ie) (in-member l f hl hf jf) n (q ∙ sym r)
 
       loses : applies s z ≡ true → (h : ℕ) → List·Memᴰ h (unit x ++ unit y) → bit (cond (inUnit u h || inUnit v h) 0 (only d)) (p h) ≡ 0
-      loses t h k = spared (inUnit u h || inUnit v h) d (p h) (λ out q. other (neither (inUnit u h) (inUnit v h) out) (sym q) (List·Memᴰ·append-cases (unit x) k))
+      loses t h k = spared (inUnit u h || inUnit v h) d (p h) (λ out q. other (neither (inUnit u h) (inUnit v h) .0 out) (sym q) (List·Memᴰ·append-cases (unit x) k))
         where
           other : (inUnit u h ≡ false) × (inUnit v h ≡ false) → p h ≡ d → List·Memᴰ h (unit x) ⊎ List·Memᴰ h (unit y) → ⊥
           other out q k =

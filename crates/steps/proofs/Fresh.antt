@@ -1,5 +1,5 @@
 -- Fresh masks: one for each cell, of the nine digits, and what an admissible board's masks can hold. Assumes nothing.
-use mathlib.Core.Path.{_≡_, refl, sym, subst}
+use mathlib.Core.Path.{_≡_, refl}
 use mathlib.Core.List.{List, [], _∷_}
 use Prim.Native.Nat.{ℕ, suc, _-_, _*_, _^_, _≤_, _<_, zero-le}
 use native.Mathlib.Nat.{lt-of-le-of-lt}
@@ -7,27 +7,27 @@ use native.Mathlib.Decide.{decLt}
 use native.Mathlib.Omega.{arith}
 use lib.Count.{ones-le}
 use lib.Dec.{ltb, lit<}
-use lib.ListN.{length, List·getD-eq-default}
+use lib.ListN.{length}
 use lib.Pow.{pow-mono}
 use Rattle.candidates.specs.Masks.{minus, single}
 use Rattle.candidates.proofs.Order.{minus-sub, sub-le}
 use Rattle.candidates.proofs.Tests.{by-test}
-use Rattle.grid.specs.Cells.{cells}
-use Rattle.grid.proofs.Cells.{at-cells}
+use Rattle.grid.proofs.Cells.{cells-size, at-cells, past-cells}
 use Rattle.steps.specs.Boards.{at, given, isOpen, givenMask, taken, freshAt, fresh, Givens, Under, Admissible, total}
 use Rattle.steps.proofs.Masks.{under-refl}
 
 module _ (g : List ℕ) where
   pub fresh-length : length (fresh g) ≡ 81
-  unfolding fresh cells
-  fresh-length = refl
+  unfolding fresh
+  fresh-length = cells-size (freshAt g)
 
   pub fresh-at : (c : ℕ) → c < 81 → at (fresh g) c ≡ freshAt g c
   unfolding fresh
   fresh-at c h = at-cells 0 (freshAt g) c h
 
   pub fresh-out : (c : ℕ) → 81 ≤ c → at (fresh g) c ≡ 0
-  fresh-out c h = List·getD-eq-default (fresh g) 0 (subst (λ (n : ℕ). n ≤ c) (sym fresh-length) h)
+  unfolding fresh
+  fresh-out c h = past-cells 0 (freshAt g) c h
 
   pub fresh-admissible : Admissible g (fresh g)
   fresh-admissible = record { size = fresh-length; under = under-refl (fresh g); clues = λ c f. refl }

@@ -1,43 +1,23 @@
 -- Which digits the fresh masks hold: a clue cell its own, an open cell those that no cell that it sees is given. Assumes nothing.
 use mathlib.Core.Path.{_≡_, refl, sym, _∙_, subst}
-use mathlib.Core.Logic.{_⊎_, _↔_, inl, inr, ⊎-elim}
+use mathlib.Core.Logic.{_⊎_, _↔_, inr, ⊎-elim}
 use mathlib.Core.Bool.{Bool, true, false}
-use mathlib.Core.List.{List, [], _∷_, List·Memᴰ, List·Memᴰ·head, List·Memᴰ·tail, List·Memᴰ·not-nil, List·Memᴰ·cases-cons}
+use mathlib.Core.List.{List, List·Memᴰ}
 use Prim.Native.Nat.{ℕ, suc, _-_, _^_, _<_}
 use native.Mathlib.Omega.{arith}
-use borrow.Author.Tests.{eqb-true, eq-eqb, eqb-false, lt-ltb}
-use lib.Dec.{ltb, lit<}
-use Rattle.candidates.specs.Masks.{bit, union, minus, single}
-use Rattle.candidates.proofs.Membership.{bit-all}
+use borrow.Author.Tests.{eqb-true, eqb-false}
+use lib.Dec.{lit<}
+use Rattle.candidates.specs.Masks.{union, minus, single}
+use Rattle.candidates.proofs.Membership.{single-power}
 use Rattle.candidates.proofs.Tests.{cond-true, cond-false}
 use Rattle.grid.specs.Cells.{sees, peers}
 use Rattle.grid.proofs.Cells.{peer-sees, sees-peer}
+use Rattle.grid.proofs.Unions.{held-gathered}
 use Rattle.steps.specs.Boards.{given, isOpen, givenMask, taken, fresh, Givens}
 use Rattle.steps.specs.Loops.{each}
 use Rattle.steps.specs.Published.{Candidate, FreshCandidate}
-use Rattle.candidates.proofs.Held.{Held, none-held, held-below, held-power, held-minus, held-union}
+use Rattle.candidates.proofs.Held.{Held, none-held, held-below, held-all, held-power, held-minus}
 use Rattle.steps.proofs.Fresh.{fresh-at}
-
--- what a loop of unions gathers
-held-gathered : (f : ℕ → ℕ) (xs : List ℕ) (k d : ℕ) → Held (each (λ e k. union k (f e)) xs k) d ↔ (Held k d ⊎ ((e : ℕ) × List·Memᴰ e xs × Held (f e) d))
-unfolding each
-held-gathered f [] k d = (λ t. inl t, ⊎-elim (λ t. t) (λ w. absurd (List·Memᴰ·not-nil (w .1))))
-held-gathered f (x ∷ xs) k d = go (held-gathered f xs (union k (f x)) d)
-  where
-    Some : List ℕ → Type 0
-    Some l = (e : ℕ) × List·Memᴰ e l × Held (f e) d
-
-    go : Held (each (λ e k. union k (f e)) xs (union k (f x))) d ↔ (Held (union k (f x)) d ⊎ Some xs)
-        → Held (each (λ e k. union k (f e)) xs (union k (f x))) d ↔ (Held k d ⊎ Some (x ∷ xs))
-    go ih = (
-      λ t. ⊎-elim (λ s. ⊎-elim (λ a. inl a) (λ b. inr (x, List·Memᴰ·head refl, b)) (held-union k (f x) d .0 s)) (λ w. inr (w .0, List·Memᴰ·tail (w .1), w .2)) (ih .0 t),
-      ⊎-elim (λ a. ih .1 (inl (held-union k (f x) d .1 (inl a)))) back,
-    )
-      where
-        back : Some (x ∷ xs) → Held (each (λ e k. union k (f e)) xs (union k (f x))) d
-        back w =
-            ⊎-elim (λ (q : w .0 ≡ x). ih .1 (inl (held-union k (f x) d .1 (inr (subst (λ (e : ℕ). Held (f e) d) q (w .2))))))
-            (λ r. ih .1 (inr (w .0, r, w .2))) (List·Memᴰ·cases-cons (w .1))
 
 module _ (g : List ℕ) (ok : Givens g) where
   -- the mask of a given digit
@@ -60,7 +40,7 @@ module _ (g : List ℕ) (ok : Givens g) where
           mask : givenMask g c ≡ 2 ^ (given g c - 1)
           mask =
               cond-false (isOpen g c) 0 (single (given g c - 1)) e
-              ∙ cond-true (ltb (given g c - 1) 16) (2 ^ (given g c - 1)) 0 (lt-ltb (given g c - 1) 16 (omega (arith, ok .small c)))
+              ∙ single-power (given g c - 1) (omega (arith, ok .small c))
 
           back : d ≡ given g c - 1 → given g c ≡ suc d
           back q = omega (arith, eqb-false (given g c) 0 e)
@@ -77,11 +57,8 @@ module _ (g : List ℕ) (ok : Givens g) where
 
   -- the digits that are not taken
   held-rest : (c d : ℕ) → Held (minus 511 (taken g c)) d ↔ ((d < 9) × ¬ (Held (taken g c) d))
-  held-rest c d = (λ t. down (held-minus 511 (taken g c) d .0 t), λ w. held-minus 511 (taken g c) d .1 (held-all (w .0), w .1))
+  held-rest c d = (λ t. down (held-minus 511 (taken g c) d .0 t), λ w. held-minus 511 (taken g c) d .1 (held-all d (w .0), w .1))
     where
-      held-all : {k : ℕ} → k < 9 → Held 511 k
-      held-all {k} h = eq-eqb (bit 511 k) 1 (bit-all k h)
-
       down : Held 511 d × ¬ (Held (taken g c) d) → (d < 9) × ¬ (Held (taken g c) d)
       down w = (held-below 511 9 d (lit< tt) (w .0), w .1)
 

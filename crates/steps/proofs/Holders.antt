@@ -4,11 +4,11 @@ use mathlib.Core.Bool.{Bool, true, false, cond, true≢false}
 use mathlib.Core.List.{List, List·Memᴰ}
 use Prim.Native.Nat.{ℕ, _<_}
 use native.Mathlib.Omega.{arith}
-use borrow.Author.Tests.{eqb-true, eqb-false, eq-eqb}
+use borrow.Author.Tests.{eqb-false, eq-eqb}
 use lib.Bits.{bitAnd, and-zero-r}
 use Rattle.candidates.specs.Masks.{bit, has, count, lowest}
 use Rattle.candidates.proofs.FewDigits.{lowest-held}
-use Rattle.candidates.proofs.Held.{Held}
+use Rattle.candidates.proofs.Held.{Held, held-sub}
 use Rattle.candidates.proofs.Order.{and-only}
 use Rattle.candidates.proofs.Tests.{by-test, both, both-left, both-right}
 use Rattle.grid.specs.Units.{unit, unitCell, Member}
@@ -32,9 +32,7 @@ module _ (g : List ℕ) (ok : Givens g) (m : List ℕ) (ad : Admissible g m) (u 
       free = both-left (isOpen g c) (has (at m c) d) t
 
       in-fresh : Held (at (fresh g) c) d
-      in-fresh =
-          eq-eqb (bit (at (fresh g) c) d) 1
-          (omega (arith, ad .under .at c .at d, eqb-true (bit (at m c) d) 1 (both-right (isOpen g c) (has (at m c) d) t)))
+      in-fresh = held-sub d (ad .under .at c) (both-right (isOpen g c) (has (at m c) d) t)
 
       go : (b : Bool) → has (at m e) d ≡ b → has (at m e) d ≡ false
       go false b = b

@@ -3,10 +3,11 @@ use mathlib.Core.Path.{_≡_, refl, ap, _∙_, subst}
 use mathlib.Core.Bool.{Bool, true, false, cond}
 use mathlib.Core.Logic.{⊎-elim}
 use mathlib.Core.List.{List, [], _∷_, _++_, List·Memᴰ, List·Memᴰ·head, List·Memᴰ·tail, List·Memᴰ·not-nil, List·Memᴰ·cases-cons, List·Memᴰ·append-cases, Memᴰ·append-left, Memᴰ·append-right}
-use mathlib.Core.Option.{Option, none, some}
+use mathlib.Core.Option.{Option, none, some, Option·some-ne-none}
 use Prim.Native.Nat.{ℕ, _+_, _-_, _<_, zero-le}
 use native.Mathlib.Omega.{arith}
-use Rattle.candidates.proofs.Tests.{both, both-left, both-right}
+use Rattle.candidates.proofs.Tests.{by-test}
+pub use Rattle.grid.proofs.Lists.{all-member, member-all}
 use Rattle.grid.proofs.Lists.{range-mem, mem-range}
 use Rattle.steps.specs.Loops.{each, for, all, first, upTo, above}
 
@@ -90,10 +91,7 @@ module _ (f : ℕ → Bool) where
   first-none (y ∷ ys) t x k = go (f y) refl t (λ r. first-none ys r x)
     where
       go : (b : Bool) → f y ≡ b → cond (f y) (some y) (first f ys) ≡ none → (first f ys ≡ none → List·Memᴰ x ys → f x ≡ false) → f x ≡ false
-      go true e t ih = absurd (none-some y (rw e at t))
-        where
-          none-some : (z : ℕ) → _≡_ {A = Option ℕ} (some z) none → ⊥
-          none-some z q = let w : _≡_ {A = ℕ} 0 1 = cc in omega arith
+      go true e t ih = absurd (Option·some-ne-none y (rw e at t))
       go false e t ih = ⊎-elim (λ (q : x ≡ y). rw q e) (λ r. ih (rw e at t) r) (List·Memᴰ·cases-cons k)
 
   pub none-first : (xs : List ℕ) → ((x : ℕ) → List·Memᴰ x xs → f x ≡ false) → first f xs ≡ none
@@ -101,14 +99,11 @@ module _ (f : ℕ → Bool) where
   none-first [] h = refl
   none-first (x ∷ xs) h = rw (h x (List·Memᴰ·head refl)) (none-first xs (λ y k. h y (List·Memᴰ·tail k)))
 
-  pub all-member : (xs : List ℕ) → all f xs ≡ true → (x : ℕ) → List·Memᴰ x xs → f x ≡ true
-  all-member [] t x k = absurd (List·Memᴰ·not-nil k)
-  all-member (y ∷ ys) t x k =
-      ⊎-elim (λ (q : x ≡ y). rw q (both-left (f y) (all f ys) t)) (λ r. all-member ys (both-right (f y) (all f ys) t) x r) (List·Memᴰ·cases-cons k)
-
-  pub member-all : (xs : List ℕ) → ((x : ℕ) → List·Memᴰ x xs → f x ≡ true) → all f xs ≡ true
-  member-all [] h = refl
-  member-all (x ∷ xs) h = both (h x (List·Memᴰ·head refl)) (member-all xs (λ y k. h y (List·Memᴰ·tail k)))
+  -- what a search finds is one of the list
+  pub first-by : (P : Option ℕ → Type 0) (xs : List ℕ) → P none → ((x : ℕ) → List·Memᴰ x xs → P (some x)) → P (first f xs)
+  unfolding first
+  first-by P [] p h = p
+  first-by P (x ∷ xs) p h = by-test P (f x) (some x) (first f xs) (λ t. h x (List·Memᴰ·head refl)) (λ t. first-by P xs p (λ y k. h y (List·Memᴰ·tail k)))
 
   pub all-append : (xs ys : List ℕ) → all f xs ≡ true → all f ys ≡ true → all f (xs ++ ys) ≡ true
-  all-append xs ys p q = member-all (xs ++ ys) (λ x k. ⊎-elim (all-member xs p x) (all-member ys q x) (List·Memᴰ·append-cases xs k))
+  all-append xs ys p q = member-all f (xs ++ ys) (λ x k. ⊎-elim (all-member f xs p x) (all-member f ys q x) (List·Memᴰ·append-cases xs k))

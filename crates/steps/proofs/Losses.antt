@@ -1,7 +1,7 @@
 -- What each cell holds after some cells have lost digits. Assumes nothing.
 use mathlib.Core.Path.{_≡_, refl, sym, ap, _∙_, subst}
 use mathlib.Core.Logic.{_↔_, ⊎-elim}
-use mathlib.Core.Bool.{Bool, true, false, cond, _||_, true≢false}
+use mathlib.Core.Bool.{Bool, true, false, cond, true≢false}
 use mathlib.Core.List.{List, [], _∷_, List·Memᴰ, List·Memᴰ·head, List·Memᴰ·tail, List·Memᴰ·not-nil, List·Memᴰ·cases-cons}
 use Prim.Native.Nat.{ℕ}
 use native.Mathlib.Decide.{ℕ-discrete}
@@ -19,10 +19,6 @@ use Rattle.steps.proofs.Steps.{lose-here, lose-shut, lose-other, all-le
 pub held-unless : (t : Bool) (k d : ℕ) → Held (cond t 0 k) d ↔ ((t ≡ false) × Held k d)
 held-unless true k d = (λ h. absurd (none-held d h), λ w. absurd (true≢false (w .0)))
 held-unless false k d = (λ h. (refl, h), λ w. w .1)
-
-pub neither : (a b : Bool) → ((a || b) ≡ false) ↔ ((a ≡ false) × (b ≡ false))
-neither true b = (λ e. absurd (true≢false e), λ w. w .0)
-neither false b = (λ e. (refl, e), λ w. w .1)
 
 -- ---- a removal is determined by what it loses
 

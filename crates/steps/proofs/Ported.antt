@@ -1,7 +1,7 @@
 -- The ported eliminations come from instances of the wide passes: on admissible masks each removal is nothing, or the step of one instance. Assumes nothing.
 use mathlib.Core.Path.{_≡_, refl, sym, ap, _∙_, subst}
-use mathlib.Core.Logic.{⊎-elim}
-use mathlib.Core.Bool.{Bool, true, false, cond, not, _&&_, _||_, true≢false}
+use mathlib.Core.Logic.{inl, inr, ⊎-elim}
+use mathlib.Core.Bool.{Bool, true, cond, _&&_, _||_}
 use mathlib.Core.List.{List, [], _∷_, List·Memᴰ, List·Memᴰ·head, Memᴰ·append-left, Memᴰ·append-right}
 use Prim.Native.Nat.{ℕ, _+_, _≤_, _<_}
 use native.Mathlib.Nat.{zero-add}
@@ -14,7 +14,7 @@ use Rattle.candidates.proofs.Counts.{and-except}
 use Rattle.candidates.proofs.FewDigits.{Pair as TwoDigits, count-pair}
 use Rattle.candidates.proofs.Held.{Held, held-below, held-both}
 use Rattle.candidates.proofs.Order.{sub-all}
-use Rattle.candidates.proofs.Tests.{by-test, cond-true, below-both, both-left, both-right, T-true}
+use Rattle.candidates.proofs.Tests.{by-test, cond-true, below-both, both-left, both-right, either, or-implied, T-true}
 use Rattle.grid.specs.Units.{units, unit, unitCell, inUnit}
 use Rattle.grid.proofs.Lists.{place-mem}
 use Rattle.grid.proofs.Units.{unit-length}
@@ -80,10 +80,6 @@ pair-applies m u c e a b h p q = rw (lacking c p, lacking e q)
     lacking : (c : ℕ) → at m c ≡ both a b → lacks m c (except (both a b)) ≡ true
     lacking c p =
         eq-eqb (bitAnd (at m c) (except (both a b))) 0 (ap (λ (n : ℕ). bitAnd n (except (both a b))) p ∙ and-except (sub-all (both a b) h))
-
-or-implied : (a b : Bool) → (not a || b) ≡ true → a ≡ true → b ≡ true
-or-implied true b t e = t
-or-implied false b t e = absurd (true≢false (sym e))
 
 -- a removal under a test
 pub reach-if : (g m n : List ℕ) (t : Bool) → (t ≡ true → Reach g m n) → Reach g m (cond t n m)
@@ -176,16 +172,6 @@ columns =
 abbrev inEither : ℕ → ℕ → ℕ → Bool
 inEither x y e = inUnit x e || inUnit y e
 
-in-first : (x y e : ℕ) → inUnit x e ≡ true → inEither x y e ≡ true
-in-first x y e t = ap (λ (b : Bool). b || inUnit y e) t
-
-in-second : (x y e : ℕ) → inUnit y e ≡ true → inEither x y e ≡ true
-in-second x y e t = go (inUnit x e) (inUnit y e) t
-  where
-    go : (a b : Bool) → b ≡ true → (a || b) ≡ true
-    go true b t = refl
-    go false b t = t
-
 -- n are the masks at the digit's start
 module _ (g : List ℕ) (ok : Givens g) {lines across : ℕ} {make : ℕ → ℕ → ℕ → ℕ → ℕ → Instance} (phase : Phase lines across make) (n : List ℕ) (ad : Admissible g n) where
   -- a line whose spots are a and b holds d in the crossing lines a and b alone
@@ -193,9 +179,8 @@ module _ (g : List ℕ) (ok : Givens g) {lines across : ℕ} {make : ℕ → ℕ
       → all (λ e. lacks n e (cond (inEither (across + a) (across + b) e) 0 (only d))) (unit (lines + r)) ≡ true
   line-confined d r a b h some e =
       confined g ok n ad (lines + r) d (phase .within r h) (inEither (across + a) (across + b)) some
-      (λ i l t. ⊎-elim (λ q. in-first (across + a) (across + b) (unitCell (lines + r) i) (at-corner i a l q))
-      (λ q. in-second (across + a) (across + b) (unitCell (lines + r) i) (at-corner i b l q))
-      (held-both a b i (subst (λ (x : ℕ). Held x i) e (has-spots g n (lines + r) d i l ∙ t))))
+      (λ i l t. either (inUnit (across + a) (unitCell (lines + r) i)) (inUnit (across + b) (unitCell (lines + r) i)) .1
+      (⊎-elim (λ q. inl (at-corner i a l q)) (λ q. inr (at-corner i b l q)) (held-both a b i (subst (λ (x : ℕ). Held x i) e (has-spots g n (lines + r) d i l ∙ t)))))
     where
       at-corner : (i c : ℕ) → i < 9 → i ≡ c → inUnit (across + c) (unitCell (lines + r) i) ≡ true
       at-corner i c l q = subst (λ (k : ℕ). inUnit (across + k) (unitCell (lines + r) i) ≡ true) q (phase .meets r i h l)

@@ -8,9 +8,8 @@ use native.Mathlib.Omega.{arith}
 use borrow.Author.Tests.{eqb-true, eq-eqb, eqb-false, ne-eqb, leb-true, le-leb, lt-ltb, le-ltb}
 use lib.Dec.{eqb, leb, ltb}
 use Rattle.candidates.specs.Masks.{count, lowest, tail}
-use Rattle.candidates.proofs.Tests.{cond-true, cond-false}
+use Rattle.candidates.proofs.Tests.{cond-true, cond-false, both, both-left, both-right, neither, or-implied}
 use Rattle.grid.specs.Units.{unit, unitCell, inUnit, Member}
-use Rattle.candidates.proofs.Tests.{both, both-left, both-right}
 use Rattle.grid.proofs.Units.{placeIn, cell-below, cell-place, at-place, cells-differ, member-below, member-in, in-member, member-mem, mem-member, in-row, in-col}
 use Rattle.steps.specs.Boards.{at, isOpen}
 use Rattle.steps.specs.Instances.{only}
@@ -21,7 +20,7 @@ use Rattle.steps.specs.Steps.{loseAll}
 use Rattle.candidates.proofs.FewDigits.{Two, two-ext, two-count, count-two, two-same, More, more-count, count-more}
 use Rattle.candidates.proofs.Held.{Held, held-power}
 use Rattle.steps.proofs.Loops.{all-member, member-all}
-use Rattle.steps.proofs.Losses.{Lost, lost-when, held-unless, neither}
+use Rattle.steps.proofs.Losses.{Lost, lost-when, held-unless}
 use Rattle.steps.proofs.Spots.{in-either, outside, holder-holds, holds-holder, spots-small, spot-below, spot-holder, holder-spot, member-spot}
 
 -- ---- naked pairs
@@ -105,7 +104,7 @@ module _ (g m : List ℕ) {u v : ℕ} (h : u < 27) (k : v < 27) (d : ℕ) where
         member₂ = at-place u j (spot-below g m u d j (w .held₂));
         holder₁ = spot-holder g m u d i (w .held₁);
         holder₂ = spot-holder g m u d j (w .held₂);
-        inside = λ e p q. in-member v e k (member-below h p) (held-in e (holder-holds g m q) (all-member passes (unit u) (both-right (leb 2 (count s)) (all passes (unit u)) t) e (member-mem h p)));
+        inside = λ e p q. in-member v e k (member-below h p) (or-implied (holds g m d e) (inUnit v e) (all-member passes (unit u) (both-right (leb 2 (count s)) (all passes (unit u)) t) e (member-mem h p)) (holder-holds g m q));
       }
     where
       s : ℕ
@@ -119,9 +118,6 @@ module _ (g m : List ℕ) {u v : ℕ} (h : u < 27) (k : v < 27) (d : ℕ) where
 
       w : More s i j
       w = count-more s (spots-small g m u d) (leb-true 2 (count s) (both-left (leb 2 (count s)) (all passes (unit u)) t))
-
-      held-in : (e : ℕ) → holds g m d e ≡ true → passes e ≡ true → inUnit v e ≡ true
-      held-in e q t = rw q at t
 
   pointing-line : Pointing g m u v d → isBoxLine g m u v d ≡ true
   pointing-line s = both (le-leb 2 (count (spots g m u d)) (more-count w)) (member-all passes (unit u) (λ e l. pass e (mem-member h l) (holds g m d e) refl))

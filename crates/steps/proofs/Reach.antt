@@ -1,13 +1,14 @@
 -- Masks that wide instances reach from others, and what follows for settled masks: the order of the instances has no bearing on where they end. Assumes nothing.
 use mathlib.Core.Path.{_≡_, refl, sym, _∙_, subst}
 use mathlib.Core.Bool.{false}
-use mathlib.Core.List.{List, [], _∷_, List·Memᴰ, List·Memᴰ·head, List·Memᴰ·tail}
+use mathlib.Core.List.{List, List·Memᴰ}
 use Prim.Native.Nat.{ℕ}
 use lib.ListN.{length}
 use Rattle.steps.specs.Boards.{at, isOpen, Under, Admissible}
 use Rattle.steps.specs.Instances.{Instance, stepOf}
 use Rattle.steps.specs.Loops.{each}
 use Rattle.steps.specs.Passes.{Kind, kinds, instances, instanceTaken, pass, sweep, Settled}
+use Rattle.steps.proofs.Loops.{each-keeps}
 use Rattle.steps.proofs.Masks.{under-refl, under-trans, under-eq, under-antisym}
 use Rattle.steps.proofs.Steps.{take-under, take-length, take-shut, Closed, closed-stays}
 
@@ -47,9 +48,7 @@ module _ (g : List ℕ) where
   -- ---- loops of instances
 
   pub each-reach : {A : Type 0} (f : A → List ℕ → List ℕ) (xs : List A) → ((x : A) → List·Memᴰ x xs → (m : List ℕ) → Reach m (f x m)) → (m : List ℕ) → Reach m (each f xs m)
-  unfolding each
-  each-reach f [] h m = start
-  each-reach f (x ∷ xs) h m = reach-trans (h x (List·Memᴰ·head refl) m) (each-reach f xs (λ y k. h y (List·Memᴰ·tail k)) (f x m))
+  each-reach f xs h m = each-keeps f (Reach m) xs (λ x k n p. reach-trans p (h x k n)) m start
 
   pub pass-reach : (k : Kind) (m : List ℕ) → Reach m (pass g k m)
   unfolding pass

@@ -12,6 +12,7 @@ use Rattle.steps.specs.Boards.{isOpen, Under, total, sameMasks}
 use Rattle.steps.specs.Instances.{Instance, stepOf}
 use Rattle.steps.specs.Loops.{each}
 use Rattle.steps.specs.Passes.{Kind, Lone, Place, Pair, Pointing, Cross, kinds, instances, instanceTaken, pass, sweep, Settled, Sweeps, settleIn, swept}
+use Rattle.steps.proofs.Loops.{each-keeps}
 use Rattle.steps.proofs.Masks.{under-refl, under-trans, under-antisym, total-less, same-eq, differ}
 use Rattle.steps.proofs.Reach.{Reach, reach-trans, reach-under, reach-length, pass-reach, sweep-reach}
 use Rattle.steps.proofs.Steps.{take-under, take-length}
@@ -27,8 +28,7 @@ each-still {A} f down long (y ∷ ys) m e x k =
     ⊎-elim (λ (q : x ≡ y). ap (λ (w : A). f w m) q ∙ first) (λ r. each-still f down long ys m (ap (each f ys) (sym first) ∙ e) x r) (List·Memᴰ·cases-cons k)
   where
     lower : (zs : List A) (n : List ℕ) → Under (each f zs n) n
-    lower [] n = under-refl n
-    lower (z ∷ zs) n = under-trans (lower zs (f z n)) (down z n)
+    lower zs n = each-keeps f (λ o. Under o n) zs (λ z k o p. under-trans (down z o) p) n (under-refl n)
 
     first : f y m ≡ m
     first = under-antisym (long y m) (down y m) (subst (λ (n : List ℕ). Under n (f y m)) e (lower ys (f y m)))

@@ -1,13 +1,12 @@
 -- The open cells of a unit that hold a digit, and the mask of their places. Assumes nothing.
 use mathlib.Core.Path.{_≡_, refl, sym, ap, _∙_, subst}
 use mathlib.Core.Logic.{_⊎_, _↔_, inl, inr, ⊎-elim}
-use mathlib.Core.Bool.{Bool, true, false, cond, true≢false}
+use mathlib.Core.Bool.{Bool, true, false, true≢false}
 use mathlib.Core.List.{List, _++_, List·Memᴰ, List·Memᴰ·append-cases, Memᴰ·append-left, Memᴰ·append-right}
 use Prim.Native.Nat.{ℕ, _^_, _<_}
 use native.Mathlib.Omega.{arith}
-use lib.Dec.{eqb}
 use Rattle.candidates.specs.Masks.{has}
-use Rattle.candidates.proofs.Membership.{gather-lt, bit-gather}
+use Rattle.candidates.proofs.Membership.{gather-lt}
 use Rattle.grid.specs.Units.{unit, unitCell, inUnit, Member}
 use Rattle.candidates.proofs.Tests.{both, both-left, both-right}
 use Rattle.grid.proofs.Units.{at-place, same-place, member-in, in-member, member-mem, mem-member}
@@ -15,7 +14,7 @@ use Rattle.steps.specs.Boards.{at, isOpen}
 use Rattle.steps.specs.Ported.{holds, spots}
 use Rattle.steps.specs.Published.{Holder, HiddenSingle}
 use Rattle.candidates.proofs.FewDigits.{One}
-use Rattle.candidates.proofs.Held.{Held, held-below}
+use Rattle.candidates.proofs.Held.{Held, held-below, has-gather}
 
 -- the cells of two units, named in either order
 pub in-either : {x y f s : ℕ} → x < 27 → y < 27 → ((x ≡ f) × (y ≡ s)) ⊎ ((x ≡ s) × (y ≡ f)) → (e : ℕ) → List·Memᴰ e (unit f ++ unit s) ↔ (Member x e ⊎ Member y e)
@@ -60,11 +59,7 @@ module _ (g m : List ℕ) where
 
     pub has-spots : (i : ℕ) → i < 9 → has (spots g m u d) i ≡ holds g m d (unitCell u i)
     unfolding spots
-    has-spots i h = ap (λ (b : ℕ). eqb b 1) (bit-gather (λ i. holds g m d (unitCell u i)) 9 i h) ∙ go (holds g m d (unitCell u i))
-      where
-        go : (b : Bool) → eqb (cond b 1 0) 1 ≡ b
-        go true = refl
-        go false = refl
+    has-spots i h = has-gather (λ i. holds g m d (unitCell u i)) 9 i h
 
     pub spot-below : (i : ℕ) → Held (spots g m u d) i → i < 9
     spot-below i t = held-below (spots g m u d) 9 i spots-lt t

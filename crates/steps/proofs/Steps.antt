@@ -2,7 +2,7 @@
 use mathlib.Core.Path.{_≡_, refl, sym, ap, _∙_, subst}
 use mathlib.Core.Logic.{_≢_}
 use mathlib.Core.Bool.{Bool, true, false}
-use mathlib.Core.List.{List, [], _∷_, List·Memᴰ, List·Memᴰ·head, List·Memᴰ·tail}
+use mathlib.Core.List.{List, [], _∷_, List·Memᴰ}
 use Prim.Native.Nat.{ℕ, _≤_, _<_}
 use native.Mathlib.Decide.{ℕ-discrete, decLt}
 use native.Mathlib.Omega.{arith}
@@ -16,7 +16,7 @@ use Rattle.candidates.proofs.Tests.{by-test}
 use Rattle.steps.specs.Boards.{at, Under}
 use Rattle.steps.specs.Loops.{each}
 use Rattle.steps.specs.Steps.{Step, lacks, applies, loseAt, loseAll, take}
-use Rattle.steps.proofs.Loops.{all-member, member-all}
+use Rattle.steps.proofs.Loops.{each-idle, each-keeps, all-member, member-all}
 use Rattle.steps.proofs.Masks.{under-refl, under-trans}
 
 -- ---- one mask is set
@@ -42,6 +42,14 @@ module _ (free : ℕ → Bool) where
   pub lose-other : (c k : ℕ) (m : List ℕ) (e : ℕ) → e ≢ c → at (loseAt free c k m) e ≡ at m e
   lose-other c k m e h =
       by-test (λ (n : List ℕ). at n e ≡ at m e) (free c) (set m c (minus (at m c) k)) m (λ t. getD-set-other m c e (minus (at m c) k) 0 h) (λ t. refl)
+
+  -- a cell that is not open keeps its mask
+  pub shut-keeps : (c k : ℕ) (m : List ℕ) (e : ℕ) → free e ≡ false → at (loseAt free c k m) e ≡ at m e
+  shut-keeps c k m e f = go (ℕ-discrete e c)
+    where
+      go : Dec (e ≡ c) → at (loseAt free c k m) e ≡ at m e
+      go (yes q) = ap (λ (n : List ℕ). at n e) (lose-shut c k m (subst (λ (x : ℕ). free x ≡ false) q f))
+      go (no q) = lose-other c k m e q
 
   pub lose-length : (c k : ℕ) (m : List ℕ) → length (loseAt free c k m) ≡ length m
   lose-length c k m =
@@ -76,9 +84,7 @@ module _ (free : ℕ → Bool) where
   -- ---- many cells
 
   pub all-under : (cs : List ℕ) (k : ℕ → ℕ) (m : List ℕ) → Under (loseAll free cs k m) m
-  unfolding each
-  all-under [] k m = under-refl m
-  all-under (c ∷ cs) k m = under-trans (all-under cs k (loseAt free c (k c) m)) (lose-under c (k c) m)
+  all-under cs k m = each-keeps (λ c. loseAt free c (k c)) (λ n. Under n m) cs (λ c l n p. under-trans (lose-under c (k c) n) p) m (under-refl m)
 
   pub all-mono : (cs : List ℕ) (k : ℕ → ℕ) {m n : List ℕ} → Under m n → Under (loseAll free cs k m) (loseAll free cs k n)
   unfolding each
@@ -86,25 +92,13 @@ module _ (free : ℕ → Bool) where
   all-mono (c ∷ cs) k p = all-mono cs k (lose-mono c (k c) p)
 
   pub all-length : (cs : List ℕ) (k : ℕ → ℕ) (m : List ℕ) → length (loseAll free cs k m) ≡ length m
-  unfolding each
-  all-length [] k m = refl
-  all-length (c ∷ cs) k m = all-length cs k (loseAt free c (k c) m) ∙ lose-length c (k c) m
+  all-length cs k m = each-keeps (λ c. loseAt free c (k c)) (λ n. length n ≡ length m) cs (λ c l n p. lose-length c (k c) n ∙ p) m refl
 
   pub all-shut : (cs : List ℕ) (k : ℕ → ℕ) (m : List ℕ) (e : ℕ) → free e ≡ false → at (loseAll free cs k m) e ≡ at m e
-  unfolding each
-  all-shut [] k m e f = refl
-  all-shut (c ∷ cs) k m e f = all-shut cs k (loseAt free c (k c) m) e f ∙ go (ℕ-discrete e c)
-    where
-      go : Dec (e ≡ c) → at (loseAt free c (k c) m) e ≡ at m e
-      go (yes q) = ap (λ (n : List ℕ). at n e) (lose-shut c (k c) m (subst (λ (x : ℕ). free x ≡ false) q f))
-      go (no q) = lose-other c (k c) m e q
+  all-shut cs k m e f = each-keeps (λ c. loseAt free c (k c)) (λ n. at n e ≡ at m e) cs (λ c l n p. shut-keeps c (k c) n e f ∙ p) m refl
 
   pub all-none : (cs : List ℕ) (k : ℕ → ℕ) (m : List ℕ) → ((c : ℕ) → List·Memᴰ c cs → free c ≡ true → bitAnd (at m c) (k c) ≡ 0) → loseAll free cs k m ≡ m
-  unfolding each
-  all-none [] k m h = refl
-  all-none (c ∷ cs) k m h =
-      ap (each (λ e. loseAt free e (k e)) cs) (lose-none c (k c) m (h c (List·Memᴰ·head refl)))
-      ∙ all-none cs k m (λ e l. h e (List·Memᴰ·tail l))
+  all-none cs k m h = each-idle (λ c. loseAt free c (k c)) cs m (λ c l. lose-none c (k c) m (h c l))
 
   -- ---- a step
 
