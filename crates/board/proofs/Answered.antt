@@ -1,27 +1,28 @@
 -- What a call hands back once its board is checked. Assumes nothing.
 use mathlib.Core.Path.{_≡_, refl, sym, ap, _∙_}
-use mathlib.Core.Bool.{Bool, true, false, true≢false, cond, not, _&&_, _||_}
-use mathlib.Core.List.{List}
+use mathlib.Core.Bool.{Bool, true, false, true≢false, cond, not}
+use mathlib.Core.List.{List, [], _∷_}
 use mathlib.Core.Option.{Option, none, some}
 use Prim.Native.Nat.{ℕ, suc, _+_, _-_, _<_, _≤_}
 use native.Mathlib.Omega.{arith}
-use borrow.Author.Tests.{not-true, not-false, lt-ltb, le-ltb, eqb-true}
+use borrow.Author.Tests.{not-true, not-false, lt-ltb, le-ltb}
 use lib.Dec.{eqb, ltb}
 use lib.IntN.{pos}
+use lib.ListN.{length}
 use Rattle.candidates.specs.Answer.{gives, stop}
-use Rattle.candidates.specs.Masks.{nine, count, minus}
-use Rattle.candidates.proofs.Order.{sub-le, sub-of-minus}
-use Rattle.candidates.proofs.Tests.{cond-true, cond-false}
+use Rattle.candidates.specs.Masks.{nine, count}
+use Rattle.candidates.proofs.Order.{sub-le}
+use Rattle.candidates.proofs.Tests.{by-test, cond-true, cond-false}
 use Rattle.grid.specs.Cells.{cells}
 use Rattle.grid.specs.Lists.{range, all}
 use Rattle.grid.proofs.Lists.{range-on, range-end}
 use Rattle.steps.specs.Boards as S
 use Rattle.steps.specs.Boards.{at, givensOf, isOpen, freshAt, fresh}
-use Rattle.steps.specs.Calls.{misfit, badMask, firstStop, refusal, checked, Call, updateCandidates, outcome, answer, left}
+use Rattle.steps.specs.Calls.{badMask, refusal, checked, Call, updateCandidates, outcome, answer, left}
 use Rattle.steps.specs.Loops.{first}
-use Rattle.steps.proofs.Check.{clues-givens}
+use Rattle.steps.proofs.Check.{clues-givens, fitting, stops-none}
 use Rattle.steps.proofs.Fresh.{freshAt-small}
-use Rattle.steps.proofs.Loops.{first-none, upTo-in}
+use Rattle.steps.proofs.Searches.{none-cells}
 use Rattle.board.specs.Answers.{beside, passes}
 use Rattle.board.specs.Boards.{handed, firstBadClue, clueCount, maskOr5, Finished, Open, Dead, noneEmpty, allSingle, verdictOf, verdictRead}
 use Rattle.grid.proofs.Cells.{all-cells}
@@ -78,6 +79,12 @@ module _ (g : List ℕ) (i : ℕ) where
   unfolding clueCount
   count-end h = ap (clueCount g) (range-end 81 i h)
 
+pub clues-few : (g cs : List ℕ) → clueCount g cs ≤ length cs
+unfolding clueCount
+clues-few g [] = omega arith
+clues-few g (c ∷ cs) =
+    by-test (λ (n : ℕ). n ≤ suc (length cs)) (isOpen g c) (clueCount g cs) (suc (clueCount g cs)) (λ t. omega (arith, clues-few g cs)) (λ t. omega (arith, clues-few g cs))
+
 -- ---- one cell's mask
 
 module _ (m : List ℕ) (c : ℕ) where
@@ -105,18 +112,6 @@ module _ (m : List ℕ) where
 
 -- a board that is not refused has masks of nine digits
 
-no-misfit : (x y : Option ℕ) → firstStop 3 x (firstStop 9 y none) ≡ none → y ≡ none
-no-misfit none none t = refl
-no-misfit none (some c) t = absurd (true≢false (ap passes (sym t)))
-no-misfit (some c) y t = absurd (true≢false (ap passes (sym t)))
-
-nothing-more : (x f : ℕ) (o : Bool) → misfit x f o ≡ false → minus x f ≡ 0
-nothing-more x f o t = go (eqb (minus x f) 0) refl t
-  where
-    go : (a : Bool) → eqb (minus x f) 0 ≡ a → not (a && (o || eqb x f)) ≡ false → minus x f ≡ 0
-    go true e t = eqb-true (minus x f) 0 e
-    go false e t = absurd (true≢false t)
-
 module _ (b : S.Board) (t : refusal b ≡ none) where
   g : List ℕ
   g = givensOf (b .clues)
@@ -125,15 +120,13 @@ module _ (b : S.Board) (t : refusal b ≡ none) where
   m = b .masks
 
   good : (c : ℕ) → c < 81 → badMask g m c ≡ false
-  unfolding refusal cells g m
-  good c h =
-      first-none (badMask g m) cells (no-misfit (firstBadClue (b .clues)) (first (badMask g m) cells) t) c (upTo-in 81 c h)
+  unfolding refusal g m
+  good = none-cells (badMask g m) (stops-none 3 9 (firstBadClue (b .clues)) (first (badMask g m) cells) t .1)
 
   small : (c : ℕ) → c < 81 → nine (at m c) ≡ at m c
   unfolding g m
   small c h =
-      let s = sub-le (sub-of-minus (at m c) (freshAt g c) (nothing-more (at m c) (freshAt g c) (isOpen g c) (good c h))) in
-      omega (arith, s, freshAt-small g (clues-givens (b .clues)) c)
+      omega (arith, sub-le (fitting (at m c) (freshAt g c) (isOpen g c) (good c h) .0), freshAt-small g (clues-givens (b .clues)) c)
 
   pub verdict-read : verdictRead (b .masks) ≡ verdictOf (b .masks)
   unfolding verdictRead verdictOf m

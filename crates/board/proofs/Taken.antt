@@ -1,6 +1,6 @@
 -- The digits that a cell's three units are given are those of its peers, for an open cell; so the code's fresh masks are the fresh masks. Assumes nothing.
 use mathlib.Core.Path.{_≡_, refl, sym, ap, _∙_, subst}
-use mathlib.Core.Logic.{⊎-elim}
+use mathlib.Core.Logic.{inr, ⊎-elim}
 use mathlib.Core.Bool.{Bool, true, false, cond}
 use mathlib.Core.List.{List, [], _∷_, map, List·Memᴰ, List·Memᴰ·not-nil, List·Memᴰ·cases-cons}
 use Prim.Native.Nat.{ℕ, _+_, _-_, _<_}
@@ -10,39 +10,18 @@ use borrow.Author.Tests.{eq-eqb}
 use lib.ListN.{length, getD, set, replicate, length-set, getD-replicate}
 use lib.Seq.{set-out, getD-set-same, getD-set-other}
 use Rattle.candidates.specs.Masks.{Sub, minus, union, single}
+use Rattle.candidates.proofs.Held.{none-held, held-sub, sub-held}
 use Rattle.candidates.proofs.Order.{sub-refl, sub-trans, sub-antisym, sub-none, union-left, union-right, union-sub}
 use Rattle.candidates.proofs.Tests.{by-test, cond-true}
 use Rattle.grid.specs.Cells.{cell, row, col, box, peers, cells}
 use Rattle.grid.specs.Units.{inUnit}
 use Rattle.grid.proofs.Cells.{map-cells, row-below, col-below, box-below, row-of, col-of, cell-of, cell-lt, peer-sees, sees-peer, sees-shared, share-sees}
+use Rattle.grid.proofs.Unions.{held-gathered}
 use Rattle.grid.proofs.Units.{by-unit, Kind, kind, in-row, in-col, in-box, member-in}
 use Rattle.steps.specs.Boards.{given, isOpen, givenMask, taken, freshAt, fresh}
 use Rattle.steps.specs.Loops.{each, upTo}
 use Rattle.steps.proofs.Loops.{each-keeps, in-upTo, upTo-in}
 use Rattle.board.specs.Fresh.{joinAt, boxUnit, joinUnits, joinGiven, joinRow, unitSets, seen, freshMask, freshRow}
-
--- ---- a union over a list
-
-module _ {A : Type 0} (f : A → ℕ) where
-  union-over : List A → ℕ → ℕ
-  union-over xs s = each (λ x k. union k (f x)) xs s
-
-  over-start : (xs : List A) (s : ℕ) → Sub s (union-over xs s)
-  unfolding union-over
-  over-start xs s =
-      each-keeps (λ x k. union k (f x)) (λ k. Sub s k) xs (λ x h k p. sub-trans p (union-left k (f x))) s (sub-refl s)
-
-  over-has : (xs : List A) (s : ℕ) (x : A) → List·Memᴰ x xs → Sub (f x) (union-over xs s)
-  unfolding union-over each
-  over-has [] s x h = absurd (List·Memᴰ·not-nil h)
-  over-has (y ∷ ys) s x h =
-      ⊎-elim (λ (e : x ≡ y). subst (λ (z : A). Sub (f z) (union-over ys (union s (f y)))) (sym e) (sub-trans (union-right s (f y)) (over-start ys (union s (f y)))))
-      (λ r. over-has ys (union s (f y)) x r) (List·Memᴰ·cases-cons h)
-
-  over-only : (xs : List A) (z : ℕ) → ((x : A) → List·Memᴰ x xs → Sub (f x) z) → Sub (union-over xs 0) z
-  unfolding union-over
-  over-only xs z h =
-      each-keeps (λ x k. union k (f x)) (λ k. Sub k z) xs (λ x m k p. union-sub p (h x m)) 0 (sub-none z)
 
 -- ---- a loop that makes a thing at one of its members, and keeps it
 
@@ -221,8 +200,10 @@ module _ (g : List ℕ) (r k : ℕ) (h : r < 9) (l : k < 9) where
       d = getD (unitSets g) (boxUnit r k) 0
 
   peers-three : Sub (taken g c) three
-  unfolding taken union-over
-  peers-three = over-only (givenMask g) (peers c) three one
+  unfolding taken
+  peers-three =
+      sub-held (taken g c) three
+      (λ d t. ⊎-elim (λ z. absurd (none-held d z)) (λ w. held-sub d (one (w .0) (w .1)) (w .2)) (held-gathered (givenMask g) (peers c) 0 d .0 t))
     where
       one : (e : ℕ) → List·Memᴰ e (peers c) → Sub (givenMask g e) three
       one e m =
@@ -233,7 +214,7 @@ module _ (g : List ℕ) (r k : ℕ) (h : r < 9) (l : k < 9) where
 
   -- an open cell adds none of its own
   three-peers : isOpen g c ≡ true → Sub three (taken g c)
-  unfolding taken union-over
+  unfolding taken
   three-peers o =
       union-sub (union-sub (unit r (omega arith) (row-in r k h l)) (unit (9 + k) (omega arith) (col-in r k h l)))
       (unit (boxUnit r k) (omega arith) (box-in r k h l))
@@ -241,7 +222,8 @@ module _ (g : List ℕ) (r k : ℕ) (h : r < 9) (l : k < 9) where
       go : (u e : ℕ) → u < 27 → e < 81 → inUnit u c ≡ true → inUnit u e ≡ true → Dec (c ≡ e) → Sub (givenMask g e) (taken g c)
       go u e i j p q (yes w) =
           subst (λ (x : ℕ). Sub x (taken g c)) (sym (cond-true (isOpen g c) 0 (single (given g c - 1)) o) ∙ ap (givenMask g) w) (sub-none (taken g c))
-      go u e i j p q (no w) = over-has (givenMask g) (peers c) 0 e (sees-peer c e j (share-sees u c e i w p q))
+      go u e i j p q (no w) =
+          sub-held (givenMask g e) (taken g c) (λ d t. held-gathered (givenMask g) (peers c) 0 d .1 (inr (e, sees-peer c e j (share-sees u c e i w p q), t)))
 
       unit : (u : ℕ) → u < 27 → inUnit u c ≡ true → Sub (getD (unitSets g) u 0) (taken g c)
       unit u i p = sets-only g u (taken g c) i (λ e j q. go u e i j p q (ℕ-discrete c e))

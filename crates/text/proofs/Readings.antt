@@ -6,13 +6,14 @@ use mathlib.Core.Option.{Option, none, some}
 use Prim.Native.Nat.{ℕ, _+_, _-_, _≤_, _<_}
 use native.Mathlib.Decide.{ℕ-discrete, decLt}
 use native.Mathlib.Omega.{arith}
-use borrow.Author.Tests.{eq-eqb, ne-eqb, not-true}
+use borrow.Author.Tests.{ne-eqb, not-true}
 use lib.Dec.{T, eqb, eqb→eq}
 use lib.IntN.{ℤ, pos}
 use lib.ListN.{length, getD, take, drop, length-map, List·getD-map}
 use lib.Seq.{ext-getD, take-at}
-use Rattle.candidates.specs.Answer.{Answer, gives, stop}
-use Rattle.candidates.proofs.Tests.{cond-true, cond-false, T-true, allBelow, below, implies, implied}
+use Rattle.candidates.specs.Answer.{Answer, gives}
+use Rattle.candidates.proofs.Answers.{stop-gives}
+use Rattle.candidates.proofs.Tests.{cond-false, T-true, allBelow, below, implies, implied}
 use Rattle.grid.specs.Cells.{cells}
 use Rattle.grid.proofs.Cells.{at-cells}
 use Rattle.steps.specs.Boards.{digitOf}
@@ -23,7 +24,7 @@ use Rattle.steps.proofs.Searches.{cells-none, none-cells}
 use Rattle.board.specs.Boards.{openOf}
 use Rattle.text.specs.Texts.{byteCell, noCell, isOther, cellClue, byteClue, firstOther, cluesOf, readCells, parseOf, clueByte, textOf, writeOf, written, plainByte, canonical}
 use Rattle.board.proofs.Checks.{is-opened}
-use Rattle.text.proofs.Texts.{read, over, digit, writes}
+use Rattle.text.proofs.Texts.{wrong-length, reading, read, over, digit, writes}
 
 -- ---- what the reader accepts
 
@@ -40,19 +41,13 @@ module _ (t : List ℕ) (z : List ℤ) where
     where
       cells-read : (r : Option ℕ) → readCells r (cluesOf t) ≡ gives z → (r ≡ none) × (cluesOf t ≡ z)
       cells-read none e = (refl, cc)
-      cells-read (some i) e = absurd (stopped (2) (pos i) e)
-        where
-          stopped : (n : ℕ) (d : ℤ) → _≡_ {A = Answer (List ℤ)} (stop n d) (gives z) → ⊥
-          stopped n d e = let w : _≡_ {A = ℕ} 0 1 = cc in omega arith
+      cells-read (some i) e = absurd (stop-gives e)
 
       go : Dec (length t ≡ 81) → Reads t z
       go (yes h) =
-          let w = cells-read (firstOther t) (sym (cond-true (eqb (length t) 81) (readCells (firstOther t) (cluesOf t)) (stop 1 (pos (length t))) (eq-eqb (length t) 81 h)) ∙ e) in
+          let w = cells-read (firstOther t) (reading t h refl ∙ e) in
           record { size = h; plain = none-cells (λ i. isOther (getD t i 0)) (w .0); is = w .1 }
-      go (no h) =
-          let k : _≡_ {A = Answer (List ℤ)} (stop 1 (pos (length t))) (gives z) = sym (cond-false (eqb (length t) 81) (readCells (firstOther t) (cluesOf t)) (stop 1 (pos (length t))) (ne-eqb (length t) 81 h)) ∙ e in
-          let w : _≡_ {A = ℕ} 0 1 = cc in
-          absurd (omega arith)
+      go (no h) = absurd (stop-gives (wrong-length t h ∙ e))
 
   pub accepts : Reads t z → parseOf t ≡ gives z
   accepts r = sym (read t (r .size) (cells-none (λ i. isOther (getD t i 0)) (r .plain))) ∙ ap gives (r .is)

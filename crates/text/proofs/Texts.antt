@@ -36,7 +36,7 @@ module _ (t : List ℕ) where
   wrong-length n = sym (cond-false (eqb (length t) 81) (readCells (firstOther t) (cluesOf t)) (stop 1 (pos (length t))) (ne-eqb (length t) 81 n))
 
   module _ (h : length t ≡ 81) where
-    reading : {r : Option ℕ} → firstOther t ≡ r → readCells r (cluesOf t) ≡ parseOf t
+    pub reading : {r : Option ℕ} → firstOther t ≡ r → readCells r (cluesOf t) ≡ parseOf t
     unfolding parseOf
     reading e =
         ap (λ (r : Option ℕ). readCells r (cluesOf t)) (sym e)
