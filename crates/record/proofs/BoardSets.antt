@@ -5,19 +5,20 @@ use mathlib.Core.List.{List, map}
 use Prim.Native.Nat.{ℕ, suc, _+_, _-_, _*_, _/_, _%_, _^_, _≤_, _<_, zero-le}
 use native.Mathlib.Decide.{ℕ-discrete, decLt}
 use native.Mathlib.Omega.{arith}
-use borrow.Author.Tests.{eq-eqb, ne-eqb, eqb-true, eqb-false, le-leb, lt-ltb}
-use lib.Dec.{eqb, eqb→eq, leb, ltb, lit<}
+use borrow.Author.Tests.{eq-eqb, ne-eqb, eqb-true, eqb-false, le-leb}
+use lib.Bits.{and-zero-r}
+use lib.Dec.{eqb, eqb→eq, leb, lit<}
 use lib.IntN.{ℤ, pos}
-use lib.ListN.{length, getD, getD-replicate, List·getD-eq-default}
+use lib.ListN.{length, getD, getD-replicate}
 use lib.Seq.{ext-getD}
-use Rattle.candidates.specs.Masks.{bit, has, minus, single, lowest, firstPlace, Sub}
-use Rattle.candidates.proofs.Counts.{bit-lowest}
-use Rattle.candidates.proofs.Held.{Held, held-below, held-ext, held-minus, held-power, none-held, sub-held}
-use Rattle.candidates.proofs.Membership.{bit-all, bit-minus, bit-none, ext}
-use Rattle.candidates.proofs.Order.{minus-sub, sub-le, sub-none}
+use Rattle.candidates.specs.Masks.{has, minus, single, lowest, firstPlace, Sub}
+use Rattle.candidates.proofs.FewDigits.{lowest-in}
+use Rattle.candidates.proofs.Held.{Held, held-all, held-below, held-ext, held-minus, held-power, none-held, sub-held}
+use Rattle.candidates.proofs.Membership.{bit-minus, ext, single-power}
+use Rattle.candidates.proofs.Order.{minus-none, minus-sub, sub-le, sub-none}
 use Rattle.candidates.proofs.Tests.{below, by-test, cond-true, cond-false}
 use Rattle.grid.specs.Cells.{cells}
-use Rattle.grid.proofs.Cells.{at-cells}
+use Rattle.grid.proofs.Cells.{cells-size, at-cells, past-cells}
 use Rattle.steps.specs.Boards.{at, digitOf, given, givensOf, givenMask, isOpen, fresh, Givens, Admissible}
 use Rattle.steps.specs.Calls.{badClue}
 use Rattle.steps.specs.Demand3.{Clues}
@@ -33,19 +34,12 @@ use Rattle.record.proofs.SectionLaws.{Holds}
 -- ---- 81 sets made cell by cell
 
 module _ (f : ℕ → ℕ) where
-  map-size : length (map f cells) ≡ 81
-  unfolding cells
-  map-size = refl
-
-  map-out : (c : ℕ) → 81 ≤ c → at (map f cells) c ≡ 0
-  map-out c h = List·getD-eq-default (map f cells) 0 {n = c} (omega (arith, map-size))
-
   in-map : (j : ℕ) → inSets (map f cells) j ≡ true → (j / 9 < 81) × Held (f (j / 9)) (j % 9)
   in-map j t = go (decLt (j / 9) 81)
     where
       go : Dec (j / 9 < 81) → (j / 9 < 81) × Held (f (j / 9)) (j % 9)
       go (yes h) = (h, ap (λ (x : ℕ). has x (j % 9)) (sym (at-cells 0 f (j / 9) h)) ∙ t)
-      go (no h) = absurd (none-held (j % 9) (ap (λ (x : ℕ). has x (j % 9)) (sym (map-out (j / 9) (omega arith))) ∙ t))
+      go (no h) = absurd (none-held (j % 9) (ap (λ (x : ℕ). has x (j % 9)) (sym (past-cells 0 f (j / 9) (omega arith))) ∙ t))
 
   map-in : (j : ℕ) → j / 9 < 81 → Held (f (j / 9)) (j % 9) → inSets (map f cells) j ≡ true
   map-in j h t = ap (λ (x : ℕ). has x (j % 9)) (at-cells 0 f (j / 9) h) ∙ t
@@ -55,11 +49,11 @@ module _ (f : ℕ → ℕ) where
     where
       go : Dec (c < 81) → at (map f cells) c < 512
       go (yes h) = rw (at-cells 0 f c h) (small c)
-      go (no h) = rw (map-out c (omega arith)) (lit< tt)
+      go (no h) = rw (past-cells 0 f c (omega arith)) (lit< tt)
 
   -- a list of 81 with the same members
   map-ext : (s : List ℕ) → length s ≡ 81 → ((c : ℕ) → c < 81 → f c ≡ at s c) → map f cells ≡ s
-  map-ext s l h = ext-getD 0 (map f cells) s (map-size ∙ sym l) (λ c k. at-cells 0 f c (omega (arith, map-size)) ∙ h c (omega (arith, map-size)))
+  map-ext s l h = ext-getD 0 (map f cells) s (cells-size f ∙ sym l) (λ c k. at-cells 0 f c (omega (arith, cells-size f)) ∙ h c (omega (arith, cells-size f)))
 
 -- ---- clues
 
@@ -76,10 +70,10 @@ module _ (g : List ℕ) (ok : Givens g) where
   unfolding clueSets
   clues-hold =
       record {
-        size = map-size (givenMask g);
+        size = cells-size (givenMask g);
         small = map-small (givenMask g) (givenMask-small g ok);
         fits = λ a b t u h. apart a b (clue-in a t .1) (clue-in b u .1) h (decLt b (9 * (a / 9 + 1)));
-        within = λ j t. ap (λ (x : ℕ). has x (j % 9)) (getD-replicate 81 (j / 9) 511 0 (clue-in j t .0)) ∙ ap (λ (n : ℕ). eqb n 1) (bit-all (j % 9) (omega arith));
+        within = λ j t. ap (λ (x : ℕ). has x (j % 9)) (getD-replicate 81 (j / 9) 511 0 (clue-in j t .0)) ∙ held-all (j % 9) (omega arith);
       }
     where
       apart : (a b : ℕ) → given g (a / 9) ≡ suc (a % 9) → given g (b / 9) ≡ suc (b % 9) → a < b → Dec (b < 9 * (a / 9 + 1)) → 9 * (a / 9 + 1) ≤ b
@@ -96,7 +90,7 @@ module _ (g : List ℕ) (ok : Givens g) where
       one c true o = ap digitIn (cond-true (isOpen g c) 0 (single (given g c - 1)) o) ∙ sym (eqb-true (given g c) 0 o)
       one c false o =
           let n : given g c - 1 < 9 = omega (arith, ok .small c) in
-          ap digitIn (cond-false (isOpen g c) 0 (single (given g c - 1)) o ∙ cond-true (ltb (given g c - 1) 16) (2 ^ (given g c - 1)) 0 (lt-ltb (given g c - 1) 16 (omega arith)))
+          ap digitIn (cond-false (isOpen g c) 0 (single (given g c - 1)) o ∙ single-power (given g c - 1) (omega arith))
           ∙ power-digit (given g c - 1) n ∙ omega (arith, eqb-false (given g c) 0 o)
 
   pub givens-again : givensOf (cluesFrom g) ≡ g
@@ -122,8 +116,8 @@ clues-again clues ok =
 
 -- the sets of a clue section that was read
 module _ (free s : List ℕ) (h : Holds section.Clues free s) where
-  lowest-in : (c : ℕ) → (at s c ≡ 0 → ⊥) → Held (at s c) (lowest (at s c))
-  lowest-in c n = eq-eqb (bit (at s c) (lowest (at s c))) 1 (bit-lowest (at s c) (omega arith) (omega (arith, h .small c)))
+  own : (c : ℕ) → (at s c ≡ 0 → ⊥) → Held (at s c) (lowest (at s c))
+  own c n = lowest-in (at s c) (omega arith) (omega (arith, h .small c))
 
   -- the only digit of a cell
   alone : (c d : ℕ) → (at s c ≡ 0 → ⊥) → Held (at s c) d → d ≡ lowest (at s c)
@@ -135,7 +129,7 @@ module _ (free s : List ℕ) (h : Holds section.Clues free s) where
       go : Dec (d ≡ lowest (at s c)) → d ≡ lowest (at s c)
       go (yes q) = q
       go (no q) =
-          let u = lowest-in c n in
+          let u = own c n in
           let ld : d < 9 = held-below (at s c) 9 d (h .small c) t in
           let lp : lowest (at s c) < 9 = held-below (at s c) 9 (lowest (at s c)) (h .small c) u in
           order (decLt d (lowest (at s c))) ld lp u
@@ -151,15 +145,15 @@ module _ (free s : List ℕ) (h : Holds section.Clues free s) where
   digit-most : (c : ℕ) → digitIn (at s c) ≤ 9
   digit-most c =
       by-test (λ (n : ℕ). n ≤ 9) (eqb (at s c) 0) 0 (lowest (at s c) + 1) (λ t. zero-le)
-      (λ t. omega (arith, held-below (at s c) 9 (lowest (at s c)) (h .small c) (lowest-in c (eqb-false (at s c) 0 t))))
+      (λ t. omega (arith, held-below (at s c) 9 (lowest (at s c)) (h .small c) (own c (eqb-false (at s c) 0 t))))
 
   pub digits-good : Givens (digitsIn s)
   unfolding digitsIn
-  digits-good = record { size = map-size (λ c. digitIn (at s c)); small = λ c. go c (decLt c 81) }
+  digits-good = record { size = cells-size (λ c. digitIn (at s c)); small = λ c. go c (decLt c 81) }
     where
       go : (c : ℕ) → Dec (c < 81) → given (map (λ c. digitIn (at s c)) cells) c ≤ 9
       go c (yes l) = rw (at-cells 0 (λ c. digitIn (at s c)) c l) (digit-most c)
-      go c (no l) = rw (map-out (λ c. digitIn (at s c)) c (omega arith)) zero-le
+      go c (no l) = rw (past-cells 0 (λ c. digitIn (at s c)) c (omega arith)) zero-le
 
   pub clue-sets-again : clueSets (digitsIn s) ≡ s
   unfolding clueSets
@@ -171,17 +165,14 @@ module _ (free s : List ℕ) (h : Holds section.Clues free s) where
           cond-true (eqb n 0) 0 (single (n - 1)) (eq-eqb n 0 z) ∙ sym q
       mask c n e (no q) =
           let p = lowest (at s c) in
-          let u : Held (at s c) p = lowest-in c q in
+          let u : Held (at s c) p = own c q in
           let l : p < 9 = held-below (at s c) 9 p (h .small c) u in
           let m : n ≡ p + 1 = e ∙ cond-false (eqb (at s c) 0) 0 (p + 1) (ne-eqb (at s c) 0 q) in
           let o : n - 1 ≡ p = omega arith in
-          cond-false (eqb n 0) 0 (single (n - 1)) (ne-eqb n 0 (λ z. absurd (omega arith))) ∙ ap single o ∙ cond-true (ltb p 16) (2 ^ p) 0 (lt-ltb p 16 (omega arith))
+          cond-false (eqb n 0) 0 (single (n - 1)) (ne-eqb n 0 (λ z. absurd (omega arith))) ∙ ap single o ∙ single-power p (omega arith)
           ∙ held-ext (2 ^ p) (at s c) (λ d. (λ t. subst (λ (x : ℕ). Held (at s c) x) (sym (held-power p d .0 t)) u, λ t. held-power p d .1 (alone c d q t)))
 
 -- ---- removals
-
-minus-zero : (x : ℕ) → minus x 0 ≡ x
-minus-zero x = ext (minus x 0) x (λ d. omega (arith, bit-minus x 0 d, bit-none d))
 
 -- what is lacking of what is lacking
 pub lacking-twice : (f s : List ℕ) → length s ≡ 81 → ((c : ℕ) → c < 81 → Sub (at s c) (at f c)) → lacking f (lacking f s) ≡ s
@@ -199,7 +190,7 @@ module _ (g : List ℕ) (ok : Givens g) where
     unfolding lacking openSets
     removals-hold =
         record {
-          size = map-size (λ c. minus (at (fresh g) c) (at m c));
+          size = cells-size (λ c. minus (at (fresh g) c) (at m c));
           small = map-small (λ c. minus (at (fresh g) c) (at m c)) (λ c. omega (arith, sub-le (minus-sub (at (fresh g) c) (at m c)), fresh-small g ok c));
           fits = λ x y t u h. omega arith;
           within = λ j t. let w = in-map (λ c. minus (at (fresh g) c) (at m c)) j t in
@@ -232,14 +223,14 @@ module _ (g : List ℕ) (ok : Givens g) where
     unfolding lacking
     read-admissible =
         record {
-          size = map-size (λ c. minus (at (fresh g) c) (at s c));
+          size = cells-size (λ c. minus (at (fresh g) c) (at s c));
           under = record { at = λ c. under c (decLt c 81) };
           clues = λ c o. clue c o (decLt c 81);
         }
       where
         under : (c : ℕ) → Dec (c < 81) → Sub (at (map (λ c. minus (at (fresh g) c) (at s c)) cells) c) (at (fresh g) c)
         under c (yes l) = rw (at-cells 0 (λ c. minus (at (fresh g) c) (at s c)) c l) (minus-sub (at (fresh g) c) (at s c))
-        under c (no l) = rw (map-out (λ c. minus (at (fresh g) c) (at s c)) c (omega arith)) (sub-none (at (fresh g) c))
+        under c (no l) = rw (past-cells 0 (λ c. minus (at (fresh g) c) (at s c)) c (omega arith)) (sub-none (at (fresh g) c))
 
         -- a clue cell loses nothing
         empty : (c : ℕ) → isOpen g c ≡ false → at s c ≡ 0
@@ -248,5 +239,5 @@ module _ (g : List ℕ) (ok : Givens g) where
             (λ d. (λ t. absurd (none-held d (ap (λ (x : ℕ). has x d) (sym (cond-false (isOpen g c) (at (fresh g) c) 0 o)) ∙ removable c d t)), λ t. absurd (none-held d t)))
 
         clue : (c : ℕ) → isOpen g c ≡ false → Dec (c < 81) → at (map (λ c. minus (at (fresh g) c) (at s c)) cells) c ≡ at (fresh g) c
-        clue c o (yes l) = at-cells 0 (λ c. minus (at (fresh g) c) (at s c)) c l ∙ ap (minus (at (fresh g) c)) (empty c o) ∙ minus-zero (at (fresh g) c)
-        clue c o (no l) = map-out (λ c. minus (at (fresh g) c) (at s c)) c (omega arith) ∙ sym (fresh-out g c (omega arith))
+        clue c o (yes l) = at-cells 0 (λ c. minus (at (fresh g) c) (at s c)) c l ∙ ap (minus (at (fresh g) c)) (empty c o) ∙ minus-none (at (fresh g) c) 0 (and-zero-r (at (fresh g) c))
+        clue c o (no l) = past-cells 0 (λ c. minus (at (fresh g) c) (at s c)) c (omega arith) ∙ sym (fresh-out g c (omega arith))

@@ -1,10 +1,9 @@
 -- The candidates of 81 sets as a rising list: with one more, none, and that the list determines the sets. Assumes nothing.
 use mathlib.Core.Path.{_≡_, refl, sym, ap, _∙_, subst}
-use mathlib.Core.Logic.{_⊎_, inl, inr}
-use mathlib.Core.Bool.{Bool, true, false, cond, _||_}
+use mathlib.Core.Logic.{_⊎_, inl, inr, ⊎-elim}
+use mathlib.Core.Bool.{Bool, true, false, cond, _||_, or-true, or-false}
 use mathlib.Core.List.{List, [], _∷_, _++_, List·Memᴰ}
 use Prim.Native.Nat.{ℕ, zero, suc, _+_, _*_, _/_, _%_, _^_, _≤_, _<_}
-use native.Mathlib.Nat.{le-refl}
 use native.Mathlib.Decide.{ℕ-discrete, decLt}
 use native.Mathlib.Omega.{arith}
 use borrow.Author.Tests.{eq-eqb, ne-eqb, eqb-true}
@@ -16,26 +15,14 @@ use lib.Seq.{ext-getD, getD-set-same, getD-set-other}
 use Rattle.candidates.specs.Masks.{has, single, union}
 use Rattle.candidates.proofs.Held.{Held, held-below, held-ext, held-power, has-union}
 use Rattle.candidates.proofs.Membership.{bit-none, single-power}
-use Rattle.candidates.proofs.Tests.{bool-iff, by-test, cond-true, cond-false}
-use Rattle.grid.proofs.Lists.{mem-select, select-mem}
+use Rattle.candidates.proofs.Tests.{bool-iff, by-test, cond-true, cond-false, either}
+use Rattle.grid.proofs.Lists.{mem-range, mem-select, select-mem, select-none}
 use Rattle.steps.specs.Boards.{at}
 use Rattle.steps.specs.Loops.{range, select, upTo}
 use Rattle.steps.proofs.Loops.{upTo-in}
 use Rattle.record.specs.Sections.{inSets, candidates, with, noSets}
 
 -- ---- the sets with one candidate more
-
-or-false : (b : Bool) → (b || false) ≡ b
-or-false true = refl
-or-false false = refl
-
-or-true : (b : Bool) → (b || true) ≡ true
-or-true true = refl
-or-true false = refl
-
-either : (a b : Bool) → (a || b) ≡ true → (a ≡ true) ⊎ (b ≡ true)
-either true b t = inl refl
-either false b t = inr t
 
 abbrev more : List ℕ → ℕ → ℕ
 more s e = union (at s (e / 9)) (single (e % 9))
@@ -64,11 +51,7 @@ module _ (s : List ℕ) (e : ℕ) (size : length s ≡ 81) (l : e < 729) where
           ∙ ap (λ (c : ℕ). has (at s c) (k % 9) || has (single (e % 9)) (k % 9)) (sym p) ∙ ap (λ (b : Bool). inSets s k || b) (digit p)
 
   pub in-cases : (k : ℕ) → inSets (with s e) k ≡ true → (inSets s k ≡ true) ⊎ (k ≡ e)
-  in-cases k t = cases (either (inSets s k) (eqb k e) (sym (in-with k) ∙ t))
-    where
-      cases : (inSets s k ≡ true) ⊎ (eqb k e ≡ true) → (inSets s k ≡ true) ⊎ (k ≡ e)
-      cases (inl u) = inl u
-      cases (inr u) = inr (eqb-true k e u)
+  in-cases k t = ⊎-elim inl (λ u. inr (eqb-true k e u)) (either (inSets s k) (eqb k e) .0 (sym (in-with k) ∙ t))
 
   pub with-small : ((c : ℕ) → at s c < 512) → (c : ℕ) → at (with s e) c < 512
   with-small small c = go (ℕ-discrete c (e / 9))
@@ -81,12 +64,6 @@ module _ (s : List ℕ) (e : ℕ) (size : length s ≡ 81) (l : e < 729) where
       go (yes p) = rw (p, getD-set-same s (e / 9) (more s e) 0 (omega arith)) (or-lt 9 (at s (e / 9)) (single (e % 9)) (small (e / 9)) one)
 
 -- ---- the list with one candidate more
-
-select-none : (f : ℕ → Bool) (n k : ℕ) → ((j : ℕ) → k ≤ j → f j ≡ false) → select f (range n k) ≡ []
-select-none f zero k h = refl
-select-none f (suc n) k h =
-    cond-false (f k) (k ∷ select f (range n (suc k))) (select f (range n (suc k))) (h k (le-refl k))
-    ∙ select-none f n (suc k) (λ j l. h j (omega arith))
 
 module _ (f g : ℕ → Bool) (e : ℕ) (same : (j : ℕ) → j < e → g j ≡ f j) (here : g e ≡ true) (above : (j : ℕ) → e < j → g j ≡ false) (none : (j : ℕ) → e ≤ j → f j ≡ false) where
   select-last : (n k : ℕ) → k ≤ e → e < k + n → select g (range n k) ≡ select f (range n k) ++ (e ∷ [])
@@ -102,9 +79,9 @@ module _ (f g : ℕ → Bool) (e : ℕ) (same : (j : ℕ) → j < e → g j ≡ 
           → cond (g k) (k ∷ select g (range n (suc k))) (select g (range n (suc k))) ≡ cond (f k) (k ∷ select f (range n (suc k))) (select f (range n (suc k))) ++ (e ∷ [])
       go (yes p) ih =
           cond-true (g k) (k ∷ select g (range n (suc k))) (select g (range n (suc k))) (ap g p ∙ here)
-          ∙ ap (λ (l : List ℕ). k ∷ l) (select-none g n (suc k) (λ j m. above j (omega arith))) ∙ ap (λ (x : ℕ). x ∷ []) p
+          ∙ ap (λ (l : List ℕ). k ∷ l) (select-none g (range n (suc k)) (λ j m. above j (omega (arith, mem-range n (suc k) j m)))) ∙ ap (λ (x : ℕ). x ∷ []) p
           ∙ sym (ap (λ (l : List ℕ). l ++ (e ∷ [])) (cond-false (f k) (k ∷ select f (range n (suc k))) (select f (range n (suc k))) (none k (omega arith))
-          ∙ select-none f n (suc k) (λ j m. none j (omega arith))))
+          ∙ select-none f (range n (suc k)) (λ j m. none j (omega (arith, mem-range n (suc k) j m)))))
       go (no p) ih =
           ap (λ (t : Bool). cond t (k ∷ select g (range n (suc k))) (select g (range n (suc k)))) (same k (omega arith)) ∙ either-way (f k) (ih (omega arith))
 
@@ -146,7 +123,7 @@ in-none k = ap (λ (x : ℕ). has x (k % 9)) (at-none (k / 9)) ∙ ap (λ (b : �
 
 pub candidates-none : candidates noSets ≡ []
 unfolding candidates
-candidates-none = select-none (inSets noSets) 729 0 (λ j h. in-none j)
+candidates-none = select-none (inSets noSets) (upTo 729) (λ j h. in-none j)
 
 -- ---- the list determines the sets
 

@@ -4,15 +4,17 @@ use mathlib.Core.Bool.{Bool, true, false, cond, _&&_}
 use mathlib.Core.List.{List}
 use Prim.Native.Nat.{ℕ, _+_, _-_, _*_, _≤_, _<_}
 use native.Mathlib.Omega.{arith}
-use borrow.Author.Tests.{le-leb, lt-leb, leb-true, lt-ltb}
-use lib.Dec.{leb, ltb, lit≤}
-use lib.IntN.{ℤ, pos}
+use borrow.Author.Tests.{le-leb, lt-leb, leb-true}
+use lib.Dec.{leb, lit≤}
+use lib.IntN.{pos}
 use lib.ListN.{length, getD}
 use Rattle.candidates.specs.Answer.{Answer, gives, stop}
 use Rattle.candidates.specs.Masks.{has}
+use Rattle.candidates.proofs.Answers.{gives-same, stop-gives}
 use Rattle.candidates.proofs.Tests.{both-left, both-right, cond-true, cond-false}
-use Rattle.steps.specs.Boards.{at, isOpen}
-use Rattle.cells.specs.Places.{maskAt, openMask}
+use Rattle.steps.specs.Boards.{at}
+use Rattle.cells.specs.Places.{maskAt}
+use Rattle.cells.proofs.Threes.{mask-at}
 use Rattle.record.specs.declared.sections.Section.{Section}
 use Rattle.record.specs.declared.sections.Section.the-variants.{Clues, Removed}
 use Rattle.record.specs.Sections.{width, outside, numberAt, named, wellFormed, entryOf, entryAt}
@@ -56,11 +58,7 @@ module _ (low c d : ℕ) where
 
 -- the mask of a cell, as the code reads it
 pub cell-mask : (free : List ℕ) {low c d : ℕ} → Formed low c d → maskAt free c ≡ at free c
-cell-mask free {low} {c} {d} f = cond-true (ltb c 81) (at free c) 0 (lt-ltb c 81 (omega (arith, f .cell)))
-
--- the mask of an open cell, as the code reads it
-pub open-cell : (g m : List ℕ) (c : ℕ) → c < 81 → openMask g m c ≡ cond (isOpen g c) (at m c) 0
-open-cell g m c h = rw (lt-ltb c 81 h)
+cell-mask free {c = c} f = mask-at free c (omega (arith, f .cell))
 
 -- ---- a count
 
@@ -82,14 +80,6 @@ width-some Removed = lit≤ tt
 pub width-most : (k : Section) → width k ≤ 2
 width-most Clues = lit≤ tt
 width-most Removed = lit≤ tt
-
--- ---- an answer that gives
-
-pub stop-gives : {A : Type 0} {a : A} {n : ℕ} {z : ℤ} → _≡_ {A = Answer A} (stop n z) (gives a) → ⊥
-stop-gives q = let w : _≡_ {A = ℕ} 0 1 = cc in omega arith
-
-pub gives-same : {A : Type 0} {a b : A} → _≡_ {A = Answer A} (gives a) (gives b) → a ≡ b
-gives-same q = cc
 
 -- ---- an entry at an offset
 

@@ -11,6 +11,7 @@ use lib.IntN.{ℤ, pos}
 use lib.ListN.{length, getD, drop, length-append}
 use lib.Seq.{drop-at, drop-length}
 use Rattle.candidates.specs.Answer.{Answer, gives, stop}
+use Rattle.candidates.proofs.Answers.{gives-same, stop-gives}
 use Rattle.candidates.proofs.Tests.{cond-true}
 use Rattle.steps.specs.Boards.{Board, givensOf, fresh, Givens, Admissible}
 use Rattle.steps.specs.Calls.{Admitted}
@@ -22,7 +23,6 @@ use Rattle.record.specs.Laws.{RecordLaws}
 use Rattle.record.specs.Records.{clueSets, lacking, recordOf, allSets, digitsIn, openSets, cluesFrom, boardFrom, readRemoved, readOf}
 use Rattle.record.specs.Sections.{Entries, then, sectionBytes, readSection}
 use Rattle.record.proofs.BoardSets.{clues-hold, digits-again, givens-again, clues-again, digits-good, clue-sets-again, lacking-twice, removals-hold, removals-fresh, read-admissible, clues-good}
-use Rattle.record.proofs.Entries.{stop-gives, gives-same}
 use Rattle.record.proofs.SectionLaws.{Holds, section-of, section-back}
 use Rattle.record.proofs.Writing.{record-is}
 

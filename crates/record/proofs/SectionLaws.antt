@@ -1,7 +1,7 @@
 -- A section that is read is the one that is written of its sets, and the other way about; over the section, with no case for clues or removals.
 -- Assumes nothing.
 use mathlib.Core.Path.{_≡_, refl, sym, ap, _∙_, subst}
-use mathlib.Core.Logic.{_⊎_, ⊎-elim}
+use mathlib.Core.Logic.{⊎-elim}
 use mathlib.Core.Bool.{Bool, true, false, cond, true≢false}
 use mathlib.Core.List.{List, [], _∷_, _++_, append-assoc, append-nil}
 use Prim.Native.Nat.{ℕ, zero, suc, _+_, _-_, _*_, _/_, _%_, _≤_, _<_, zero-le}
@@ -15,6 +15,7 @@ use lib.ListN.{length, getD, drop, length-append, length-drop, length-set, lengt
 use lib.Seq.{append-snoc, drop-at, drop-cons, getD-drop, drop-drop}
 use Rattle.candidates.specs.Answer.{Answer, gives, stop}
 use Rattle.candidates.specs.Masks.{has, single, union}
+use Rattle.candidates.proofs.Answers.{gives-same, stop-gives}
 use Rattle.candidates.proofs.Tests.{by-test}
 use Rattle.steps.specs.Boards.{at}
 use Rattle.steps.specs.Loops.{each, range, select}
@@ -22,7 +23,7 @@ use Rattle.record.specs.declared.sections.Section.{Section}
 use Rattle.record.specs.declared.sections.Section.the-variants.{Clues, Removed}
 use Rattle.record.specs.Sections.{width, after, inSets, candidates, entryBytes, lowFirst, sectionBytes, numberAt, named, entryAt, with, Entries, then, readEntries, noSets, readSection}
 use Rattle.record.proofs.CandidateLists.{in-cases, with-small, added-last, at-none, in-none, candidates-none, sets-same}
-use Rattle.record.proofs.Entries.{stop-gives, gives-same, well, width-some, entry-named, Named, named-entry, named-small}
+use Rattle.record.proofs.Entries.{well, width-some, entry-named, Named, named-entry, named-small}
 use Rattle.record.proofs.SectionsRead.{section-read}
 use Rattle.record.proofs.Writing.{candidates-few, number-length, section-length}
 
@@ -88,9 +89,6 @@ module _ (k : Section) (free bs : List ℕ) where
         let d : getD bs (i + 1) 0 - 1 ≡ e % 9 = omega (arith, digit) in
         ap (λ (c : ℕ). has (at free c) (e % 9)) (sym cell) ∙ ap (has (at free (getD bs i 0))) (sym d) ∙ m .held
 
-    cases : (j : ℕ) → inSets (with s e) j ≡ true → (inSets s j ≡ true) ⊎ (j ≡ e)
-    cases = in-cases s e size small
-
     reads-on : Reads k free bs start count n (after k e) (i + 2) (with s e)
     reads-on =
         record {
@@ -99,9 +97,9 @@ module _ (k : Section) (free bs : List ℕ) where
                 size = length-set s (e / 9) (union (at s (e / 9)) (single (e % 9))) ∙ size;
                 small = with-small s e size small (r .holds .small);
                 fits = pairs;
-                within = λ j t. ⊎-elim (λ u. r .holds .within j u) (λ (q : j ≡ e). rw q is-free) (cases j t);
+                within = λ j t. ⊎-elim (λ u. r .holds .within j u) (λ (q : j ≡ e). rw q is-free) (in-cases s e size small j t);
               };
-          below = λ j t. ⊎-elim (λ u. omega (arith, r .below j u, low-le, after-above k e)) (λ (q : j ≡ e). rw q (le-refl (after k e))) (cases j t);
+          below = λ j t. ⊎-elim (λ u. omega (arith, r .below j u, low-le, after-above k e)) (λ (q : j ≡ e). rw q (le-refl (after k e))) (in-cases s e size small j t);
           number = omega (arith, r .number, ap length list, length-append (candidates s) (e ∷ []));
           bytes = run;
         }
@@ -109,9 +107,9 @@ module _ (k : Section) (free bs : List ℕ) where
         pairs : (a b : ℕ) → inSets (with s e) a ≡ true → inSets (with s e) b ≡ true → a < b → after k a ≤ b
         pairs a b t u h =
             ⊎-elim
-            (λ v. ⊎-elim (λ w. r .holds .fits a b v w h) (λ (q : b ≡ e). omega (arith, r .below a v, low-le)) (cases b u))
-            (λ (p : a ≡ e). ⊎-elim (λ w. absurd (omega (arith, lower b w))) (λ (q : b ≡ e). absurd (omega arith)) (cases b u))
-            (cases a t)
+            (λ v. ⊎-elim (λ w. r .holds .fits a b v w h) (λ (q : b ≡ e). omega (arith, r .below a v, low-le)) (in-cases s e size small b u))
+            (λ (p : a ≡ e). ⊎-elim (λ w. absurd (omega (arith, lower b w))) (λ (q : b ≡ e). absurd (omega arith)) (in-cases s e size small b u))
+            (in-cases s e size small a t)
 
         run : drop start bs ≡ entryBytes (candidates (with s e)) ++ drop (i + 2) bs
         run =

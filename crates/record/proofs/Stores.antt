@@ -1,12 +1,12 @@
 -- Bytes that are written one after the other: runs of stores that follow each other, and runs that do not touch. Assumes nothing.
 use mathlib.Core.Path.{_≡_, refl, sym, ap, _∙_}
 use mathlib.Core.List.{List, [], _∷_, _++_, map}
-use Prim.Native.Nat.{ℕ, zero, suc, _+_, _≤_, _<_}
+use Prim.Native.Nat.{ℕ, suc, _+_, _≤_, _<_}
 use native.Mathlib.Nat.{add-zero}
 use native.Mathlib.Omega.{arith}
 use lib.ListN.{length, getD, set, drop, length-map, List·getD-append}
 use lib.Seq.{set-comm, sets, sets-eq, ext-getD}
-use Rattle.grid.proofs.Lists.{at-upTo}
+use Rattle.grid.proofs.Lists.{at-upTo, range-length}
 use Rattle.steps.specs.Loops.{range}
 use Rattle.record.specs.Sections.{stored, leading}
 
@@ -29,10 +29,6 @@ stored-apart l j (x ∷ xs) i vs h =
     stored-apart (set l j x) (suc j) xs i vs (omega arith) ∙ ap (λ (m : List ℕ). sets m (suc j) xs) (set-stored l j x i vs (omega arith))
 
 -- what stands in front of the array once it is written there
-range-length : (n k : ℕ) → length (range n k) ≡ n
-range-length zero k = refl
-range-length (suc n) k = ap suc (range-length n (suc k))
-
 pub leading-stored : (l r : List ℕ) → length r ≤ length l → leading (length r) (stored l 0 r) ≡ r
 unfolding leading
 leading-stored l r h =

@@ -8,7 +8,7 @@ use mathlib.Core.Path.{_∙_}
 use mathlib.Core.Bool.{cond}
 use Rattle.steps.specs.Boards.{at, isOpen}
 use Rattle.record.specs.Records.{openSets}
-use Rattle.record.proofs.Entries.{open-cell}
+use Rattle.cells.proofs.Places.{open-mask}
 use borrow.Author.Needs.{needs}
 use native.Mathlib.Omega.{arith}
 use Rattle.record.proofs.sets.open_sets.Statement.{statement}
@@ -42,7 +42,7 @@ loop-less c = omega arith
 loop-again : tie.Need-loop-again Inv-loop μ-loop
 loop-again c =
     let l = c .before .before in
-    fill-on _ 81 (l .loop .cell) (l .loop .sets) (l .loop .inv) (omega arith) (c .open-mask .ensures ∙ open-cell (l .before .args .givens .now) (l .before .args .masks .now) (l .loop .cell) (omega arith))
+    fill-on _ 81 (l .loop .cell) (l .loop .sets) (l .loop .inv) (omega arith) (c .open-mask .ensures ∙ open-mask (l .before .args .givens .now) (l .before .args .masks .now) (l .loop .cell) (omega arith))
 
 returns : tie.Need-returns Inv-loop μ-loop
 returns c = fill-end _ 81 (c .before .loop .cell) (c .before .loop .sets) (c .before .loop .inv) (c .loop-test .left)
