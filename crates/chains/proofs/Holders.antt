@@ -1,24 +1,24 @@
 -- The search over the list of holders is the search of module 11. Assumes nothing.
 use mathlib.Core.Path.{_≡_, refl, sym, ap, ap₂, _∙_}
 use mathlib.Core.Bool.{Bool, true, false, cond, not, _&&_}
-use mathlib.Core.List.{List, [], _∷_, _++_, List·Memᴰ, List·Memᴰ·head, List·Memᴰ·tail}
+use mathlib.Core.List.{List, [], _∷_, _++_}
 use mathlib.Core.Option.{Option, none, some}
 use Prim.Native.Nat.{ℕ, zero, suc, _+_, _-_, _≤_, _<_}
 use native.Mathlib.Decide.{decLt}
 use native.Mathlib.Omega.{arith}
 use borrow.Author.Tests.{ltb-true, lt-ltb, le-ltb, le-leb, lt-leb}
 use lib.Dec.{ltb, leb}
-use lib.ListN.{length, List·getD-eq-default}
+use lib.ListN.{length}
 use Rattle.candidates.proofs.Tests.{by-test, cond-true, cond-false}
 use Rattle.grid.specs.Cells.{row, col, box, sees, cells, peers}
-use Rattle.grid.specs.Units.{units, unit, inUnit}
-use Rattle.grid.proofs.Lists.{at-upTo}
-use Rattle.grid.proofs.Units.{unit-is}
+use Rattle.grid.specs.Units.{unit, inUnit}
+use Rattle.grid.proofs.Lists.{at-upTo, select-none}
+use Rattle.grid.proofs.Units.{unit-is, past-table}
 use Rattle.steps.specs.Boards.{at}
 use Rattle.steps.specs.Chains.{orElse, firstSome, onPath, weakLinks, twoHolders, strongLinks, links, elimination, enter, chainEnd}
 use Rattle.steps.specs.Loops.{for, first, select}
 use Rattle.steps.specs.Ported.{holds}
-use Rattle.steps.proofs.Loops.{in-upTo}
+use Rattle.steps.proofs.Loops.{in-upTo, first-by}
 use Rattle.chains.proofs.Searching.{or-found, or-nothing}
 use Rattle.chains.specs.Links.{isSome, others, twoOf, unitCounts, weakIn, strongIn, linksIn, betweenAt, eliminationIn, enterIn}
 
@@ -40,10 +40,6 @@ select-both f g (x ∷ xs) = go (f x) (g x) refl refl (select-both f g xs)
     go false true p q ih = rw (q, p) ih
     go false false p q ih = rw (q, p) ih
 
-select-none : (f : ℕ → Bool) → ((x : ℕ) → f x ≡ false) → (xs : List ℕ) → select f xs ≡ []
-select-none f n [] = refl
-select-none f n (x ∷ xs) = cond-false (f x) (x ∷ select f xs) (select f xs) (n x) ∙ select-none f n xs
-
 -- the first that passes both tests is the first of a selection by one of them
 first-select : (f g : ℕ → Bool) (xs : List ℕ) → first (λ x. f x && g x) xs ≡ firstSome (λ x. cond (f x) (some x) none) (select g xs)
 unfolding first firstSome
@@ -64,16 +60,12 @@ past-rule u h c =
     cond-false (ltb u 9) _ _ (le-ltb u 9 (omega arith)) ∙ cond-false (ltb u 18) _ _ (le-ltb u 18 (omega arith))
     ∙ cond-false (ltb u 27) _ _ (le-ltb u 27 (omega arith))
 
-past-table : (u : ℕ) → 27 ≤ u → unit u ≡ []
-unfolding unit units
-past-table u h = List·getD-eq-default units [] h
-
 any-unit : (u : ℕ) → unit u ≡ select (inUnit u) cells
 any-unit u = go (decLt u 27)
   where
     go : Dec (u < 27) → unit u ≡ select (inUnit u) cells
     go (yes h) = unit-is u h
-    go (no n) = past-table u (omega arith) ∙ sym (select-none (inUnit u) (past-rule u (omega arith)) cells)
+    go (no n) = past-table u (omega arith) ∙ sym (select-none (inUnit u) cells (λ c m. past-rule u (omega arith) c))
 
 -- ---- how many holders a unit has
 
@@ -87,7 +79,7 @@ counted hs counts u e = go (decLt u 27)
         ∙ at-upTo (λ u. length (select (inUnit u) hs)) 0 27 u h
     go (no n) =
         cond-false (ltb u 27) (at counts u) 0 (le-ltb u 27 (omega arith))
-        ∙ sym (ap (λ (l : List ℕ). length l) (select-none (inUnit u) (past-rule u (omega arith)) hs))
+        ∙ sym (ap (λ (l : List ℕ). length l) (select-none (inUnit u) hs (λ c m. past-rule u (omega arith) c)))
 
 -- ---- an elimination
 
@@ -199,19 +191,12 @@ unfolding firstSome
 some-in-grid f h [] = refl
 some-in-grid f h (x ∷ xs) = or-in-grid (f x) (firstSome f xs) (h x) (some-in-grid f h xs)
 
-first-in-grid : (f : ℕ → Bool) (xs : List ℕ) → ((x : ℕ) → List·Memᴰ x xs → x < 81) → inGrid (first f xs) ≡ true
-unfolding first
-first-in-grid f [] h = refl
-first-in-grid f (x ∷ xs) h =
-    by-test (λ (o : Option ℕ). inGrid o ≡ true) (f x) (some x) (first f xs) (λ t. lt-ltb x 81 (h x (List·Memᴰ·head refl)))
-    (λ t. first-in-grid f xs (λ y k. h y (List·Memᴰ·tail k)))
-
 module _ (g m : List ℕ) (d : ℕ) where
   elimination-in-grid : (s c : ℕ) → inGrid (elimination g m d s c) ≡ true
   unfolding elimination cells
   elimination-in-grid s c =
       by-test (λ (o : Option ℕ). inGrid o ≡ true) (sees s c) (first (λ e. sees s e && sees c e && holds g m d e) cells) none
-      (λ t. first-in-grid (λ e. sees s e && sees c e && holds g m d e) cells (λ x k. in-upTo 81 x k)) (λ t. refl)
+      (λ t. first-by (λ e. sees s e && sees c e && holds g m d e) (λ o. inGrid o ≡ true) cells refl (λ x k. lt-ltb x 81 (in-upTo 81 x k))) (λ t. refl)
 
   enter-in-grid : (n s : ℕ) (weak : Bool) (path : List ℕ) (c : ℕ) → inGrid (enter g m d n s weak path c) ≡ true
   unfolding enter

@@ -1,17 +1,17 @@
 -- A list of cells that is read entry by entry, and one that is made entry by entry. Assumes nothing.
 use mathlib.Core.Path.{_≡_, refl, sym, ap, ap₂, _∙_}
 use mathlib.Core.Bool.{Bool, true, false, cond, not}
-use mathlib.Core.List.{List, [], _∷_, _++_, map, append-assoc}
+use mathlib.Core.List.{List, [], _∷_, _++_, map, append-assoc, append-nil}
 use Prim.Native.Nat.{ℕ, zero, suc, _+_, _-_, _≤_, _<_}
 use native.Mathlib.Nat.{sub-zero}
 use native.Mathlib.Numerals.{add-one}
 use native.Mathlib.Omega.{arith}
 use borrow.Author.Tests.{eq-eqb, ne-eqb}
 use lib.Dec.{eqb}
-use lib.ListN.{length, take, drop, set, replicate, length-set}
+use lib.ListN.{length, take, drop, set, replicate, length-map, length-set}
 use lib.Seq.{drop-cons, take-suc-set, append-snoc}
 use Rattle.candidates.proofs.Tests.{cond-true, cond-false}
-use Rattle.grid.proofs.Lists.{range-on, range-end}
+use Rattle.grid.proofs.Lists.{range-length, range-on, range-end}
 use Rattle.steps.specs.Boards.{at}
 use Rattle.steps.specs.Loops.{range, select}
 use Rattle.chains.specs.Lists.{listed, Lists}
@@ -48,10 +48,6 @@ pub record Gathered (f : ℕ → Bool) (cs : List ℕ) (n i : ℕ) (xs whole : L
   pub room : length cs ≡ 81
   pub few : n ≤ i
   pub so-far : listed cs n ++ select f xs ≡ whole
-
-pub append-nil : (xs : List ℕ) → xs ++ [] ≡ xs
-append-nil [] = refl
-append-nil (x ∷ xs) = ap (λ (l : List ℕ). x ∷ l) (append-nil xs)
 
 module _ (f : ℕ → Bool) where
   pub none-yet : {xs whole : List ℕ} → select f xs ≡ whole → Gathered f (replicate 81 0) 0 0 xs whole
@@ -112,18 +108,14 @@ others-on c x xs = go (not (eqb x c))
 pub two-listed : (cs : List ℕ) (n : ℕ) → n ≡ 2 → twoOf (listed cs n) ≡ at cs 0 ∷ at cs 1 ∷ []
 two-listed cs n e = ap (λ (k : ℕ). twoOf (listed cs k)) e
 
-listed-length : (cs : List ℕ) (n k : ℕ) → length (map (at cs) (range n k)) ≡ n
-listed-length cs zero k = refl
-listed-length cs (suc n) k = ap suc (listed-length cs n (suc k))
+pub listed-count : (cs : List ℕ) (n : ℕ) → length (listed cs n) ≡ n
+listed-count cs n = length-map (range n 0) (at cs) ∙ range-length n 0
 
 pub no-pair : (xs : List ℕ) → (length xs ≡ 2 → ⊥) → twoOf xs ≡ []
 no-pair xs h = cond-false (eqb (length xs) 2) xs [] (ne-eqb (length xs) 2 h)
 
 pub not-two : (cs : List ℕ) (n : ℕ) → (n ≡ 2 → ⊥) → twoOf (listed cs n) ≡ []
-not-two cs n h = no-pair (listed cs n) (λ e. h (sym (listed-length cs n 0) ∙ e))
-
-pub listed-count : (cs : List ℕ) (n : ℕ) → length (listed cs n) ≡ n
-listed-count cs n = listed-length cs n 0
+not-two cs n h = no-pair (listed cs n) (λ e. h (sym (listed-count cs n) ∙ e))
 
 -- ---- three lists one after the other
 

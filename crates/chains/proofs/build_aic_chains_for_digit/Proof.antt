@@ -2,11 +2,12 @@
 use mathlib.Core.Path.{_≡_, sym, ap, _∙_}
 use mathlib.Core.List.{List}
 use mathlib.Core.Option.{none}
-use Prim.Native.Nat.{ℕ, _^_}
+use Prim.Native.Nat.{ℕ}
 use native.Mathlib.Omega.{arith}
 use borrow.Author.Needs.{needs}
 use borrow.Author.Tests.{lt-ltb}
 use lib.Dec.{ltb}
+use Rattle.candidates.proofs.Membership.{single-power}
 use Rattle.candidates.proofs.Tests.{cond-true}
 use Rattle.steps.specs.Boards.{isOpen}
 use Rattle.steps.specs.Chains.{chainEnd, loseFound, chainDigit}
@@ -52,7 +53,7 @@ returns-2 c =
     let a = found .before .before .args in
     let e = at .found .given .0 .0 in
     let q = sym (ap foundCell (at .found .given .1)) ∙ found .chain-end .ensures in
-    let one = cond-true (ltb (a .digit) 16) (2 ^ (a .digit)) 0 (lt-ltb (a .digit) 16 (omega (arith, found .before .before .pre))) in
+    let one = single-power (a .digit) (omega (arith, found .before .before .pre)) in
     c .lose-at .ensures ∙ ap (λ (k : ℕ). loseIn (isOpen (a .givens .now)) e k (a .masks .now)) (c .before .digit-mask .ensures ∙ one)
     ∙ cond-true (ltb e 81) (loseAt (isOpen (a .givens .now)) e (only (a .digit)) (a .masks .now)) (a .masks .now) (lt-ltb e 81 (end-in-grid (a .givens .now) (a .masks .now) (a .digit) e q))
     ∙ ap (loseFound (a .givens .now) (a .digit) (a .masks .now)) q

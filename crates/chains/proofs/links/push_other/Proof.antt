@@ -1,12 +1,12 @@
 -- `chains::links::push_other` meets its contract. Assumes nothing.
 use mathlib.Core.Path.{sym, ap, _∙_}
-use mathlib.Core.List.{List, _++_}
+use mathlib.Core.List.{List, _++_, append-nil}
 use Prim.Native.Nat.{ℕ, _<_}
 use native.Mathlib.Omega.{arith}
 use borrow.Author.Needs.{needs}
 use lib.ListN.{length}
 use Rattle.chains.specs.Lists.{listed}
-use Rattle.chains.proofs.Listing.{listed-set, append-nil, other-same, other-kept}
+use Rattle.chains.proofs.Listing.{listed-set, other-same, other-kept}
 use Rattle.chains.proofs.links.push_other.Statement.{statement}
 use Rattle.chains.proofs.links.push_other.Tie as tie
 

@@ -1,13 +1,13 @@
 -- `chains::links::push_pair` meets its contract. Assumes nothing.
 use mathlib.Core.Path.{sym, ap, _∙_}
-use mathlib.Core.List.{List, [], _∷_, _++_, append-assoc}
+use mathlib.Core.List.{List, [], _∷_, _++_, append-assoc, append-nil}
 use Prim.Native.Nat.{ℕ}
 use native.Mathlib.Omega.{arith}
 use borrow.Author.Needs.{needs}
 use Rattle.steps.specs.Boards.{at}
 use Rattle.chains.specs.Lists.{listed}
 use Rattle.chains.specs.Links.{others}
-use Rattle.chains.proofs.Listing.{append-nil, others-on, two-listed, not-two}
+use Rattle.chains.proofs.Listing.{others-on, two-listed, not-two}
 use Rattle.chains.proofs.links.push_pair.Statement.{statement}
 use Rattle.chains.proofs.links.push_pair.Tie as tie
 

@@ -1,6 +1,6 @@
 -- `chains::links::push_unit` meets its contract. Assumes nothing.
 use mathlib.Core.Path.{sym, ap, _∙_}
-use mathlib.Core.List.{List, _++_}
+use mathlib.Core.List.{List, _++_, append-nil}
 use Prim.Native.Nat.{ℕ}
 use native.Mathlib.Omega.{arith}
 use borrow.Author.Needs.{needs}
@@ -9,7 +9,7 @@ use Rattle.steps.specs.Loops.{select}
 use Rattle.chains.specs.Lists.{listed}
 use Rattle.chains.specs.Links.{others, twoOf}
 use Rattle.chains.proofs.Holders.{counted}
-use Rattle.chains.proofs.Listing.{append-nil, no-pair}
+use Rattle.chains.proofs.Listing.{no-pair}
 use Rattle.chains.proofs.links.push_unit.Statement.{statement}
 use Rattle.chains.proofs.links.push_unit.Tie as tie
 

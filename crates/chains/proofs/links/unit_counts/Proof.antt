@@ -1,32 +1,27 @@
 -- `chains::links::unit_counts` meets its contract. The invariant: the units that are left still make the counts. Assumes nothing.
 use mathlib.Core.Path.{_≡_, refl, sym, ap, _∙_}
-use mathlib.Core.List.{List, []}
-use Prim.Native.Nat.{ℕ, _+_, _-_, _≤_}
+use mathlib.Core.List.{List}
+use Prim.Native.Nat.{ℕ, _-_, _≤_}
 use native.Mathlib.Omega.{arith}
-use lib.ListN.{length, set, replicate}
+use lib.ListN.{length, replicate}
 use Rattle.grid.specs.Units.{inUnit}
-use Rattle.grid.proofs.Fills.{each-set}
-use Rattle.grid.proofs.Lists.{each-on, each-end}
-use Rattle.steps.specs.Loops.{each, range, select}
+use Rattle.grid.proofs.Fills.{filled, fill-start, fill-on, fill-end}
+use Rattle.steps.specs.Loops.{select}
 use Rattle.chains.specs.Lists.{listed}
 use Rattle.chains.specs.Links.{unitCounts}
 use Rattle.chains.proofs.Listing.{listed-count}
 use Rattle.chains.proofs.links.unit_counts.Statement.{statement}
 use Rattle.chains.proofs.links.unit_counts.Tie as tie
 
--- one turn of the loop
-turn : List ℕ → ℕ → List ℕ → List ℕ
-turn hs u counts = set counts u (length (select (inUnit u) hs))
-
 abbrev Inv-loop : tie.InvT-loop
-Inv-loop holders count counts₀ unit₀ counts unit = (unit ≤ 27) × (count ≤ 81) × (each (turn (listed holders count)) (range (27 - unit) unit) counts ≡ unitCounts (listed holders count))
+Inv-loop holders count counts₀ unit₀ counts unit = (count ≤ 81) × (filled (λ u. length (select (inUnit u) (listed holders count))) 27 unit counts ≡ unitCounts (listed holders count))
 
 abbrev μ-loop : tie.MeasureT-loop
 μ-loop holders count counts₀ unit₀ counts unit = 27 - unit
 
 loop-holds : tie.Need-loop-holds Inv-loop μ-loop
-unfolding unitCounts turn
-loop-holds c = (omega arith, c .pre, each-set (λ u. length (select (inUnit u) (listed (c .args .holders .now) (c .args .count)))) 27 0 [] (replicate 27 0) refl refl)
+unfolding unitCounts
+loop-holds c = (c .pre, fill-start _ 27 (replicate 27 0) refl)
 
 holders-in-requires : tie.Need-holders-in-requires Inv-loop μ-loop
 holders-in-requires c κs = omega arith
@@ -44,24 +39,14 @@ loop-less : tie.Need-loop-less Inv-loop μ-loop
 loop-less c = omega arith
 
 loop-again : tie.Need-loop-again Inv-loop μ-loop
-unfolding turn
 loop-again c =
     let h = c .before .holders-in in
     let l = c .before .before .before in
-    let a = l .before .args in
-    let hs = listed (a .holders .now) (a .count) in
-    let u = l .loop .unit in
-    let n = sym (listed-count (h .result .cells) (h .result .count)) ∙ ap (λ (l : List ℕ). length l) (h .ensures .are) in (
-      omega arith,
-      l .loop .inv .1,
-      ap (λ (n : ℕ). each (turn hs) (range (27 - (u + 1)) (u + 1)) (set (l .loop .counts) u n)) n ∙ sym (each-on (turn hs) 27 u (l .loop .counts) (omega arith)) ∙ l .loop .inv .2,
-    )
+    let n = sym (listed-count (h .result .cells) (h .result .count)) ∙ ap (λ (l : List ℕ). length l) (h .ensures .are) in
+    (l .loop .inv .0, fill-on _ 27 (l .loop .unit) (l .loop .counts) (l .loop .inv .1) (omega arith) n)
 
 returns : tie.Need-returns Inv-loop μ-loop
-returns c =
-    let l = c .before in
-    let a = l .before .args in
-    sym (each-end (turn (listed (a .holders .now) (a .count))) 27 (l .loop .unit) (l .loop .counts) (c .loop-test .left)) ∙ l .loop .inv .2
+returns c = fill-end _ 27 (c .before .loop .unit) (c .before .loop .counts) (c .before .loop .inv .1) (c .loop-test .left)
 
 pub unit-counts-spec : {M : Type 1} → statement M
 unit-counts-spec =
