@@ -1,16 +1,16 @@
 -- The card of a text that the reader accepts: no call on its board is refused, what each answers, and how long the card is. Assumes nothing.
 use mathlib.Core.Path.{_≡_, refl, sym, ap, _∙_}
 use mathlib.Core.List.{List, [], _∷_, _++_}
-use mathlib.Core.Bool.{Bool, true, false, cond}
 use mathlib.Core.Option.{Option, none}
-use Prim.Native.Nat.{ℕ, suc, _+_, _^_, _≤_, _<_}
+use Prim.Native.Nat.{ℕ, _+_, _^_, _≤_, _<_}
 use native.Mathlib.Omega.{arith}
 use lib.IntN.{ℤ}
 use lib.ListN.{length, length-append}
 use Rattle.candidates.specs.Answer.{Answer, gives, stop}
+use Rattle.candidates.proofs.Answers.{gives-same, stop-gives}
 use Rattle.grid.specs.Cells.{cells}
 use Rattle.steps.specs.Boards as S
-use Rattle.steps.specs.Boards.{givensOf, fresh, isOpen}
+use Rattle.steps.specs.Boards.{givensOf, fresh}
 use Rattle.steps.specs.Calls.{Call, Outcome, advancedCall, settling, outcome, answer, refusal, checked, left, opened, run}
 use Rattle.steps.specs.Demand3.{Settles}
 use Rattle.steps.specs.Passes.{settle, removedBy}
@@ -18,6 +18,7 @@ use Rattle.steps.proofs.Check.{clues-givens}
 use Rattle.steps.proofs.Fresh.{fresh-length, fresh-admissible, total-most}
 use Rattle.steps.proofs.Lists.{demand3}
 use Rattle.board.specs.Boards.{clueCount, verdictOf}
+use Rattle.board.proofs.Answered.{clues-few}
 use Rattle.text.specs.Texts.{parseOf}
 use Rattle.text.proofs.Readings.{read-clues}
 use Rattle.passes.specs.Settlings.{Counts, countsOf}
@@ -40,7 +41,7 @@ module _ (p : Answer (List ℤ)) (n : ℕ) (d : ℤ) (lent : List ℕ) where
   refused-card e = go p e
     where
       go : (p : Answer (List ℤ)) → stop n d ≡ boardRead p → (stop n d ≡ writtenOf (cardRead p)) × (lent ≡ withCard (cardRead p) lent)
-      go (gives z) e = let w : _≡_ {A = ℕ} 0 1 = cc in absurd (omega arith)
+      go (gives z) e = absurd (stop-gives e)
       go (stop m c) e = (cc, refl)
 
 -- ---- the text is accepted
@@ -48,7 +49,7 @@ module _ (p : Answer (List ℤ)) (n : ℕ) (d : ℤ) (lent : List ℕ) where
 -- the board that was opened is the fresh one of the clues
 pub opened-from : (p : Answer (List ℤ)) (b : S.Board) → gives b ≡ boardRead p → (z : List ℤ) × (p ≡ gives z) × (b ≡ opened z)
 opened-from (gives z) b e = (z, refl, cc)
-opened-from (stop n d) b e = let w : _≡_ {A = ℕ} 0 1 = cc in absurd (omega arith)
+opened-from (stop n d) b e = absurd (stop-gives (sym e))
 
 module _ (t : List ℕ) (z : List ℤ) (e : parseOf t ≡ gives z) where
   abbrev g : List ℕ
@@ -90,15 +91,6 @@ module _ (t : List ℕ) (z : List ℤ) (e : parseOf t ≡ gives z) where
         ∙ ap (λ (m : List ℕ). gives (verdictOf m)) settled-masks
 
 -- ---- how long a card is
-
-clues-few : (g cs : List ℕ) → clueCount g cs ≤ length cs
-unfolding clueCount
-clues-few g [] = omega arith
-clues-few g (c ∷ cs) = go (isOpen g c) (clues-few g cs)
-  where
-    go : (t : Bool) → clueCount g cs ≤ length cs → cond t (clueCount g cs) (suc (clueCount g cs)) ≤ suc (length cs)
-    go true h = omega arith
-    go false h = omega arith
 
 module _ (t : List ℕ) (z : List ℤ) (e : parseOf t ≡ gives z) where
   settles : Settles (givensOf z) (fresh (givensOf z))
@@ -174,14 +166,11 @@ module _ (t : List ℕ) (z : List ℤ) (e : parseOf t ≡ gives z) where
       let g = givensOf z in
       let f = fresh (givensOf z) in
       let o = outcome settling g f in
-      let clues : n ≡ clueCount g cells = value (p ∙ counts t z e b eb) in
+      let clues : n ≡ clueCount g cells = gives-same (p ∙ counts t z e b eb) in
       let reported : r ≡ length (outcome advancedCall g f .reports) = q ∙ ap (λ (a : Answer Outcome). length (reportsIn a)) (calls t z e b eb advancedCall) in
-      let counted : s ≡ record { sweeps = o .sweeps; removed = o .removed } = value (u ∙ ap countsOf (calls t z e b eb settling)) in
+      let counted : s ≡ record { sweeps = o .sweeps; removed = o .removed } = gives-same (u ∙ ap countsOf (calls t z e b eb settling)) in
       let sweeps : s .sweeps ≡ o .sweeps = ap (λ (s : Counts). s .sweeps) counted in
       let removed : s .removed ≡ o .removed = ap (λ (s : Counts). s .removed) counted in
       let masks : m ≡ o .masks = w ∙ settled-masks t z e b eb in
-      let verdict : v ≡ verdictIn (verdictOf (o .masks)) = sym (verdict-back v) ∙ ap verdictIn (value x) in
+      let verdict : v ≡ verdictIn (verdictOf (o .masks)) = sym (verdict-back v) ∙ ap verdictIn (gives-same x) in
       cc
-    where
-      value : {A : Type 0} {a b : A} → gives a ≡ gives b → a ≡ b
-      value p = cc

@@ -8,8 +8,9 @@ use native.Mathlib.Omega.{arith}
 use borrow.Author.Tests.{lt-ltb}
 use lib.Dec.{ltb}
 use lib.ListN.{length, getD, set, take, drop, replicate, length-append, drop-of-length-le}
-use lib.Seq.{set-at, append-snoc, drop-cons, take-at}
+use lib.Seq.{drop-cons, take-at}
 use Rattle.candidates.proofs.Tests.{cond-true}
+use Rattle.grid.proofs.Fills.{fill-next}
 use Rattle.steps.specs.Loops.{each}
 use Rattle.steps.proofs.Loops.{each-append}
 use Rattle.card.specs.declared.lines.Lines.{Lines}
@@ -59,15 +60,8 @@ unfolding pushed linesOf
 push-on xs b h =
     cond-true (ltb (length xs) 256) (record { bytes = set (xs ++ replicate (256 - length xs) 0) (length xs) b; count = length xs + 1 }) (linesOf xs)
     (lt-ltb (length xs) 256 h)
-    ∙ same written (sym (length-append xs (b ∷ [])))
+    ∙ same (fill-next 0 256 xs (length xs) b refl h) (sym (length-append xs (b ∷ [])))
   where
-    written : set (xs ++ replicate (256 - length xs) 0) (length xs) b ≡ (xs ++ (b ∷ [])) ++ replicate (256 - length (xs ++ (b ∷ []))) 0
-    written =
-        let m : 256 - length xs ≡ suc (256 - (length xs + 1)) = omega arith in
-        let n : 256 - (length xs + 1) ≡ 256 - length (xs ++ (b ∷ [])) = omega (arith, length-append xs (b ∷ [])) in
-        ap (λ (k : ℕ). set (xs ++ replicate k 0) (length xs) b) m ∙ set-at xs 0 (replicate (256 - (length xs + 1)) 0) b (length xs) refl
-        ∙ sym (append-snoc xs b (replicate (256 - (length xs + 1)) 0)) ∙ ap (λ (k : ℕ). (xs ++ (b ∷ [])) ++ replicate k 0) n
-
     same : {x y : List ℕ} {m n : ℕ} → x ≡ y → m ≡ n → _≡_ {A = Lines} (record { bytes = x; count = m }) (record { bytes = y; count = n })
     same p q = cc
 

@@ -6,15 +6,13 @@ use native.Mathlib.Omega.{arith}
 use lib.IntN.{ℤ}
 use lib.ListN.{length}
 use Rattle.candidates.specs.Answer.{Answer, gives, stop}
+use Rattle.candidates.proofs.Answers.{gives-same, stop-gives}
 use Rattle.text.specs.Texts.{parseOf}
 use Rattle.card.specs.declared.layout.Card.{Card}
 use Rattle.card.specs.Answers.{writtenOf, withCard, refusalLine}
 use Rattle.card.specs.Cards.{textIn, cardRead, cardOf, cardBytes, printed}
 use Rattle.card.specs.Lines.{over}
 use Rattle.card.proofs.Cards.{read-short}
-
-apart : {A : Type 0} {x : A} {n : ℕ} {z : ℤ} → _≡_ {A = Answer A} (gives x) (stop n z) → ⊥
-apart e = let w : _≡_ {A = ℕ} 0 1 = cc in omega arith
 
 -- every card has room
 module _ (input : List ℕ) where
@@ -23,11 +21,8 @@ module _ (input : List ℕ) where
   card-room card e = go (parseOf (textIn input)) refl e
     where
       go : (p : Answer (List ℤ)) → parseOf (textIn input) ≡ p → cardRead p ≡ gives card → length (cardBytes card) ≤ 256
-      go (gives z) q e = let s : _ ≡ card = value e in omega (arith, read-short (textIn input) z q, ap (λ (k : Card). length (cardBytes k)) s)
-        where
-          value : {a b : Card} → gives a ≡ gives b → a ≡ b
-          value p = cc
-      go (stop n d) q e = absurd (apart (sym e))
+      go (gives z) q e = let s = gives-same e in omega (arith, read-short (textIn input) z q, ap (λ (k : Card). length (cardBytes k)) s)
+      go (stop n d) q e = absurd (stop-gives e)
 
 -- the lent bytes before, and after the calls
 module _ (a : Answer Card) (lent : List ℕ) {o : List ℕ} where
@@ -36,12 +31,12 @@ module _ (a : Answer Card) (lent : List ℕ) {o : List ℕ} where
     where
       go : (a : Answer Card) → gives n ≡ writtenOf a → o ≡ withCard a lent → (card : Card) × (a ≡ gives card) × (n ≡ length (printed a)) × (o ≡ over (printed a) lent)
       go (gives card) e f = (card, refl, cc, f)
-      go (stop m d) e f = absurd (apart e)
+      go (stop m d) e f = absurd (stop-gives (sym e))
 
   pub prints-refusal : {m : ℕ} {d : ℤ} {r : ℕ} {l : List ℕ} → stop m d ≡ writtenOf a → o ≡ withCard a lent → r ≡ length (refusalLine (stop m d)) → l ≡ over (refusalLine (stop m d)) o → (r ≡ length (printed a)) × (l ≡ over (printed a) lent)
   prints-refusal {m} {d} {r} {l} e f g h = go a e f
     where
       go : (a : Answer Card) → stop m d ≡ writtenOf a → o ≡ withCard a lent → (r ≡ length (printed a)) × (l ≡ over (printed a) lent)
-      go (gives card) e f = absurd (apart (sym e))
+      go (gives card) e f = absurd (stop-gives e)
       go (stop n z) e f =
           (g ∙ ap (λ (q : Answer ℕ). length (refusalLine q)) e, h ∙ ap (λ (q : Answer ℕ). over (refusalLine q) o) e ∙ ap (over (printed (stop n z))) f)

@@ -1,20 +1,20 @@
 -- Reports in a value: what a push and a list of pushes make of it, and that no list of singles is too long for it. Assumes nothing.
 use mathlib.Core.Path.{_≡_, refl, sym, ap, _∙_}
 use mathlib.Core.Bool.{Bool, true, false, cond}
-use mathlib.Core.List.{List, [], _∷_, _++_, map, append-assoc}
+use mathlib.Core.List.{List, [], _∷_, _++_, map, append-assoc, append-nil, map-append}
 use mathlib.Core.Option.{Option, none, some}
-use Prim.Native.Nat.{ℕ, suc, _+_, _-_, _*_, _≤_, _<_}
+use Prim.Native.Nat.{ℕ, _+_, _-_, _*_, _≤_, _<_}
 use native.Mathlib.Omega.{arith}
 use borrow.Author.Tests.{lt-ltb}
 use lib.Dec.{eqb, ltb, lit≤}
 use lib.IntN.{ℤ}
-use lib.ListN.{length, set, replicate, length-append}
-use lib.Seq.{set-at, append-snoc}
+use lib.ListN.{length, set, length-append, length-map}
 use Rattle.candidates.specs.Masks.{count, lowest}
 use Rattle.candidates.specs.Sets.{onlyOf}
 use Rattle.candidates.proofs.Tests.{cond-true}
 use Rattle.grid.specs.Cells.{cells}
 use Rattle.grid.specs.Units.{unitCell}
+use Rattle.grid.proofs.Fills.{fill-next}
 use Rattle.steps.specs.Boards.{at, isOpen}
 use Rattle.steps.specs.Calls.{isSome}
 use Rattle.steps.specs.Loops.{each, for, upTo}
@@ -32,32 +32,15 @@ append-one false c d q = refl
 
 -- ---- a value that a list stands in
 
-map-length : {A B : Type 0} (f : A → B) (xs : List A) → length (map f xs) ≡ length xs
-map-length f [] = refl
-map-length f (x ∷ xs) = ap suc (map-length f xs)
-
-map-append : {A B : Type 0} (f : A → B) (xs ys : List A) → map f (xs ++ ys) ≡ map f xs ++ map f ys
-map-append f [] ys = refl
-map-append {B = B} f (x ∷ xs) ys = ap (λ (l : List B). f x ∷ l) (map-append f xs ys)
-
--- the first zero is written
-fill-next : (xs : List ℕ) (n x : ℕ) → length xs ≡ n → n < 324 → set (filled xs) n x ≡ filled (xs ++ (x ∷ []))
-unfolding filled
-fill-next xs n x e h =
-    let a : 324 - length xs ≡ suc (324 - (n + 1)) = omega arith in
-    let b : 324 - (n + 1) ≡ 324 - length (xs ++ (x ∷ [])) = omega (arith, length-append xs (x ∷ [])) in
-    ap (λ (k : ℕ). set (xs ++ replicate k 0) n x) a ∙ set-at xs 0 (replicate (324 - (n + 1)) 0) x n e ∙ sym (append-snoc xs x (replicate (324 - (n + 1)) 0))
-    ∙ ap (λ (k : ℕ). (xs ++ (x ∷ [])) ++ replicate k 0) b
-
 push-on : (rs : List Report) (r : Report) → length rs < 324 → pushed (reportsOf rs) (r .cell) (r .digit) ≡ reportsOf (rs ++ (r ∷ []))
-unfolding pushed reportsOf
+unfolding pushed reportsOf filled
 push-on rs r h =
     cond-true (ltb (length rs) 324) (record { cells = set (filled (map (λ r. r .cell) rs)) (length rs) (r .cell); digits = set (filled (map (λ r. r .digit) rs)) (length rs) (r .digit); count = length rs + 1 }) (reportsOf rs)
     (lt-ltb (length rs) 324 h)
     ∙ same (field (λ r. r .cell)) (field (λ r. r .digit)) (sym (length-append rs (r ∷ [])))
   where
     field : (f : Report → ℕ) → set (filled (map f rs)) (length rs) (f r) ≡ filled (map f (rs ++ (r ∷ [])))
-    field f = fill-next (map f rs) (length rs) (f r) (map-length f rs) h ∙ ap filled (sym (map-append f rs (r ∷ [])))
+    field f = fill-next 0 324 (map f rs) (length rs) (f r) (length-map rs f) h ∙ ap filled (sym (map-append f rs (r ∷ [])))
 
     same : {a b c d : List ℕ} {m n : ℕ} → a ≡ b → c ≡ d → m ≡ n → _≡_ {A = Reports} (record { cells = a; digits = c; count = m }) (record { cells = b; digits = d; count = n })
     same p q s = cc
@@ -65,10 +48,6 @@ push-on rs r h =
 pub append-on : (rs ns : List Report) → length rs + length ns ≤ 324 → append ns (reportsOf rs) ≡ reportsOf (rs ++ ns)
 unfolding append each
 append-on rs [] h = ap reportsOf (sym (append-nil rs))
-  where
-    append-nil : (xs : List Report) → xs ++ [] ≡ xs
-    append-nil [] = refl
-    append-nil (x ∷ xs) = ap (λ (l : List Report). x ∷ l) (append-nil xs)
 append-on rs (n ∷ ns) h =
     ap (each (λ r q. pushed q (r .cell) (r .digit)) ns) (push-on rs n (omega arith))
     ∙ append-on (rs ++ (n ∷ [])) ns (omega (arith, length-append rs (n ∷ []))) ∙ ap reportsOf (append-assoc rs (n ∷ []) ns)

@@ -5,11 +5,10 @@ use Prim.Native.Nat.{_+_}
 use native.Mathlib.Omega.{arith}
 use borrow.Author.Needs.{needs}
 use lib.IntN.{ℤ, natAbs}
-use mir.Syntax.{w8, w32}
-use mir.Val.{Fits, ofZ, toZ}
-use mir.Facts.{toZ-ofZ}
+use mir.Syntax.{w8}
+use mir.Val.{Fits}
 use Rattle.candidates.specs.Sets.{onlyAnswer, onlyOf}
-use Rattle.candidates.proofs.Only.{Only, single-says, digit-fits}
+use Rattle.candidates.proofs.Only.{Only, single-says, digit-read, digit-fits}
 use Rattle.card.specs.Decimals.{digitByte}
 use Rattle.card.proofs.CellBytes.{cell-empty, cell-read}
 use Rattle.card.proofs.lines.cell_byte.Statement.{statement}
@@ -36,12 +35,9 @@ returns-2 c =
     let e = s .before .before in
     cell-read (e .before .args .mask) none (sym (e .is-empty .ensures) ∙ s .before .if1 .left) (sym (ap onlyAnswer (c .enum-told .given .1)) ∙ s .single-candidate .ensures)
 
--- the digit that the call answered, as the cast reads it
+-- the digit that the call answered
 abbrev digit : tie.After-known-told → ℤ
 digit c = c .before .digit .given .0 .0
-
-is-digit : (c : tie.After-known-told) → toZ w32 (ofZ w32 (digit c)) ≡ digit c
-is-digit c = toZ-ofZ (record { sfits = c .known-told .given .0 .1 })
 
 answered : (c : tie.After-known-told) → some (digit c) ≡ onlyOf (c .before .before .before .before .before .before .args .mask)
 answered c =
@@ -52,17 +48,17 @@ only : (c : tie.After-known-told) → Only (c .before .before .before .before .b
 only c = single-says (c .before .before .before .before .before .before .args .mask) (answered c)
 
 cast-result : tie.Need-cast-result
-cast-result c = digit-fits (only c) (is-digit c)
+cast-result c = digit-fits (only c) (digit-read (only c))
 
 add-result : tie.Need-add-result
 add-result c =
     let w = only c in
-    subst (λ (z : ℤ). Fits w8 (48 + natAbs z)) (sym (is-digit c ∙ w .digit)) (record { fits = omega (arith, w .below) })
+    subst (λ (z : ℤ). Fits w8 (48 + natAbs z)) (sym (digit-read w ∙ w .digit)) (record { fits = omega (arith, w .below) })
 
 returns-3 : tie.Need-returns-3
 returns-3 c =
     let e = c .before .before .before .before in
-    ap (λ (z : ℤ). digitByte (natAbs z)) (is-digit c)
+    ap (λ (z : ℤ). digitByte (natAbs z)) (digit-read (only c))
     ∙ cell-read (e .before .before .args .mask) (some (digit c)) (sym (e .before .is-empty .ensures) ∙ e .if1 .left) (answered c)
 
 pub cell-byte-spec : {M : Type 1} → statement M
