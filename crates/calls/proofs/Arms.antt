@@ -3,8 +3,7 @@ use mathlib.Core.Path.{_≡_, refl, sym, ap, _∙_, subst}
 use mathlib.Core.Bool.{Bool, false}
 use mathlib.Core.List.{List, [], map}
 use mathlib.Core.Option.{Option, none, some}
-use Prim.Native.Nat.{ℕ, suc, _≤_}
-use native.Mathlib.Omega.{arith}
+use Prim.Native.Nat.{ℕ, _≤_}
 use lib.IntN.{ℤ, pos}
 use lib.ListN.{getD, List·getD-eq-default}
 use Rattle.candidates.specs.Answer.{Answer, gives, stop}
@@ -35,10 +34,6 @@ module _ (b : S.Board) where
   pub no-step-is : {n : ℕ} → 14 ≤ n → stop 20 (pos n) ≡ stepAnswer n b
   unfolding stepAnswer callOf
   no-step-is {n} past = ap (λ (o : Option Call). answerOr20 n o b) (sym (List·getD-eq-default (map some stepCalls) none past))
-
--- one number after the other
-pub past : {k n : ℕ} → k ≤ n → (n ≡ k → ⊥) → suc k ≤ n
-past low other = omega (arith, low, other)
 
 -- ---- what an answer does not speak of
 

@@ -1,7 +1,7 @@
 -- When Pair and Cross remove nothing, by a test for each two cells and each two lines instead of each of their 36 instances. Assumes nothing.
 use mathlib.Core.Path.{_≡_, refl, sym, ap, _∙_, subst}
 use mathlib.Core.Logic.{⊎-elim}
-use mathlib.Core.Bool.{Bool, true, false, cond, not, _&&_, _||_, false≢true}
+use mathlib.Core.Bool.{Bool, true, false, cond, not, _&&_, _||_}
 use mathlib.Core.List.{List, [], _∷_, _++_, List·Memᴰ, List·Memᴰ·head, List·Memᴰ·tail, List·Memᴰ·append-cases, List·Memᴰ·eq-of-singleton, Memᴰ·append-left, Memᴰ·append-right}
 use Prim.Native.Nat.{ℕ, zero, suc, _+_, _/_, _%_, _^_, _≤_, _<_}
 use native.Mathlib.Numerals.{add-one}
@@ -16,7 +16,7 @@ use Rattle.candidates.specs.Masks.{bit, has, nine, union, count, Sub}
 use Rattle.candidates.proofs.Counts.{count-sub, count-proper}
 use Rattle.candidates.proofs.Membership.{bit-and, bit-union, bit-none, bit-power, bit-high, bit-nine}
 use Rattle.candidates.proofs.Order.{sub-le}
-use Rattle.candidates.proofs.Tests.{allBelow, below, below-both, by-test, T-true, both-left, both-right}
+use Rattle.candidates.proofs.Tests.{allBelow, below, below-both, by-test, T-true, both-left, both-right, or-implied}
 use Rattle.grid.specs.Units.{unit, unitCell, inUnit}
 use Rattle.grid.proofs.Lists.{place-mem}
 use Rattle.grid.proofs.Units.{unit-length, in-row, in-col, col-place, row-place}
@@ -30,10 +30,6 @@ use Rattle.steps.proofs.Digits.{both-small, bit-outside}
 use Rattle.steps.proofs.Spots.{spots-lt, has-spots}
 use Rattle.steps.proofs.Loops.{for-all, in-upTo, in-above, upTo-in, all-member, all-append, each-idle}
 use Rattle.steps.proofs.Steps.{all-none}
-
-or-implied : (a b : Bool) → (not a || b) ≡ true → a ≡ true → b ≡ true
-or-implied true b t e = t
-or-implied false b t e = absurd (false≢true e)
 
 -- ---- more than two digits or places, or two and then a further test
 

@@ -1,10 +1,9 @@
 -- A call by its number, and the iterator's step, are what their tables say.
 use mathlib.Core.Path.{_≡_, refl, sym, ap}
 use mathlib.Core.List.{List}
-use Prim.Native.Nat.{ℕ, suc, _≤_}
+use Prim.Native.Nat.{ℕ, _≤_}
 use lib.IntN.{ℤ}
 use lib.ListN.{length, getD, List·getD-eq-default}
-use native.Mathlib.Omega.{arith}
 use Rattle.candidates.specs.Sets.{nextOf}
 use Rattle.steps.specs.Boards.{Board}
 use Rattle.host.specs.Boards.{questions, asked}
@@ -38,7 +37,3 @@ not-asked k b c past = no-number (questions b c) k past
 pub stepped : (m p : ℕ) → nextCode m p (nextOf m p) ≡ nextCall m p
 unfolding nextCall
 stepped m p = refl
-
--- one number after the other
-pub past : {k n : ℕ} → k ≤ n → (n ≡ k → ⊥) → suc k ≤ n
-past low other = omega (arith, low, other)

@@ -1,9 +1,9 @@
 -- What stands beside a stop, a cell, an index, an offset or a length, fits an `i64`, and so does a number of clues or of bytes.
 use mathlib.Core.Path.{_≡_, refl, sym, subst}
 use mathlib.Core.Bool.{Bool, true, false, cond}
-use mathlib.Core.List.{List, [], _∷_}
+use mathlib.Core.List.{List}
 use mathlib.Core.Option.{Option, none, some}
-use Prim.Native.Nat.{ℕ, zero, suc, _+_, _<_, _≤_, _^_}
+use Prim.Native.Nat.{ℕ, _+_, _<_, _≤_, _^_}
 use native.Mathlib.Nat.{min-le-right}
 use native.Mathlib.Omega.{arith}
 use borrow.Author.Tests.{leb-true}
@@ -15,10 +15,13 @@ use mir.Val.{SFits}
 use Rattle.candidates.specs.Answer.{Answer, gives, stop}
 use Rattle.grid.specs.Cells.{cells}
 use Rattle.grid.specs.Lists.{range}
-use Rattle.steps.specs.Boards.{Board, at, givensOf, isOpen}
+use Rattle.grid.proofs.Lists.{mem-range}
+use Rattle.steps.specs.Boards.{Board, at, givensOf}
 use Rattle.steps.specs.Calls.{badClue, badMask, checked, firstStop, refusal}
 use Rattle.steps.specs.Loops.{first}
+use Rattle.steps.proofs.Loops.{first-by}
 use Rattle.board.specs.Boards.{clueCount, firstBadClue, maskOr5, openedOr, openOf, thenAnswer}
+use Rattle.board.proofs.Answered.{clues-few}
 use Rattle.text.specs.Texts as T
 use Rattle.text.specs.Texts.{firstOther, cluesOf, readCells, parseOf, writeCells}
 use Rattle.record.specs.Records as R
@@ -40,13 +43,7 @@ Below n none = Unit {0}
 Below n (some c) = c < n
 
 found-below : (m : ℕ) (f : ℕ → Bool) (n k : ℕ) → k + n ≤ m → Below m (first f (range n k))
-unfolding first
-found-below m f zero k h = tt
-found-below m f (suc n) k h = go (f k) (found-below m f n (suc k) (omega arith))
-  where
-    go : (t : Bool) → Below m (first f (range n (suc k))) → Below m (cond t (some k) (first f (range n (suc k))))
-    go true later = omega arith
-    go false later = later
+found-below m f n k h = first-by f (Below m) (range n k) tt (λ c l. omega (arith, mem-range n k c l))
 
 cell-below : (f : ℕ → Bool) → Below 81 (first f cells)
 unfolding cells
@@ -54,18 +51,9 @@ cell-below f = found-below 81 f 81 0 (omega arith)
 
 -- ---- how many clues there are
 
-few : (g cs : List ℕ) → clueCount g cs ≤ length cs
-unfolding clueCount
-few g [] = omega arith
-few g (c ∷ cs) = go (isOpen g c) (few g cs)
-  where
-    go : (t : Bool) → clueCount g cs ≤ length cs → cond t (clueCount g cs) (suc (clueCount g cs)) ≤ suc (length cs)
-    go true h = omega arith
-    go false h = omega arith
-
 pub few-clues : (g : List ℕ) → clueCount g cells < 2 ^ 63
 unfolding cells
-few-clues g = omega (arith, few g cells)
+few-clues g = omega (arith, clues-few g cells)
 
 -- ---- the reader and the opener
 

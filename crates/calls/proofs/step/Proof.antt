@@ -6,7 +6,8 @@ use Rattle.steps.specs.Calls.{updateCandidates, nakedPairsCall, boxLineCall, xW
 use Rattle.steps.specs.Passes.{Lone, Place, Pair, Pointing, Cross}
 use Rattle.board.specs.Boards.{boardOf}
 use Rattle.calls.specs.StepNumbers.{HandsBack}
-use Rattle.calls.proofs.Arms.{past, step-is, no-step-is, quiet-hands, elimination-hands, reports-hands, settling-hands, update-flag}
+use Rattle.candidates.proofs.Tests.{past}
+use Rattle.calls.proofs.Arms.{step-is, no-step-is, quiet-hands, elimination-hands, reports-hands, settling-hands, update-flag}
 use Rattle.calls.proofs.Arms.{quiet-update, quiet-pairs, quiet-box-line, quiet-x-wing, quiet-chain, quiet-wide, uncounted-naked, uncounted-hidden, uncounted-advanced}
 use Rattle.calls.proofs.step.Statement.{statement}
 use Rattle.calls.proofs.step.Tie as tie

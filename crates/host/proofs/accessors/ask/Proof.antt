@@ -10,7 +10,8 @@ use Rattle.steps.specs.Boards.{givensOf}
 use Rattle.board.specs.Boards.{Verdict, Dead, Finished, Open, boardOf, clueCount, maskOr5, verdictOf}
 use Rattle.host.specs.Boards.{verdictNumber}
 use Rattle.host.specs.Codes.{Fitting, coded, noNumber}
-use Rattle.host.proofs.Calls.{is-asked, not-asked, past}
+use Rattle.candidates.proofs.Tests.{past}
+use Rattle.host.proofs.Calls.{is-asked, not-asked}
 use Rattle.host.proofs.Fitting.{checked-fits, then-fits, mask-fits, place-fits, few-clues}
 use Rattle.host.proofs.accessors.ask.Statement.{statement}
 use Rattle.host.proofs.accessors.ask.Tie as tie

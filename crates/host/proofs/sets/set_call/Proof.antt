@@ -14,7 +14,8 @@ use Rattle.candidates.specs.Masks.{nine, count}
 use Rattle.candidates.specs.Sets.{singleOf, containsOf, insertOf, inserted, removed, digitOr0}
 use Rattle.host.specs.Codes.{given, coded, testNumber, noNumber}
 use Rattle.host.specs.Sets.{newSet}
-use Rattle.host.proofs.Calls.{called, not-called, past}
+use Rattle.candidates.proofs.Tests.{past}
+use Rattle.host.proofs.Calls.{called, not-called}
 use Rattle.host.proofs.sets.set_call.Statement.{statement}
 use Rattle.host.proofs.sets.set_call.Tie as tie
 
