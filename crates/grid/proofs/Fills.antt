@@ -6,7 +6,7 @@ use native.Mathlib.Omega.{arith}
 use lib.ListN.{length, set, drop, replicate, length-append}
 use lib.Seq.{set-at, append-snoc, drop-length}
 use Rattle.grid.specs.Lists.{range, each}
-use Rattle.grid.proofs.Lists.{each-on, each-end}
+use Rattle.grid.proofs.Lists.{turn-done, turns-over}
 
 module _ {A : Type 0} (f : ℕ → A) where
   -- the elements from i up to n are still to be set
@@ -46,11 +46,11 @@ module _ {A : Type 0} (f : ℕ → A) where
   module _ (n i : ℕ) (xs : List A) {r : List A} (left : filled n i xs ≡ r) where
     pub fill-on : {x : A} → i < n → x ≡ f i → filled n (i + 1) (set xs i x) ≡ r
     unfolding filled
-    fill-on h e = ap (λ (y : A). filled n (i + 1) (set xs i y)) e ∙ sym (each-on (λ k l. set l k (f k)) n i xs h) ∙ left
+    fill-on h e = turn-done (λ k l. set l k (f k)) n i h (ap (set xs i) e) left
 
     pub fill-end : n ≤ i → xs ≡ r
     unfolding filled
-    fill-end h = sym (each-end (λ k l. set l k (f k)) n i xs h) ∙ left
+    fill-end h = turns-over (λ k l. set l k (f k)) n i h left
 
 -- a list in front of an array of n that z fills up, with one more element
 pub fill-next : {A : Type 0} (z : A) (n : ℕ) (xs : List A) (k : ℕ) (x : A) → length xs ≡ k → k < n

@@ -111,6 +111,14 @@ pub each-end {ℓ} : {S : Type ℓ} (f : ℕ → S → S) (n i : ℕ) (s : S) �
 unfolding each
 each-end f n i s h = ap (λ (is : List ℕ). each f is s) (range-end n i h)
 
+-- s is the state at i, and whole the state at the end
+module _ {ℓ} {S : Type ℓ} (f : ℕ → S → S) (n i : ℕ) {s whole : S} where
+  pub turn-done : {next : S} → i < n → next ≡ f i s → each f (range (n - i) i) s ≡ whole → each f (range (n - (i + 1)) (i + 1)) next ≡ whole
+  turn-done h e left = ap (each f (range (n - (i + 1)) (i + 1))) e ∙ sym (each-on f n i s h) ∙ left
+
+  pub turns-over : n ≤ i → each f (range (n - i) i) s ≡ whole → s ≡ whole
+  turns-over h left = sym (each-end f n i s h) ∙ left
+
 pub all-on : (f : ℕ → Bool) (n i : ℕ) → i < n → f i ≡ true → all f (range (n - i) i) ≡ all f (range (n - (i + 1)) (i + 1))
 all-on f n i h e = ap (all f) (range-on n i h) ∙ ap (λ (t : Bool). t && all f (range (n - (i + 1)) (i + 1))) e
 

@@ -3,7 +3,7 @@ use mathlib.Core.Path.{_≡_, sym, ap, _∙_, subst}
 use mathlib.Core.Logic.{_⊎_, _↔_, inr, ⊎-elim}
 use mathlib.Core.Bool.{Bool, true, false, _&&_}
 use mathlib.Core.List.{List, List·Memᴰ}
-use Prim.Native.Nat.{ℕ, zero, suc, _+_, _-_, _≤_, _<_}
+use Prim.Native.Nat.{ℕ, zero, suc, _-_, _≤_, _<_}
 use native.Mathlib.Omega.{arith}
 use borrow.Author.Tests.{eqb-true, eq-eqb, lt-ltb, le-ltb}
 use lib.Dec.{eqb, ltb, lit<}
@@ -19,7 +19,7 @@ use Rattle.grid.specs.Units.{unitCell}
 use Rattle.grid.specs.Fillings.{numberAt, verified}
 use Rattle.grid.specs.Seen.{numberMask, numberMasks, gathered, complete}
 use Rattle.grid.proofs.Cells.{at-cells}
-use Rattle.grid.proofs.Lists.{mem-range, range-mem, each-on, each-end, each-same, all-range, range-all}
+use Rattle.grid.proofs.Lists.{mem-range, range-mem, each-same, all-range, range-all}
 use Rattle.grid.proofs.Unions.{held-gathered}
 use Rattle.grid.proofs.Units.{cell-below}
 use Rattle.grid.proofs.Pigeonhole.{Injects, onto, onto-injects}
@@ -86,8 +86,6 @@ module _ (g : List ℤ) where
       both (lt-ltb u 27 h)
       (eq-eqb (gathered (numberMasks g) u (range 9 0) 0) 511 (gathers-digits u h ∙ injects-full (placeAt g u) (small u) r))
 
--- ---- what a loop over the places has left
-
 pub complete-past : (ms : List ℕ) (u : ℕ) → 27 ≤ u → complete ms u ≡ false
 unfolding complete
 complete-past ms u h = ap (λ (t : Bool). t && eqb (gathered ms u (range 9 0) 0) 511) (le-ltb u 27 h)
@@ -95,14 +93,6 @@ complete-past ms u h = ap (λ (t : Bool). t && eqb (gathered ms u (range 9 0) 0)
 pub complete-in : (ms : List ℕ) (u : ℕ) → u < 27 → complete ms u ≡ eqb (gathered ms u (range 9 0) 0) 511
 unfolding complete
 complete-in ms u h = ap (λ (t : Bool). t && eqb (gathered ms u (range 9 0) 0) 511) (lt-ltb u 27 h)
-
-pub gathered-on : (ms : List ℕ) (u i s : ℕ) → i < 9 → gathered ms u (range (9 - i) i) s ≡ gathered ms u (range (9 - (i + 1)) (i + 1)) (union s (getD ms (unitCell u i) 0))
-unfolding gathered
-gathered-on ms u i s h = each-on (λ i m. union m (getD ms (unitCell u i) 0)) 9 i s h
-
-pub gathered-end : (ms : List ℕ) (u i s : ℕ) → 9 ≤ i → gathered ms u (range (9 - i) i) s ≡ s
-unfolding gathered
-gathered-end ms u i s h = each-end (λ i m. union m (getD ms (unitCell u i) 0)) 9 i s h
 
 -- ---- the whole
 

@@ -1,8 +1,8 @@
 -- `chains::chains` meets its contract. The invariant: the digits that are left still make the pass. Assumes nothing.
-use mathlib.Core.Path.{_≡_, refl, sym, ap, _∙_}
-use Prim.Native.Nat.{_+_, _-_, _≤_}
+use mathlib.Core.Path.{_≡_, refl}
+use Prim.Native.Nat.{_-_, _≤_}
 use native.Mathlib.Omega.{arith}
-use Rattle.grid.proofs.Lists.{each-on, each-end}
+use Rattle.grid.proofs.Lists.{turn-done, turns-over}
 use Rattle.steps.specs.Chains.{chainDigit, chains}
 use Rattle.steps.specs.Loops.{each, range}
 use Rattle.chains.proofs.chains.Statement.{statement}
@@ -31,14 +31,10 @@ loop-less c = omega arith
 loop-again : tie.Need-loop-again Inv-loop μ-loop
 loop-again c =
     let l = c .before .before .before in
-    let a = l .before .args in
-    let i = l .loop .digit in
-    (omega arith, ap (each (chainDigit (a .givens .now)) (range (9 - (i + 1)) (i + 1))) (c .build-aic-chains-for-digit .ensures) ∙ sym (each-on (chainDigit (a .givens .now)) 9 i (l .loop .masks) (omega arith)) ∙ l .loop .inv .1)
+    (omega arith, turn-done _ 9 (l .loop .digit) (omega arith) (c .build-aic-chains-for-digit .ensures) (l .loop .inv .1))
 
 returns : tie.Need-returns Inv-loop μ-loop
-returns c =
-    let l = c .before in
-    sym (each-end (chainDigit (l .before .args .givens .now)) 9 (l .loop .digit) (l .loop .masks) (c .loop-test .left)) ∙ l .loop .inv .1
+returns c = turns-over _ 9 (c .before .loop .digit) (c .loop-test .left) (c .before .loop .inv .1)
 
 pub chains-spec : {M : Type 1} → statement M
 chains-spec =

@@ -1,7 +1,7 @@
 -- `grid::unit_complete` meets its contract. The invariant: the places that are left still make the whole mask. Assumes nothing.
 use mathlib.Core.Path.{_≡_, refl, sym, ap, _∙_}
 use mathlib.Core.List.{List}
-use Prim.Native.Nat.{ℕ, _+_, _-_, _≤_, _<_}
+use Prim.Native.Nat.{ℕ, _-_, _≤_, _<_}
 use native.Mathlib.Omega.{arith}
 use borrow.Author.Needs.{needs}
 use lib.Dec.{eqb}
@@ -10,8 +10,9 @@ use Rattle.grid.specs.Lists.{range}
 use Rattle.grid.specs.Units.{unitCell}
 use Rattle.candidates.specs.Masks.{union}
 use Rattle.grid.specs.Seen.{gathered}
+use Rattle.grid.proofs.Lists.{turn-done, turns-over}
 use Rattle.grid.proofs.Units.{array-cell, cell-below}
-use Rattle.grid.proofs.Verifier.{gathered-on, gathered-end, complete-past, complete-in}
+use Rattle.grid.proofs.Verifier.{complete-past, complete-in}
 use Rattle.grid.proofs.unit_complete.Statement.{statement}
 use Rattle.grid.proofs.unit_complete.Tie as tie
 use Rattle.grid.proofs.unit_complete.Reads as reads
@@ -61,11 +62,8 @@ loop-less : tie.Need-loop-less Inv-loop μ-loop
 loop-less c = omega arith
 
 loop-again : tie.Need-loop-again Inv-loop μ-loop
-loop-again c = (
-  omega arith,
-  ap (gathered ms u (range (9 - (i + 1)) (i + 1))) joined ∙ sym (gathered-on ms u i (c .before .before .before .loop .mask) (omega arith))
-      ∙ c .before .before .before .loop .inv .1,
-)
+unfolding gathered
+loop-again c = (omega arith, turn-done _ 9 i (omega arith) joined (c .before .before .before .loop .inv .1))
   where
     ms : List ℕ
     ms = c .before .before .before .before .before .before .args .masks .now
@@ -82,8 +80,9 @@ loop-again c = (
         ∙ ap (λ (k : ℕ). union (c .before .before .before .loop .mask) (getD ms k 0)) (array-cell (c .before .before .before .before .unit-cells .result) u i (c .before .before .before .before .unit-cells .ensures) (omega arith))
 
 returns-2 : tie.Need-returns-2 Inv-loop μ-loop
+unfolding gathered
 returns-2 c =
-    ap (λ (m : ℕ). eqb m 511) (sym (gathered-end ms u (c .before .loop .place) (c .before .loop .mask) (c .loop-test .left)) ∙ c .before .loop .inv .1)
+    ap (λ (m : ℕ). eqb m 511) (turns-over _ 9 (c .before .loop .place) (c .loop-test .left) (c .before .loop .inv .1))
     ∙ sym (complete-in ms u (c .before .before .before .if1 .left))
   where
     ms : List ℕ

@@ -1,12 +1,12 @@
 -- `board::fresh::fresh_masks` meets its contract. Assumes nothing.
-use mathlib.Core.Path.{_≡_, sym, ap, _∙_}
+use mathlib.Core.Path.{_≡_, ap, _∙_}
 use mathlib.Core.List.{List}
-use Prim.Native.Nat.{ℕ, _+_, _-_, _≤_}
+use Prim.Native.Nat.{ℕ, _-_, _≤_}
 use native.Mathlib.Omega.{arith}
 use borrow.Author.Needs.{needs}
 use lib.ListN.{replicate}
 use Rattle.grid.specs.Lists.{each, range}
-use Rattle.grid.proofs.Lists.{each-on, each-end}
+use Rattle.grid.proofs.Lists.{turn-done, turns-over}
 use Rattle.steps.specs.Boards.{fresh}
 use Rattle.board.specs.Fresh.{freshRow}
 use Rattle.board.proofs.Taken.{fresh-rows}
@@ -38,14 +38,10 @@ loop-less c = omega arith
 loop-again : tie.Need-loop-again Inv-loop μ-loop
 loop-again c =
     let l = c .before .before .before .before in
-    let f = freshRow (l .before .before .args .givens .now) (l .before .unit-sets .result) in
-    let r = l .loop .row in
-    (omega arith, ap (each f (range (9 - (r + 1)) (r + 1))) (c .fresh-row .ensures) ∙ sym (each-on f 9 r (l .loop .masks) (omega arith)) ∙ l .loop .inv .1)
+    (omega arith, turn-done _ 9 (l .loop .row) (omega arith) (c .fresh-row .ensures) (l .loop .inv .1))
 
 returns : tie.Need-returns Inv-loop μ-loop
-returns c =
-    let l = c .before in
-    sym (each-end (freshRow (l .before .before .args .givens .now) (l .before .unit-sets .result)) 9 (l .loop .row) (l .loop .masks) (c .loop-test .left)) ∙ l .loop .inv .1
+returns c = turns-over _ 9 (c .before .loop .row) (c .loop-test .left) (c .before .loop .inv .1)
 
 pub fresh-masks-spec : {M : Type 1} → statement M
 fresh-masks-spec =

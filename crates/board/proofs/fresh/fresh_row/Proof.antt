@@ -1,13 +1,13 @@
 -- `board::fresh::fresh_row` meets its contract. The invariant: the cells that are left still make the whole row. Assumes nothing.
-use mathlib.Core.Path.{_≡_, refl, sym, ap, _∙_}
+use mathlib.Core.Path.{_≡_, refl, ap, _∙_}
 use mathlib.Core.List.{List}
-use Prim.Native.Nat.{ℕ, _+_, _-_, _≤_}
+use Prim.Native.Nat.{ℕ, _-_, _≤_}
 use native.Mathlib.Omega.{arith}
 use borrow.Author.Needs.{needs}
 use lib.ListN.{set}
 use Rattle.grid.specs.Cells.{cell}
 use Rattle.grid.specs.Lists.{each, range}
-use Rattle.grid.proofs.Lists.{each-on, each-end}
+use Rattle.grid.proofs.Lists.{turn-done, turns-over}
 use Rattle.steps.specs.Boards.{given}
 use Rattle.board.specs.Fresh.{seen, freshMask, freshRow}
 use Rattle.board.proofs.fresh.fresh_row.Statement.{statement}
@@ -62,16 +62,15 @@ loop-again c =
     let g = a .givens .now in
     let k = l .loop .col in (
       omega arith,
-      ap (λ (x : ℕ). each (turn g (a .sets .now) (a .row)) (range (9 - (k + 1)) (k + 1)) (set (l .loop .masks) (cell (a .row) k) x))
-          (c .fresh-mask .ensures ∙ ap (freshMask (given g (cell (a .row) k))) (c .before .seen-digits .ensures))
-          ∙ sym (each-on (turn g (a .sets .now) (a .row)) 9 k (l .loop .masks) (omega arith)) ∙ l .loop .inv .1,
+      turn-done (turn g (a .sets .now) (a .row)) 9 k (omega arith)
+          (ap (set (l .loop .masks) (cell (a .row) k)) (c .fresh-mask .ensures ∙ ap (freshMask (given g (cell (a .row) k))) (c .before .seen-digits .ensures))) (l .loop .inv .1),
     )
 
 returns : tie.Need-returns Inv-loop μ-loop
 returns c =
     let l = c .before in
     let a = l .before .args in
-    sym (each-end (turn (a .givens .now) (a .sets .now) (a .row)) 9 (l .loop .col) (l .loop .masks) (c .loop-test .left)) ∙ l .loop .inv .1
+    turns-over (turn (a .givens .now) (a .sets .now) (a .row)) 9 (l .loop .col) (c .loop-test .left) (l .loop .inv .1)
 
 pub fresh-row-spec : {M : Type 1} → statement M
 fresh-row-spec =

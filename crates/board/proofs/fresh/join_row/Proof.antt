@@ -2,14 +2,14 @@
 use mathlib.Core.Path.{_≡_, refl, sym, ap, _∙_}
 use mathlib.Core.Logic.{⊎-elim}
 use mathlib.Core.List.{List}
-use Prim.Native.Nat.{ℕ, _+_, _-_, _≤_}
+use Prim.Native.Nat.{ℕ, _-_, _≤_}
 use native.Mathlib.Omega.{arith}
 use borrow.Author.Needs.{needs}
 use borrow.Author.Tests.{eq-eqb, ne-eqb}
 use Rattle.candidates.proofs.Tests.{cond-true, cond-false}
 use Rattle.grid.specs.Cells.{cell}
 use Rattle.grid.specs.Lists.{each, range}
-use Rattle.grid.proofs.Lists.{each-on, each-end}
+use Rattle.grid.proofs.Lists.{turn-done, turns-over}
 use Rattle.steps.specs.Boards.{given, givenMask, isOpen}
 use Rattle.board.specs.Fresh.{joinUnits, joinGiven, joinRow}
 use Rattle.board.proofs.fresh.join_row.Statement.{statement}
@@ -48,7 +48,7 @@ loop-less c = omega arith
 
 loop-again : tie.Need-loop-again Inv-loop μ-loop
 loop-again c =
-    (omega arith, ap (each (joinGiven g r) (range (9 - (k + 1)) (k + 1))) joined ∙ sym (each-on (joinGiven g r) 9 k s (omega arith)) ∙ c .before .before .before .loop .inv .1)
+    (omega arith, turn-done _ 9 k (omega arith) joined (c .before .before .before .loop .inv .1))
   where
     g : List ℕ
     g = c .before .before .before .before .args .givens .now
@@ -72,10 +72,7 @@ loop-again c =
         (c .if1 .came)
 
 returns : tie.Need-returns Inv-loop μ-loop
-returns c =
-    let l = c .before in
-    let a = l .before .args in
-    sym (each-end (joinGiven (a .givens .now) (a .row)) 9 (l .loop .col) (l .loop .sets) (c .loop-test .left)) ∙ l .loop .inv .1
+returns c = turns-over _ 9 (c .before .loop .col) (c .loop-test .left) (c .before .loop .inv .1)
 
 pub join-row-spec : {M : Type 1} → statement M
 join-row-spec =

@@ -1,9 +1,9 @@
 -- `board::fresh::unit_sets` meets its contract. Assumes nothing.
-use mathlib.Core.Path.{_≡_, refl, sym, ap, _∙_}
-use Prim.Native.Nat.{_+_, _-_, _≤_}
+use mathlib.Core.Path.{_≡_, refl}
+use Prim.Native.Nat.{_-_, _≤_}
 use native.Mathlib.Omega.{arith}
 use Rattle.grid.specs.Lists.{each, range}
-use Rattle.grid.proofs.Lists.{each-on, each-end}
+use Rattle.grid.proofs.Lists.{turn-done, turns-over}
 use Rattle.board.specs.Fresh.{joinRow, unitSets}
 use Rattle.board.proofs.fresh.unit_sets.Statement.{statement}
 use Rattle.board.proofs.fresh.unit_sets.Tie as tie
@@ -30,14 +30,10 @@ loop-less c = omega arith
 loop-again : tie.Need-loop-again Inv-loop μ-loop
 loop-again c =
     let l = c .before .before .before in
-    let f = joinRow (l .before .args .givens .now) in
-    let r = l .loop .row in
-    (omega arith, ap (each f (range (9 - (r + 1)) (r + 1))) (c .join-row .ensures) ∙ sym (each-on f 9 r (l .loop .sets) (omega arith)) ∙ l .loop .inv .1)
+    (omega arith, turn-done _ 9 (l .loop .row) (omega arith) (c .join-row .ensures) (l .loop .inv .1))
 
 returns : tie.Need-returns Inv-loop μ-loop
-returns c =
-    let l = c .before in
-    sym (each-end (joinRow (l .before .args .givens .now)) 9 (l .loop .row) (l .loop .sets) (c .loop-test .left)) ∙ l .loop .inv .1
+returns c = turns-over _ 9 (c .before .loop .row) (c .loop-test .left) (c .before .loop .inv .1)
 
 pub unit-sets-spec : {M : Type 1} → statement M
 unit-sets-spec =
