@@ -7,16 +7,18 @@ use Prim.Native.Nat.{ℕ}
 use borrow.Author.Tests.{eq-eqb, ne-eqb}
 use lib.Dec.{eqb}
 use lib.IntN.{ℤ, pos}
+use lib.ListN.{getD}
 use Rattle.candidates.specs.Answer.{gives, stop}
 use Rattle.candidates.specs.Masks.{minus}
 use Rattle.candidates.proofs.Order.{sub-refl, minus-of-sub}
 use Rattle.grid.specs.Cells.{cells}
 use Rattle.steps.specs.Boards.{at, givensOf, given, fresh}
-use Rattle.steps.specs.Calls.{badMask, refusal, opened}
+use Rattle.steps.specs.Calls.{badClue, badMask, refusal, opened}
+use Rattle.steps.specs.Demand3.{Clues}
 use Rattle.steps.specs.Loops.{first}
 use Rattle.steps.proofs.Fresh.{fresh-at}
 use Rattle.board.specs.Boards.{handed, stops, firstBadClue, misfitOf, firstMisfit, openedOr, openOf}
-use Rattle.steps.proofs.Searches.{first-cells}
+use Rattle.steps.proofs.Searches.{first-cells, cells-none}
 
 -- ---- one mask
 
@@ -66,3 +68,7 @@ module _ (clues : List ℤ) where
   pub is-opened : firstBadClue clues ≡ none → {m : List ℕ} → m ≡ fresh (givensOf clues) → gives (handed clues m) ≡ openOf clues
   unfolding openOf opened
   is-opened e p = ap (λ (m : List ℕ). gives (handed clues m)) p ∙ sym (ap (λ (x : Option ℕ). openedOr x clues) e)
+
+  pub clues-open : Clues clues → openOf clues ≡ gives (opened clues)
+  unfolding openOf
+  clues-open ok = ap (λ (x : Option ℕ). openedOr x clues) (cells-none (λ c. badClue (getD clues c (pos 0))) (ok .good))

@@ -4,23 +4,20 @@ use mathlib.Core.Bool.{Bool, true}
 use mathlib.Core.List.{List, [], _∷_, _++_}
 use mathlib.Core.Option.{Option, none}
 use Prim.Native.Nat.{ℕ, _+_}
-use lib.IntN.{ℤ, pos}
-use lib.ListN.{getD}
+use lib.IntN.{ℤ}
 use Rattle.candidates.specs.Answer.{Answer, gives}
-use Rattle.grid.specs.Cells.{cells}
-use Rattle.grid.proofs.Lists.{mem-range}
 use Rattle.steps.specs.Boards as S
 use Rattle.steps.specs.Boards.{givensOf, total}
-use Rattle.steps.specs.Calls.{Call, withoutChain, wide, settling, badClue, refusal, Admitted, checked, outcome, answer, left, opened, run}
+use Rattle.steps.specs.Calls.{Call, withoutChain, wide, settling, refusal, Admitted, checked, outcome, answer, left, opened, run}
 use Rattle.steps.specs.Demand3 as steps
 use Rattle.steps.specs.Demand3.{Clues}
 use Rattle.steps.specs.Fillings.{InMasks}
 use Rattle.steps.specs.Passes.{Kind, sweep, settle, removedBy}
 use Rattle.steps.proofs.Lists as steps-proofs
-use Rattle.steps.proofs.Loops.{none-first}
 use Rattle.board.specs.Answers.{beside}
-use Rattle.board.specs.Boards.{boardOf, noBoard, openedOr, openOf}
+use Rattle.board.specs.Boards.{boardOf, noBoard, openOf}
 use Rattle.board.specs.declared.Board.{Board}
+use Rattle.board.proofs.Checks.{clues-open}
 use Rattle.progress.specs.Answers.{progressAnswer, flagOf, Eliminates}
 use Rattle.progress.specs.declared.Eliminated.{Eliminated}
 use Rattle.progress.specs.declared.Progress.{Progress}
@@ -56,11 +53,6 @@ counted (told.BadMask c) k e = cc
 
 -- ---- the boards after a list
 
-open-clues : (clues : List ℤ) → Clues clues → openOf clues ≡ gives (opened clues)
-unfolding openOf cells
-open-clues clues ok =
-    ap (λ (o : Option ℕ). openedOr o clues) (none-first (λ c. badClue (getD clues c (pos 0))) cells (λ c k. ok .good c (mem-range 81 0 c k .1)))
-
 run-snoc : (ks : List Call) (k : Call) (b : S.Board) → run (ks ++ k ∷ []) b ≡ left (run ks b) (answer k (run ks b))
 unfolding run
 run-snoc [] k b = refl
@@ -68,7 +60,7 @@ run-snoc (l ∷ ks) k b = run-snoc ks k (left b (answer l b))
 
 opens : (clues : List ℤ) → Clues clues → (b : Board) → boardOf b ≡ beside (openOf clues) noBoard → After clues [] b
 unfolding run
-opens clues ok b e = e ∙ ap (λ (a : Answer S.Board). beside a noBoard) (open-clues clues ok)
+opens clues ok b e = e ∙ ap (λ (a : Answer S.Board). beside a noBoard) (clues-open clues ok)
 
 calls : (clues : List ℤ) (ks : List Call) (b : Board) → After clues ks b → (k : Call) (c : Board) → boardOf c ≡ left (boardOf b) (answer k (boardOf b)) → After clues (ks ++ k ∷ []) c
 calls clues ks b at k c e = e ∙ ap (λ (b : S.Board). left b (answer k b)) at ∙ sym (run-snoc ks k (opened clues))
@@ -76,7 +68,7 @@ calls clues ks b at k c e = e ∙ ap (λ (b : S.Board). left b (answer k b)) at 
 replays : (clues : List ℤ) → Clues clues → (ns : List ℕ) → firstNoStep ns ≡ none → (r : Replayed) → Replays clues ns r
     → (r .answer ≡ replaying.Done) × After clues (callsOf ns) (r .board)
 replays clues ok ns steps r e =
-    let is : replayOf clues ns ≡ gives (run (callsOf ns) (opened clues)) = sym (run-replayed clues ns (sym (open-clues clues ok)) (sym steps)) in
+    let is : replayOf clues ns ≡ gives (run (callsOf ns) (opened clues)) = sym (run-replayed clues ns (sym (clues-open clues ok)) (sym steps)) in
     (done (r .answer) (boardOf (r .board)) _ (e .answer ∙ is), e .board ∙ ap (λ (a : Answer S.Board). beside a noBoard) is)
 
 taken : (clues : List ℤ) → Clues clues → (ks : List Call) (b : Board) → After clues ks b → refusal (boardOf b) ≡ none

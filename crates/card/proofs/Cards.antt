@@ -12,11 +12,9 @@ use Rattle.grid.specs.Cells.{cells}
 use Rattle.steps.specs.Boards as S
 use Rattle.steps.specs.Boards.{givensOf, fresh}
 use Rattle.steps.specs.Calls.{Call, Outcome, advancedCall, settling, outcome, answer, refusal, checked, left, opened, run}
-use Rattle.steps.specs.Demand3.{Settles}
-use Rattle.steps.specs.Passes.{settle, removedBy}
 use Rattle.steps.proofs.Check.{clues-givens}
-use Rattle.steps.proofs.Fresh.{fresh-length, fresh-admissible, total-most}
-use Rattle.steps.proofs.Lists.{demand3}
+use Rattle.steps.proofs.Fresh.{fresh-admissible, total-most}
+use Rattle.steps.proofs.Lists.{demand3, settles}
 use Rattle.board.specs.Boards.{clueCount, verdictOf}
 use Rattle.board.proofs.Answered.{clues-few}
 use Rattle.text.specs.Texts.{parseOf}
@@ -92,15 +90,6 @@ module _ (t : List ℕ) (z : List ℤ) (e : parseOf t ≡ gives z) where
 
 -- ---- how long a card is
 
-module _ (t : List ℕ) (z : List ℤ) (e : parseOf t ≡ gives z) where
-  settles : Settles (givensOf z) (fresh (givensOf z))
-  unfolding opened
-  settles = demand3 .settling (opened z) (record { clues = read-clues t z e .size; masks = fresh-length (givensOf z); taken = free t z e })
-
-  removed-few : removedBy (fresh (givensOf z)) (settle (givensOf z) (fresh (givensOf z)) .left) ≤ 729
-  removed-few =
-      omega (arith, total-most (givensOf z) (fresh (givensOf z)) (clues-givens z) (fresh-admissible (givensOf z)))
-
 line-length : (label rest : List ℕ) → length (lineOf label rest) ≡ length label + length rest + 1
 unfolding lineOf
 line-length label rest = omega (arith, length-append (label ++ rest) (10 ∷ []), length-append label rest)
@@ -127,14 +116,13 @@ card-short c h i j k =
     let u : length g ≤ 87 = omega (arith, line-length gridLabel (gridBytes (c .masks))) in
     omega (arith, length-append (a ++ b ++ d ++ e ++ f) g, length-append (a ++ b ++ d ++ e) f, length-append (a ++ b ++ d) e, length-append (a ++ b) d, length-append a b)
 
-module _ (t : List ℕ) (z : List ℤ) (e : parseOf t ≡ gives z) where
-  pub read-short : length (cardBytes (cardFor z)) ≤ 256
-  unfolding cardFor outcome cells
-  read-short =
-      card-short (cardFor z) (omega (arith, clues-few (givensOf z) cells))
-      (omega (arith, singles-few (givensOf z) (fresh (givensOf z))))
-      (omega (arith, settles t z e .most))
-      (omega (arith, removed-few t z e))
+pub read-short : (z : List ℤ) → length (cardBytes (cardFor z)) ≤ 256
+unfolding cardFor outcome cells
+read-short z =
+    let g = givensOf z in
+    let a = fresh-admissible g in
+    card-short (cardFor z) (omega (arith, clues-few g cells)) (omega (arith, singles-few g (fresh g)))
+    (omega (arith, settles g (fresh g) (clues-givens z) a .most)) (omega (arith, total-most g (fresh g) (clues-givens z) a))
 
 -- ---- how long a refusal is
 

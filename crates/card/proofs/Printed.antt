@@ -1,8 +1,7 @@
 -- What is printed, from what `write_card` and `write_refusal` answer and leave in the lent bytes. Assumes nothing.
-use mathlib.Core.Path.{_≡_, refl, sym, ap, _∙_}
+use mathlib.Core.Path.{_≡_, refl, sym, ap, _∙_, subst}
 use mathlib.Core.List.{List}
 use Prim.Native.Nat.{ℕ, _≤_}
-use native.Mathlib.Omega.{arith}
 use lib.IntN.{ℤ}
 use lib.ListN.{length}
 use Rattle.candidates.specs.Answer.{Answer, gives, stop}
@@ -18,11 +17,11 @@ use Rattle.card.proofs.Cards.{read-short}
 module _ (input : List ℕ) where
   pub card-room : (card : Card) → cardOf input ≡ gives card → length (cardBytes card) ≤ 256
   unfolding cardOf
-  card-room card e = go (parseOf (textIn input)) refl e
+  card-room card e = go (parseOf (textIn input)) e
     where
-      go : (p : Answer (List ℤ)) → parseOf (textIn input) ≡ p → cardRead p ≡ gives card → length (cardBytes card) ≤ 256
-      go (gives z) q e = let s = gives-same e in omega (arith, read-short (textIn input) z q, ap (λ (k : Card). length (cardBytes k)) s)
-      go (stop n d) q e = absurd (stop-gives e)
+      go : (p : Answer (List ℤ)) → cardRead p ≡ gives card → length (cardBytes card) ≤ 256
+      go (gives z) e = subst (λ (k : Card). length (cardBytes k) ≤ 256) (gives-same e) (read-short z)
+      go (stop n d) e = absurd (stop-gives e)
 
 -- the lent bytes before, and after the calls
 module _ (a : Answer Card) (lent : List ℕ) {o : List ℕ} where

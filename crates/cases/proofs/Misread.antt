@@ -1,24 +1,22 @@
 -- Why two readings of the wide passes are wrong: Place over open cells alone costs a filling, and Pair from two open cells alone stops before the settled board. Assumes nothing.
 use mathlib.Core.Path.{_≡_, refl}
 use mathlib.Core.Logic.{_≢_}
-use mathlib.Core.Bool.{true, false, cond, not, false≢true}
+use mathlib.Core.Bool.{true, cond, false≢true}
 use mathlib.Core.List.{List, [], _∷_}
 use Prim.Native.Nat.{ℕ, zero, suc, _<_}
 use native.Mathlib.Omega.{arith}
-use borrow.Author.Tests.{not-true}
 use lib.Count.{onesIn, ones}
 use lib.Dec.{eqb, lit<}
 use lib.IntN.{ℤ, pos}
 use lib.ListN.{length, getD}
 use Rattle.candidates.specs.Masks.{gather}
-use Rattle.candidates.proofs.Tests.{below, T-true}
 use Rattle.candidates.proofs.Order.{sub-le}
 use Rattle.grid.specs.Cells.{cells, peers}
 use Rattle.grid.specs.Fillings.{numberAt, verified}
 use Rattle.grid.specs.Lists.{each, select}
 use Rattle.grid.specs.Units.{units, unit, unitCell}
 use Rattle.steps.specs.Boards.{at, givensOf, isOpen, fresh, taken, total}
-use Rattle.steps.specs.Calls.{wide, badClue, opened, run}
+use Rattle.steps.specs.Calls.{wide, opened, run}
 use Rattle.steps.specs.Demand3.{Clues}
 use Rattle.steps.specs.Fillings.{KeepsClues, InMasks}
 use Rattle.steps.specs.Instances.{only, except, stepOf, lones, places, pointings}
@@ -26,6 +24,7 @@ use Rattle.steps.specs.Loops.{for, upTo}
 use Rattle.steps.specs.Passes.{Lone, Place, Pointing, Cross, instances, instanceTaken, pass, settle}
 use Rattle.steps.specs.Ported.{spots, nakedPairAt, nakedPairs}
 use Rattle.steps.specs.Steps.{Step, take}
+use Rattle.steps.proofs.Check.{clues-by}
 use Rattle.steps.proofs.Lists.{demand3}
 use Rattle.cases.specs.Cases.{freshMasks}
 use Rattle.cases.specs.Grids.{gridOf, gridA, p5}
@@ -53,10 +52,7 @@ pub record Costs (f : List ℕ → List ℕ → List ℕ) (clues filling : List 
 
 p5-clues : Clues p5
 unfolding p5 gridA gridOf for
-p5-clues = record { size = refl; good = good }
-  where
-    good : (c : ℕ) → c < 81 → badClue (getD p5 c (pos 0)) ≡ false
-    good c h = not-true (badClue (getD p5 c (pos 0))) (T-true _ (below 81 (λ c. not (badClue (getD p5 c (pos 0)))) tt c h))
+p5-clues = clues-by p5 refl tt
 
 p5-kept : KeepsClues p5 gridA
 unfolding p5 gridA gridOf for

@@ -1,12 +1,12 @@
 -- One chain pass costs a correct filling on the grid of three clues: it removes 1 from cell 28. Assumes nothing.
 use mathlib.Core.Path.{_≡_, refl, sym, ap, ap₂, _∙_}
 use mathlib.Core.Logic.{_≢_}
-use mathlib.Core.Bool.{Bool, true, false, not, _||_, true≢false}
+use mathlib.Core.Bool.{Bool, true, false, _||_, true≢false}
 use mathlib.Core.List.{List, [], _∷_, map}
 use mathlib.Core.Option.{Option, none, some}
 use Prim.Native.Nat.{ℕ}
 use native.Mathlib.Omega.{arith}
-use borrow.Author.Tests.{not-true, ne-eqb}
+use borrow.Author.Tests.{ne-eqb}
 use lib.Dec.{lit<}
 use lib.IntN.{ℤ, pos}
 use lib.ListN.{length, getD}
@@ -17,12 +17,13 @@ use Rattle.grid.specs.Fillings.{numberAt, sameNumber, verified}
 use Rattle.grid.specs.Units.{units, unit}
 use Rattle.grid.proofs.Lists.{same-eq}
 use Rattle.steps.specs.Boards.{at, givensOf, isOpen, taken, fresh}
-use Rattle.steps.specs.Calls.{badClue, refusal, checked, outcome, answer, left, opened, run, chainCall}
+use Rattle.steps.specs.Calls.{refusal, checked, outcome, answer, left, opened, run, chainCall}
 use Rattle.steps.specs.Chains.{firstSome, weakLinks, strongLinks, elimination, enter, chainEnd, loseFound, chainDigit, chains}
 use Rattle.steps.specs.Demand3.{Clues}
 use Rattle.steps.specs.Fillings.{KeepsClues, InMasks}
 use Rattle.steps.specs.Instances.{only}
 use Rattle.steps.specs.Loops.{each, for, first, range}
+use Rattle.steps.proofs.Check.{clues-by}
 use Rattle.steps.proofs.Lists.{demand3}
 use Rattle.steps.proofs.Loops.{each-keeps}
 use Rattle.steps.proofs.Steps.{lose-under}
@@ -106,7 +107,7 @@ gone =
 
 good : Clues threeClues
 unfolding threeClues
-good = record { size = refl; good = λ c h. not-true (badClue (getD threeClues c (pos 0))) (T-true _ (below 81 (λ c. not (badClue (getD threeClues c (pos 0)))) tt c h)) }
+good = clues-by threeClues refl tt
 
 kept : KeepsClues threeClues filling
 unfolding threeClues filling

@@ -139,11 +139,11 @@ pub card-fits : (input : List ℕ) → length input < 2 ^ 63 → Fitting pos (wr
 unfolding cardOf
 card-fits input below =
     let shorter = min-le-right (textLength input) (length input) in
-    go (parseOf (textIn input)) refl (parse-fits (textIn input) (omega (arith, length-take (textLength input) input, shorter)))
+    go (parseOf (textIn input)) (parse-fits (textIn input) (omega (arith, length-take (textLength input) input, shorter)))
   where
-    go : (p : Answer (List ℤ)) → parseOf (textIn input) ≡ p → Fitting clueNumber p → Fitting pos (writtenOf (cardRead p))
-    go (gives clues) is f = place-fits (omega (arith, read-short (textIn input) clues is))
-    go (stop n z) is f = f
+    go : (p : Answer (List ℤ)) → Fitting clueNumber p → Fitting pos (writtenOf (cardRead p))
+    go (gives clues) f = place-fits (omega (arith, read-short clues))
+    go (stop n z) f = f
 
 -- ---- the record writer
 

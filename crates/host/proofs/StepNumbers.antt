@@ -1,20 +1,19 @@
 -- The numbers of a step's answer, and what is made of its parts.
 use mathlib.Core.Path.{_≡_, refl}
-use mathlib.Core.Bool.{Bool, true, false, cond}
 use mathlib.Core.List.{List}
 use mathlib.Core.Option.{Option, none, some}
-use Prim.Native.Nat.{ℕ, zero, suc, _<_, _≤_, _+_}
+use Prim.Native.Nat.{ℕ, _<_, _≤_}
 use native.Mathlib.Omega.{arith}
 use lib.IntN.{pos}
 use lib.ListN.{length}
 use mir.Syntax.{w64}
 use mir.Val.{SFits}
 use Rattle.candidates.specs.Answer.{Answer, gives, stop}
-use Rattle.steps.specs.Boards.{Board, Givens, Admissible, givensOf, sameMasks}
+use Rattle.steps.specs.Boards.{Board, Givens, Admissible, givensOf}
 use Rattle.steps.specs.Calls.{Call, updateCandidates, nakedPairsCall, boxLineCall, xWingCall, nakedSinglesCall, hiddenSinglesCall, advancedCall, wide, settling, chainCall, Outcome, outcome, refusal, checked, answer}
-use Rattle.steps.specs.Passes.{Sweeps, settleIn, sweep}
 use Rattle.steps.proofs.Check.{admits, clues-givens}
 use Rattle.steps.proofs.Fresh.{total-most}
+use Rattle.steps.proofs.Lists.{settles}
 use Rattle.progress.specs.Answers.{flagOf, reportsIn}
 use Rattle.techniques.specs.Reports.{reportsOf}
 use Rattle.techniques.proofs.ReportLists.{naked-few, hidden-few, singles-few}
@@ -38,16 +37,6 @@ parts-bytes (stop m z) lent = refl
 
 -- ---- its numbers are small
 
-sweeps-few : (n : ℕ) (g m : List ℕ) → settleIn n g m .sweeps ≤ n
-unfolding settleIn
-sweeps-few zero g m = omega arith
-sweeps-few (suc n) g m = go (sameMasks m (sweep g m)) (sweeps-few n g (sweep g m))
-  where
-    go : (t : Bool) → settleIn n g (sweep g m) .sweeps ≤ n
-        → cond {A = Sweeps} t (record { sweeps = 1; left = sweep g m }) (record { sweeps = settleIn n g (sweep g m) .sweeps + 1; left = settleIn n g (sweep g m) .left }) .sweeps ≤ suc n
-    go true h = omega arith
-    go false h = omega arith
-
 record Small (o : Outcome) : Type 0 where
   reports : length (o .reports) ≤ 324
   sweeps : o .sweeps ≤ 730
@@ -66,7 +55,7 @@ call-small nakedSinglesCall g m ok a = still (omega (arith, naked-few g m)) refl
 call-small hiddenSinglesCall g m ok a = still (omega (arith, hidden-few g m)) refl refl
 call-small advancedCall g m ok a = still (singles-few g m) refl refl
 call-small (wide k) g m ok a = still (omega arith) refl refl
-call-small settling g m ok a = record { reports = omega arith; sweeps = sweeps-few 730 g m; removed = omega (arith, total-most g m ok a) }
+call-small settling g m ok a = record { reports = omega arith; sweeps = settles g m ok a .most; removed = omega (arith, total-most g m ok a) }
 call-small chainCall g m ok a = still (omega arith) refl refl
 
 pub record StepFits (a : Answer Outcome) : Type 0 where

@@ -6,12 +6,12 @@ use mathlib.Core.Option.{Option, none, some, Option·some-ne-none}
 use Prim.Native.Nat.{ℕ, _≤_, _<_, zero-le}
 use native.Mathlib.Decide.{decLt}
 use native.Mathlib.Omega.{arith}
-use borrow.Author.Tests.{eqb-true, eq-eqb, leb-true, not-false}
-use lib.Dec.{eqb, leb}
+use borrow.Author.Tests.{eqb-true, eq-eqb, leb-true, not-true, not-false}
+use lib.Dec.{T, eqb, leb}
 use lib.IntN.{ℤ, pos, negsuc}
 use lib.ListN.{length, getD, List·getD-eq-default}
 use Rattle.candidates.specs.Masks.{Sub, minus}
-use Rattle.candidates.proofs.Tests.{by-test, cond-true}
+use Rattle.candidates.proofs.Tests.{allBelow, below, by-test, cond-true, T-true}
 use Rattle.candidates.proofs.Order.{sub-none, sub-of-minus, minus-of-sub}
 use Rattle.grid.specs.Cells.{cells}
 use Rattle.grid.proofs.Cells.{at-cells}
@@ -46,6 +46,11 @@ clues-givens clues = record { size = givens-length clues; small = λ c. go c (de
     go : (c : ℕ) → Dec (c < 81) → given (givensOf clues) c ≤ 9
     go c (yes h) = rw (given-clue clues c h) (digit-small (getD clues c (pos 0)))
     go c (no h) = rw (List·getD-eq-default (givensOf clues) 0 {n = c} (omega (arith, givens-length clues))) zero-le
+
+-- clues by one test that the checker computes
+pub clues-by : (clues : List ℤ) → length clues ≡ 81 → T (allBelow 81 (λ c. not (badClue (getD clues c (pos 0))))) → Clues clues
+clues-by clues l t =
+    record { size = l; good = λ c h. not-true (badClue (getD clues c (pos 0))) (T-true _ (below 81 (λ c. not (badClue (getD clues c (pos 0)))) t c h)) }
 
 -- ---- masks
 

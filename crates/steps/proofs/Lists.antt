@@ -139,7 +139,7 @@ lists-end clues ok ks ls nk nl =
         let m : B .masks ≡ C .masks = one-end (givensOf clues) (p .masks) (q .masks) (settled p s) (settled q t) in
         λ i. record { clues = e i; masks = m i }
 
-settles : (g m : List ℕ) → Givens g → Admissible g m → Settles g m
+pub settles : (g m : List ℕ) → Givens g → Admissible g m → Settles g m
 settles g m ok a =
     let s = settling-from g m ok a in
     let less = total-under (settle g m .left) m (reach-length g (s .reach)) (reach-under g (s .reach)) in

@@ -23,7 +23,7 @@ use Rattle.steps.proofs.Check.{digit-small, good-digit}
 use Rattle.steps.proofs.Searches.{cells-none, none-cells}
 use Rattle.board.specs.Boards.{openOf}
 use Rattle.text.specs.Texts.{byteCell, noCell, isOther, cellClue, byteClue, firstOther, cluesOf, readCells, parseOf, clueByte, textOf, writeOf, written, plainByte, canonical}
-use Rattle.board.proofs.Checks.{is-opened}
+use Rattle.board.proofs.Checks.{clues-open}
 use Rattle.text.proofs.Texts.{wrong-length, reading, read, over, digit, writes}
 
 -- ---- what the reader accepts
@@ -98,8 +98,7 @@ module _ (t : List ℕ) (z : List ℤ) (e : parseOf t ≡ gives z) where
 
   -- what the reader accepts, the opener opens
   pub read-opens : openOf z ≡ gives (opened z)
-  unfolding opened
-  read-opens = sym (is-opened z (cells-none (λ c. badClue (getD z c (pos 0))) (read-clues .good)) refl)
+  read-opens = clues-open z read-clues
 
   -- and the writer writes as its canonical text
   pub read-writes : textOf z ≡ canonical t

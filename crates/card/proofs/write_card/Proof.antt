@@ -170,13 +170,13 @@ card-stands c =
     (sym (ap settlingAnswer (sweeps .settling .given .1)) ∙ settled .apply-settling .ensures .0)
     (ap (λ (b : S.Board). b .masks) (settled .apply-settling .ensures .1))
     (sym (ap judgedAnswer (known .before .judged .given .1)) ∙ judgement judge))
-    ∙ stands (cardBytes (cardFor (w .0))) (read-short (textAt count) (w .0) (w .1))
+    ∙ stands (cardBytes (cardFor (w .0))) (read-short (w .0))
 
 copy-out-requires : tie.Need-copy-out-requires
 copy-out-requires c κs =
     let count = c .before .before .before .before .before .before .before .before .before .before .before .before .before .before .before .before .before .before in
     let w = opens count in
-    room (cardBytes (cardFor (w .0))) (card-stands (c .before)) (read-short (textAt count) (w .0) (w .1))
+    room (cardBytes (cardFor (w .0))) (card-stands (c .before)) (read-short (w .0))
 
 returns-6 : tie.Need-returns-6
 unfolding cardOf
