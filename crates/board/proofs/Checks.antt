@@ -1,6 +1,6 @@
 -- The check of a handed board as the code makes it: a mask beside the fresh one, and the first cells of stops 3 and 9. Assumes nothing.
-use mathlib.Core.Path.{_≡_, refl, sym, ap, _∙_}
-use mathlib.Core.Bool.{Bool, true, false, not, _&&_, _||_}
+use mathlib.Core.Path.{_≡_, sym, ap, _∙_}
+use mathlib.Core.Bool.{true, false, not, and-true, and-false, or-true}
 use mathlib.Core.List.{List}
 use mathlib.Core.Option.{Option, none, some}
 use Prim.Native.Nat.{ℕ}
@@ -24,26 +24,13 @@ use Rattle.steps.proofs.Searches.{first-cells, cells-none}
 
 module _ (x f d : ℕ) where
   pub open-misfit : d ≡ 0 → not (eqb (minus x f) 0) ≡ misfitOf x f d
-  open-misfit e = rw (eq-eqb d 0 e) (go (eqb (minus x f) 0))
-    where
-      go : (t : Bool) → not t ≡ not (t && true)
-      go true = refl
-      go false = refl
+  open-misfit e = rw (eq-eqb d 0 e) (sym (ap not (and-true (eqb (minus x f) 0))))
 
   pub same-misfit : x ≡ f → false ≡ misfitOf x f d
-  same-misfit e =
-      rw (eq-eqb (minus x f) 0 (rw e (minus-of-sub (sub-refl f))), eq-eqb x f e) (go (eqb d 0))
-    where
-      go : (t : Bool) → false ≡ not (true && (t || true))
-      go true = refl
-      go false = refl
+  same-misfit e = rw (eq-eqb (minus x f) 0 (rw e (minus-of-sub (sub-refl f))), eq-eqb x f e) (sym (ap not (or-true (eqb d 0))))
 
   pub clue-misfit : (d ≡ 0 → ⊥) → (x ≡ f → ⊥) → true ≡ misfitOf x f d
-  clue-misfit n m = rw (ne-eqb d 0 n, ne-eqb x f m) (go (eqb (minus x f) 0))
-    where
-      go : (t : Bool) → true ≡ not (t && false)
-      go true = refl
-      go false = refl
+  clue-misfit n m = rw (ne-eqb d 0 n, ne-eqb x f m) (sym (ap not (and-false (eqb (minus x f) 0))))
 
 -- ---- the two searches
 

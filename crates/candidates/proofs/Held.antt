@@ -7,8 +7,8 @@ use native.Mathlib.Decide.{ℕ-discrete, decLt}
 use native.Mathlib.Omega.{arith}
 use borrow.Author.Tests.{eq-eqb, eqb-true}
 use lib.Dec.{eqb, lit≤}
-use Rattle.candidates.specs.Masks.{bit, has, minus, union, gather, Sub}
-use Rattle.candidates.proofs.Membership.{bit-power, bit-other, bit-minus, bit-union, bit-none, bit-all, bit-high, bit-gather, ext}
+use Rattle.candidates.specs.Masks.{bit, has, minus, union, single, gather, Sub}
+use Rattle.candidates.proofs.Membership.{single-power, bit-power, bit-other, bit-minus, bit-union, bit-none, bit-all, bit-high, bit-gather, ext}
 use Rattle.candidates.proofs.Tests.{bool-iff, either}
 
 abbrev pub Held : ℕ → ℕ → Type 0
@@ -51,8 +51,11 @@ held-sub {x} {y} d s t = eq-eqb (bit y d) 1 (omega (arith, s .at d, eqb-true (bi
 
 -- ---- no digit, one digit, n digits
 
+pub has-none : (d : ℕ) → has 0 d ≡ false
+has-none d = ap (λ (b : ℕ). eqb b 1) (bit-none d)
+
 pub none-held : (d : ℕ) → Held 0 d → ⊥
-none-held d t = omega (arith, bit-none d, eqb-true (bit 0 d) 1 t)
+none-held d t = true≢false (sym t ∙ has-none d)
 
 -- a mask of n places holds nothing above them
 pub held-below : (x n d : ℕ) → x < 2 ^ n → Held x d → d < n
@@ -74,6 +77,12 @@ held-power a d = (λ t. same (ℕ-discrete a d) t, λ e. rw e (eq-eqb (bit (2 ^ 
     same : Dec (a ≡ d) → Held (2 ^ a) d → d ≡ a
     same (yes e) t = sym e
     same (no n) t = absurd (true≢false (sym t ∙ ap (λ (b : ℕ). eqb b 1) (bit-other a d n)))
+
+pub has-power : (a d : ℕ) → has (2 ^ a) d ≡ eqb d a
+has-power a d = bool-iff (has (2 ^ a) d) (eqb d a) (λ t. eq-eqb d a (held-power a d .0 t)) (λ t. held-power a d .1 (eqb-true d a t))
+
+pub has-single : (d i : ℕ) → d < 16 → has (single d) i ≡ eqb i d
+has-single d i h = ap (λ (x : ℕ). has x i) (single-power d h) ∙ has-power d i
 
 -- ---- without, either
 

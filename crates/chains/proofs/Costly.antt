@@ -1,7 +1,7 @@
 -- One chain pass costs a correct filling on the grid of three clues: it removes 1 from cell 28. Assumes nothing.
 use mathlib.Core.Path.{_≡_, refl, sym, ap, ap₂, _∙_}
-use mathlib.Core.Logic.{_≢_}
-use mathlib.Core.Bool.{Bool, true, false, _||_, true≢false}
+use mathlib.Core.Logic.{⊎-elim}
+use mathlib.Core.Bool.{Bool, true, _||_, true≢false}
 use mathlib.Core.List.{List, [], _∷_, map}
 use mathlib.Core.Option.{Option, none, some}
 use Prim.Native.Nat.{ℕ}
@@ -11,7 +11,7 @@ use lib.Dec.{lit<}
 use lib.IntN.{ℤ, pos}
 use lib.ListN.{length, getD}
 use Rattle.candidates.specs.Masks.{bit, has}
-use Rattle.candidates.proofs.Tests.{below, T-true}
+use Rattle.candidates.proofs.Tests.{below, T-true, either}
 use Rattle.grid.specs.Cells.{cells, peers}
 use Rattle.grid.specs.Fillings.{numberAt, sameNumber, verified}
 use Rattle.grid.specs.Units.{units, unit}
@@ -111,17 +111,13 @@ good = clues-by threeClues refl tt
 
 kept : KeepsClues threeClues filling
 unfolding threeClues filling
-kept = record { kept = λ c h n. same-eq (numberAt filling c) (getD threeClues c (pos 0)) (other c n (unclued c) (same c) refl refl (T-true _ (below 81 (λ c. unclued c || same c) tt c h))) }
+kept = record { kept = λ c h n. same-eq (numberAt filling c) (getD threeClues c (pos 0)) (⊎-elim (λ p. absurd (n (same-eq (getD threeClues c (pos 0)) (pos 0) p))) (λ q. q) (either (unclued c) (same c) .0 (T-true _ (below 81 (λ c. unclued c || same c) tt c h)))) }
   where
     unclued : ℕ → Bool
     unclued c = sameNumber (getD threeClues c (pos 0)) (pos 0)
 
     same : ℕ → Bool
     same c = sameNumber (numberAt filling c) (getD threeClues c (pos 0))
-
-    other : (c : ℕ) → getD threeClues c (pos 0) ≢ pos 0 → (a b : Bool) → unclued c ≡ a → same c ≡ b → (a || b) ≡ true → same c ≡ true
-    other c n true b p q t = absurd (n (same-eq (getD threeClues c (pos 0)) (pos 0) p))
-    other c n false b p q t = q ∙ t
 
 size : length filling ≡ 81
 unfolding filling

@@ -1,6 +1,6 @@
 -- Who sees whom: two different cells of one unit, and no others. Assumes nothing.
 use mathlib.Core.Path.{_≡_, refl, sym, ap, _∙_}
-use mathlib.Core.Logic.{_≢_}
+use mathlib.Core.Logic.{_≢_, inl, inr}
 use mathlib.Core.Bool.{Bool, true, false, not, _&&_, _||_, false≢true}
 use mathlib.Core.List.{List·Memᴰ, map}
 use Prim.Native.Nat.{ℕ, _+_, _≤_, _<_}
@@ -11,7 +11,7 @@ use lib.ListN.{length, getD, List·getD-eq-default}
 use Rattle.grid.specs.Cells.{cell, row, col, box, aligned, sees, cells, peers}
 use Rattle.grid.specs.Lists.{all}
 use Rattle.grid.specs.Units.{inUnit, ShareUnit}
-use Rattle.candidates.proofs.Tests.{below, T-true, both-right, eqb-sym}
+use Rattle.candidates.proofs.Tests.{below, T-true, both-right, either, eqb-sym}
 use Rattle.grid.proofs.Lists.{mem-select, select-mem, mem-range, range-mem, at-upTo, all-same, map-same}
 use Rattle.grid.proofs.Units.{in-row, in-col, in-box, Kind, row-unit, col-unit, box-unit, kind, in-member, member-in}
 
@@ -75,19 +75,12 @@ pub same-row : (a b : ℕ) → row a ≡ row b → aligned a b ≡ true
 same-row a b e = ap (λ (t : Bool). t || eqb (col a) (col b) || eqb (box a) (box b)) (eq-eqb (row a) (row b) e)
 
 pub same-col : (a b : ℕ) → col a ≡ col b → aligned a b ≡ true
-same-col a b e = go (eqb (row a) (row b)) (eqb (box a) (box b)) (eq-eqb (col a) (col b) e)
-  where
-    go : (p q : Bool) → eqb (col a) (col b) ≡ true → (p || eqb (col a) (col b) || q) ≡ true
-    go true q t = refl
-    go false q t = ap (λ (s : Bool). s || q) t
+same-col a b e =
+    either (eqb (row a) (row b) || eqb (col a) (col b)) (eqb (box a) (box b)) .1
+    (inl (either (eqb (row a) (row b)) (eqb (col a) (col b)) .1 (inr (eq-eqb (col a) (col b) e))))
 
 pub same-box : (a b : ℕ) → box a ≡ box b → aligned a b ≡ true
-same-box a b e = go (eqb (row a) (row b)) (eqb (col a) (col b)) (eq-eqb (box a) (box b) e)
-  where
-    go : (p q : Bool) → eqb (box a) (box b) ≡ true → (p || q || eqb (box a) (box b)) ≡ true
-    go true q t = refl
-    go false true t = refl
-    go false false t = t
+same-box a b e = either (eqb (row a) (row b) || eqb (col a) (col b)) (eqb (box a) (box b)) .1 (inr (eq-eqb (box a) (box b) e))
 
 pub not-aligned : (a b : ℕ) → row a ≢ row b → col a ≢ col b → aligned a b ≡ eqb (box a) (box b)
 not-aligned a b n m =

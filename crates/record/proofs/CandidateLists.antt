@@ -13,9 +13,8 @@ use lib.ListN.{length, getD, set, getD-replicate, length-replicate, List·getD-e
 use lib.Pow.{pow-lt}
 use lib.Seq.{ext-getD, getD-set-same, getD-set-other}
 use Rattle.candidates.specs.Masks.{has, single, union}
-use Rattle.candidates.proofs.Held.{Held, held-below, held-ext, held-power, has-union}
-use Rattle.candidates.proofs.Membership.{bit-none, single-power}
-use Rattle.candidates.proofs.Tests.{bool-iff, by-test, cond-true, cond-false, either}
+use Rattle.candidates.proofs.Held.{Held, held-below, held-ext, has-none, has-single, has-union}
+use Rattle.candidates.proofs.Tests.{eqb-iff, by-test, cond-true, cond-false, either}
 use Rattle.grid.proofs.Lists.{mem-range, mem-select, select-mem, select-none}
 use Rattle.steps.specs.Boards.{at}
 use Rattle.steps.specs.Loops.{range, select, upTo}
@@ -35,10 +34,7 @@ module _ (s : List ℕ) (e : ℕ) (size : length s ≡ 81) (l : e < 729) where
       same p q = omega arith
 
       digit : k / 9 ≡ e / 9 → has (single (e % 9)) (k % 9) ≡ eqb k e
-      digit p =
-          ap (λ (x : ℕ). has x (k % 9)) (single-power (e % 9) (omega arith))
-          ∙ bool-iff (has (2 ^ (e % 9)) (k % 9)) (eqb k e) (λ t. eq-eqb k e (same p (held-power (e % 9) (k % 9) .0 t)))
-          (λ t. held-power (e % 9) (k % 9) .1 (ap (λ (x : ℕ). x % 9) (eqb-true k e t)))
+      digit p = has-single (e % 9) (k % 9) (omega arith) ∙ eqb-iff (k % 9) (e % 9) k e (same p) (ap (λ (x : ℕ). x % 9))
 
       go : Dec (k / 9 ≡ e / 9) → inSets (with s e) k ≡ (inSets s k || eqb k e)
       go (no n) =
@@ -119,7 +115,7 @@ at-none c = go (decLt c 81)
     go (no h) = List·getD-eq-default noSets 0 {n = c} (omega (arith, length-replicate {A = ℕ} 81 0))
 
 pub in-none : (k : ℕ) → inSets noSets k ≡ false
-in-none k = ap (λ (x : ℕ). has x (k % 9)) (at-none (k / 9)) ∙ ap (λ (b : ℕ). eqb b 1) (bit-none (k % 9))
+in-none k = ap (λ (x : ℕ). has x (k % 9)) (at-none (k / 9)) ∙ has-none (k % 9)
 
 pub candidates-none : candidates noSets ≡ []
 unfolding candidates

@@ -1,5 +1,6 @@
 -- The check of a handed board: it admits just the boards whose clues are 0 to 9 and whose masks are admissible. Assumes nothing.
 use mathlib.Core.Path.{_≡_, refl, sym, ap, _∙_, subst}
+use mathlib.Core.Logic.{⊎-elim}
 use mathlib.Core.Bool.{Bool, true, false, not, _&&_, _||_, true≢false}
 use mathlib.Core.List.{List}
 use mathlib.Core.Option.{Option, none, some, Option·some-ne-none}
@@ -11,7 +12,7 @@ use lib.Dec.{T, eqb, leb}
 use lib.IntN.{ℤ, pos, negsuc}
 use lib.ListN.{length, getD, List·getD-eq-default}
 use Rattle.candidates.specs.Masks.{Sub, minus}
-use Rattle.candidates.proofs.Tests.{allBelow, below, by-test, cond-true, T-true}
+use Rattle.candidates.proofs.Tests.{allBelow, below, by-test, cond-true, T-true, both-left, both-right, either}
 use Rattle.candidates.proofs.Order.{sub-none, sub-of-minus, minus-of-sub}
 use Rattle.grid.specs.Cells.{cells}
 use Rattle.grid.proofs.Cells.{at-cells}
@@ -55,13 +56,11 @@ clues-by clues l t =
 -- ---- masks
 
 pub fitting : (x f : ℕ) (o : Bool) → misfit x f o ≡ false → Sub x f × (o ≡ false → x ≡ f)
-fitting x f o t = go (eqb (minus x f) 0) refl o refl (eqb x f) refl t
-  where
-    go : (a : Bool) → eqb (minus x f) 0 ≡ a → (b : Bool) → o ≡ b → (e : Bool) → eqb x f ≡ e → not (a && (b || e)) ≡ false → Sub x f × (o ≡ false → x ≡ f)
-    go true a true b e e′ t = (sub-of-minus x f (eqb-true (minus x f) 0 a), λ h. absurd (true≢false (sym b ∙ h)))
-    go true a false b true e t = (sub-of-minus x f (eqb-true (minus x f) 0 a), λ h. eqb-true x f e)
-    go true a false b false e t = absurd (true≢false t)
-    go false a b b′ e e′ t = absurd (true≢false t)
+fitting x f o t =
+    let w = not-false (eqb (minus x f) 0 && (o || eqb x f)) t in (
+      sub-of-minus x f (eqb-true (minus x f) 0 (both-left (eqb (minus x f) 0) (o || eqb x f) w)),
+      λ h. ⊎-elim (λ p. absurd (true≢false (sym p ∙ h))) (λ p. eqb-true x f p) (either o (eqb x f) .0 (both-right (eqb (minus x f) 0) (o || eqb x f) w)),
+    )
 
 fits : (x f : ℕ) (o : Bool) → Sub x f → (o ≡ false → x ≡ f) → misfit x f o ≡ false
 fits x f true p q = rw (eq-eqb (minus x f) 0 (minus-of-sub p))

@@ -6,9 +6,8 @@ use mathlib.Core.List.{List}
 use Prim.Native.Nat.{ℕ, _-_, _≤_, _<_}
 use native.Mathlib.Omega.{arith}
 use borrow.Author.Needs.{needs}
-use borrow.Author.Tests.{ne-eqb}
-use Rattle.candidates.specs.Masks.{bit, has}
-use Rattle.candidates.proofs.Membership.{bit-none}
+use Rattle.candidates.specs.Masks.{has}
+use Rattle.candidates.proofs.Held.{has-none}
 use Rattle.grid.specs.Cells.{cells}
 use Rattle.grid.proofs.Lists.{range-on, range-end}
 use Rattle.steps.specs.Boards.{at, isOpen}
@@ -25,7 +24,7 @@ holder g m d c h = ap (λ (x : ℕ). has x d) (open-mask g m c h) ∙ go (isOpen
   where
     go : (t : Bool) → has (cond t (at m c) 0) d ≡ (t && has (at m c) d)
     go true = refl
-    go false = ne-eqb (bit 0 d) 1 (λ e. omega (arith, bit-none d))
+    go false = has-none d
 
 abbrev Inv-loop : tie.InvT-loop
 Inv-loop givens masks digit list₀ count₀ cell₀ list count cell =
