@@ -179,18 +179,15 @@ module _ (p : ℕ → ℕ) (F : Filling p) (z : List ℕ) (one : (c : ℕ) → c
               low : h < 81
               low = on h k
 
-              inx : List·Memᴰ h (unit x) → inUnit x h ≡ true
-              inx m = member-in hx (mem-member hx m)
-
-              iny : List·Memᴰ h (unit y) → inUnit y h ≡ true
-              iny m = member-in hy (mem-member hy m)
+              inside : (l : ℕ) → l < 27 → List·Memᴰ h (unit l) → inUnit l h ≡ true
+              inside l hl m = member-in hl (mem-member hl m)
 
               go : (e f : ℕ) → e < 81 → f < 81 → p e ≡ d → p f ≡ d → e ≢ f → e ≢ h → f ≢ h → (inUnit x e ≡ true) ⊎ (inUnit y e ≡ true) → (inUnit x f ≡ true) ⊎ (inUnit y f ≡ true) → List·Memᴰ h (unit x) ⊎ List·Memᴰ h (unit y) → ⊥
               go e f he hf pe pf ef eh fh (inl i) (inl j) m = clash x e f hx he hf i j ef pe pf
-              go e f he hf pe pf ef eh fh (inl i) (inr j) (inl m) = clash x e h hx he low i (inx m) eh pe q
-              go e f he hf pe pf ef eh fh (inl i) (inr j) (inr m) = clash y f h hy hf low j (iny m) fh pf q
-              go e f he hf pe pf ef eh fh (inr i) (inl j) (inl m) = clash x f h hx hf low j (inx m) fh pf q
-              go e f he hf pe pf ef eh fh (inr i) (inl j) (inr m) = clash y e h hy he low i (iny m) eh pe q
+              go e f he hf pe pf ef eh fh (inl i) (inr j) (inl m) = clash x e h hx he low i (inside x hx m) eh pe q
+              go e f he hf pe pf ef eh fh (inl i) (inr j) (inr m) = clash y f h hy hf low j (inside y hy m) fh pf q
+              go e f he hf pe pf ef eh fh (inr i) (inl j) (inl m) = clash x f h hx hf low j (inside x hx m) fh pf q
+              go e f he hf pe pf ef eh fh (inr i) (inl j) (inr m) = clash y e h hy he low i (inside y hy m) eh pe q
               go e f he hf pe pf ef eh fh (inr i) (inr j) m = clash y e f hy he hf i j ef pe pf
 
 -- ---- every instance
