@@ -111,7 +111,7 @@ pub each-end {ℓ} : {S : Type ℓ} (f : ℕ → S → S) (n i : ℕ) (s : S) �
 unfolding each
 each-end f n i s h = ap (λ (is : List ℕ). each f is s) (range-end n i h)
 
--- s is the state at i, and whole the state at the end
+-- a loop of code over i from 0 up to n, with state s: what is left of the turns at i still makes the whole
 module _ {ℓ} {S : Type ℓ} (f : ℕ → S → S) (n i : ℕ) {s whole : S} where
   pub turn-done : {next : S} → i < n → next ≡ f i s → each f (range (n - i) i) s ≡ whole → each f (range (n - (i + 1)) (i + 1)) next ≡ whole
   turn-done h e left = ap (each f (range (n - (i + 1)) (i + 1))) e ∙ sym (each-on f n i s h) ∙ left

@@ -4,7 +4,7 @@ use mathlib.Core.Path.{_≡_, refl, sym, ap, _∙_, subst}
 use mathlib.Core.Logic.{_≢_}
 use mathlib.Core.Bool.{true, cond}
 use mathlib.Core.List.{List, [], map, List·Memᴰ, Memᴰ·cast}
-use Prim.Native.Nat.{ℕ, _+_, _-_, _*_, _%_, _≤_, _<_}
+use Prim.Native.Nat.{ℕ, _+_, _-_, _*_, _/_, _%_, _≤_, _<_}
 use native.Mathlib.Decide.{decLt}
 use native.Mathlib.Omega.{arith}
 use borrow.Author.Tests.{lt-ltb, le-ltb, eqb-true}
@@ -48,6 +48,27 @@ past-unit u i h = List·getD-eq-default (unit u) 81 (go (decLt u 27))
     go (yes k) = omega (arith, unit-length u k)
     go (no k) = omega (arith, ap (λ (l : List ℕ). length l) (past-table u (omega arith)))
 
+-- the cell at a place, worked out
+abbrev worked : ℕ → ℕ → ℕ
+worked u i = cond (ltb u 9) (9 * u + i) (cond (ltb u 18) (u - 9 + 9 * i) (27 * ((u - 18) / 3) + 3 * ((u - 18) % 3) + 9 * (i / 3) + i % 3))
+
+module _ (u i : ℕ) (l : i < 9) where
+  is-worked : u < 27 → unitCell u i ≡ worked u i
+  unfolding unit units
+  is-worked h = eqb→eq (unitCell u i) (worked u i) (below-both 27 9 (λ u i. eqb (unitCell u i) (worked u i)) tt u i h l)
+
+  pub row-cell : u < 9 → 9 * u + i ≡ unitCell u i
+  row-cell h = sym (is-worked (omega arith) ∙ cond-true (ltb u 9) _ _ (lt-ltb u 9 h))
+
+  pub col-cell : 9 ≤ u → u < 18 → u - 9 + 9 * i ≡ unitCell u i
+  col-cell n h = sym (is-worked (omega arith) ∙ cond-false (ltb u 9) _ _ (le-ltb u 9 n) ∙ cond-true (ltb u 18) _ _ (lt-ltb u 18 h))
+
+  pub box-cell : 18 ≤ u → u < 27 → 27 * ((u - 18) / 3) + 3 * ((u - 18) % 3) + 9 * (i / 3) + i % 3 ≡ unitCell u i
+  box-cell n h = sym (is-worked h ∙ cond-false (ltb u 9) _ _ (le-ltb u 9 (omega arith)) ∙ cond-false (ltb u 18) _ _ (le-ltb u 18 n))
+
+pub past-cell : (u i : ℕ) → 27 ≤ u → 81 ≡ unitCell u i
+past-cell u i h = sym (ap (λ (l : List ℕ). getD l i 81) (past-table u h))
+
 pub array-cell : (cs : List ℕ) (u i : ℕ) → cs ≡ unitCells u → i < 9 → getD cs i 0 ≡ unitCell u i
 array-cell cs u i e h = ap (λ (l : List ℕ). getD l i 0) e ∙ go (decLt u 27)
   where
@@ -66,6 +87,15 @@ placeIn u c = cond (ltb u 9) (col c) (cond (ltb u 18) (row c) (3 * (row c % 3) +
 pub cell-below : (u i : ℕ) → u < 27 → i < 9 → unitCell u i < 81
 unfolding unit units
 cell-below u i h k = ltb→lt (unitCell u i) 81 (below-both 27 9 (λ u i. ltb (unitCell u i) 81) tt u i h k)
+
+-- a cell's number fits a byte, and so does 81
+pub cell-small : (u i : ℕ) → unitCell u i ≤ 81
+cell-small u i = go (decLt u 27) (decLt i 9)
+  where
+    go : Dec (u < 27) → Dec (i < 9) → unitCell u i ≤ 81
+    go (yes h) (yes k) = omega (arith, cell-below u i h k)
+    go (yes h) (no k) = omega (arith, past-unit u i (omega arith))
+    go (no h) k = omega (arith, past-cell u i (omega arith))
 
 pub cell-in : (u i : ℕ) → u < 27 → i < 9 → inUnit u (unitCell u i) ≡ true
 unfolding unit units

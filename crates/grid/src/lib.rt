@@ -48,15 +48,24 @@ pub fn unit_cells(unit: usize) -> [u8; 9]
     [81; 9]
 }
 
-// The cell at a place 0 to 8 of a unit; 81 past the table.
+// The cell at a place 0 to 8 of a unit; 81 past the table. It is worked out, which is quicker than a copy of the table.
 pub fn unit_cell(unit: usize, place: usize) -> usize
     ensures { λ r. ⌜ r ≡ unitCell unit place ⌝ }
 {
     if 9 <= place {
         return 81;
     }
-    let cells = unit_cells(unit);
-    cells[place] as usize
+    if unit < 9 {
+        return 9 * unit + place;
+    }
+    if unit < 18 {
+        return unit - 9 + 9 * place;
+    }
+    if unit < 27 {
+        let block = unit - 18;
+        return 27 * (block / 3) + 3 * (block % 3) + 9 * (place / 3) + place % 3;
+    }
+    81
 }
 
 pub fn row_of(cell: usize) -> usize

@@ -1,27 +1,79 @@
--- `grid::unit_cell` meets its contract: a row of the table, read at one place. Assumes nothing.
+-- `grid::unit_cell` meets its contract: what is worked out is the table. Assumes nothing.
 use mathlib.Core.Path.{sym}
 use borrow.Author.Needs.{needs}
-use Rattle.grid.proofs.Units.{array-cell, past-unit}
+use Rattle.grid.proofs.Units.{past-unit, row-cell, col-cell, box-cell, past-cell}
 use Rattle.grid.proofs.unit_cell.Statement.{statement}
 use Rattle.grid.proofs.unit_cell.Tie as tie
 
 returns : tie.Need-returns
 returns c = sym (past-unit (c .before .args .unit) (c .before .args .place) (c .if1 .taken))
 
-unit-cells-requires : tie.Need-unit-cells-requires
-unit-cells-requires c κs = search needs
+mul-result : tie.Need-mul-result
+mul-result c = search needs
 
-array-read-result : tie.Need-array-read-result
-array-read-result c = search needs
-
-cast-result : tie.Need-cast-result
-cast-result c = search needs
+add-result : tie.Need-add-result
+add-result c = search needs
 
 returns-2 : tie.Need-returns-2
 returns-2 c =
-    array-cell (c .unit-cells .result) (c .before .before .args .unit) (c .before .before .args .place) (c .unit-cells .ensures)
-    (c .before .if1 .left)
+    let a = c .before .before .args in
+    row-cell (a .unit) (a .place) (c .before .if1 .left) (c .if2 .taken)
+
+mul-result-2 : tie.Need-mul-result-2
+mul-result-2 c = search needs
+
+add-result-2 : tie.Need-add-result-2
+add-result-2 c = search needs
+
+returns-3 : tie.Need-returns-3
+returns-3 c =
+    let a = c .before .before .before .args in
+    col-cell (a .unit) (a .place) (c .before .before .if1 .left) (c .before .if2 .left) (c .if3 .taken)
+
+mul-result-3 : tie.Need-mul-result-3
+mul-result-3 c = search needs
+
+mul-result-4 : tie.Need-mul-result-4
+mul-result-4 c = search needs
+
+add-result-3 : tie.Need-add-result-3
+add-result-3 c = search needs
+
+mul-result-5 : tie.Need-mul-result-5
+mul-result-5 c = search needs
+
+add-result-4 : tie.Need-add-result-4
+add-result-4 c = search needs
+
+add-result-5 : tie.Need-add-result-5
+add-result-5 c = search needs
+
+returns-4 : tie.Need-returns-4
+returns-4 c =
+    let a = c .before .before .before .before .args in
+    box-cell (a .unit) (a .place) (c .before .before .before .if1 .left) (c .before .if3 .left) (c .if4 .taken)
+
+returns-5 : tie.Need-returns-5
+returns-5 c =
+    let a = c .before .before .before .before .args in
+    past-cell (a .unit) (a .place) (c .if4 .left)
 
 pub unit-cell-spec : {M : Type 1} → statement M
 unit-cell-spec =
-    tie.close (tie.spec returns unit-cells-requires array-read-result cast-result returns-2)
+    tie.close
+    (tie.spec
+    returns
+    mul-result
+    add-result
+    returns-2
+    mul-result-2
+    add-result-2
+    returns-3
+    mul-result-3
+    mul-result-4
+    add-result-3
+    mul-result-5
+    add-result-4
+    add-result-5
+    returns-4
+    returns-5)
