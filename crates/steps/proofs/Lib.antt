@@ -1,7 +1,9 @@
 pub mod Loops
+pub mod Turns
 pub mod Searches
 pub mod Masks
 pub mod Steps
+pub mod Taking
 pub mod Reach
 pub mod Settling
 pub mod Fresh

@@ -67,10 +67,6 @@ module _ (g : List ℕ) where
   pub settled-still : {z : List ℕ} → Settled g z → Still z
   settled-still s = record { closed = λ k x h. record { stays = under-eq (sym (s .still k x h)) } }
 
-  pub still-settled : {z : List ℕ} → Still z → Settled g z
-  still-settled {z} s =
-      record { still = λ k x h. under-antisym (take-length (isOpen g) (stepOf x) z) (take-under (isOpen g) (stepOf x) z) (s .closed k x h .stays) }
-
   -- what every instance leaves alone stays below all that is reached from above it
   pub reach-keeps : {z m n : List ℕ} → Still z → Under z m → Reach m n → Under z n
   reach-keeps s p start = p
