@@ -1,3 +1,8 @@
 pub mod Places
 pub mod Whole
-pub mod Threes
+pub mod NineBits
+pub mod UnitPlaces
+pub mod HeldPlaces
+pub mod Shared
+pub mod LineTurns
+pub mod Crossings

@@ -2,44 +2,29 @@
 -- a digit. Assumes nothing.
 use mathlib.Core.Path.{_≡_, refl, sym, ap, _∙_}
 use mathlib.Core.Bool.{Bool, true, false, cond, _&&_}
-use mathlib.Core.List.{List, [], _∷_, List·Memᴰ, List·Memᴰ·head, List·Memᴰ·tail}
+use mathlib.Core.List.{List, [], _∷_}
 use Prim.Native.Nat.{ℕ, zero, suc, _^_, _+_, _<_}
 use native.Mathlib.Decide.{ℕ-discrete}
 use native.Mathlib.Omega.{arith}
-use borrow.Author.Tests.{lt-ltb, ne-eqb}
+use borrow.Author.Tests.{lt-ltb}
 use lib.Bits.{bitAnd, and-zero-r}
 use lib.Dec.{ltb}
 use lib.ListN.{length, getD}
-use Rattle.candidates.specs.Masks.{bit, has, gather}
-use Rattle.candidates.proofs.Membership.{bit-none}
+use Rattle.candidates.specs.Masks.{has, gather}
+use Rattle.candidates.proofs.Held.{has-none}
 use Rattle.candidates.proofs.Tests.{cond-true, cond-false}
-use Rattle.grid.proofs.Lists.{at-upTo, map-same}
 use Rattle.grid.specs.Units.{unit, unitCell}
+use Rattle.grid.proofs.Lists.{at-upTo, map-same, each-same}
 use Rattle.grid.proofs.Units.{unit-length, cell-below}
 use Rattle.steps.specs.Boards.{at, isOpen}
 use Rattle.steps.specs.Loops.{each, range, upTo}
 use Rattle.steps.specs.Ported.{holds, spots}
 use Rattle.steps.specs.Steps.{loseAt, loseAll}
-use Rattle.steps.proofs.Loops.{in-upTo}
+use Rattle.steps.proofs.Loops.{in-upTo, each-keeps}
 use Rattle.steps.proofs.Steps.{lose-none, lose-other}
-use Rattle.cells.specs.Places.{loseIn, losePlaces, openMask, unitMasks, placesOf}
+use Rattle.cells.specs.Places.{maskAt, loseIn, losePlaces, openMask, unitMasks, allMasks, placesOf}
 
--- ---- two loops that do the same
-
-pub each-same : {A S : Type 0} (f g : A → S → S) (xs : List A) → ((x : A) → List·Memᴰ x xs → (s : S) → f x s ≡ g x s) → (s : S) → each f xs s ≡ each g xs s
-unfolding each
-each-same f g [] h s = refl
-each-same f g (x ∷ xs) h s = ap (each f xs) (h x (List·Memᴰ·head refl) s) ∙ each-same f g xs (λ y k. h y (List·Memᴰ·tail k)) (g x s)
-
--- the same on states of which something is known that each turn keeps
-pub each-alike : {A S : Type 0} (f g : A → S → S) (P : S → Type 0) (xs : List A) → ((x : A) → List·Memᴰ x xs → (s : S) → P s → (f x s ≡ g x s) × P (g x s))
-    → (s : S) → P s → (each f xs s ≡ each g xs s) × P (each g xs s)
-unfolding each
-each-alike f g P [] h s p = (refl, p)
-each-alike f g P (x ∷ xs) h s p =
-    let now = h x (List·Memᴰ·head refl) s p in
-    let later = each-alike f g P xs (λ y k. h y (List·Memᴰ·tail k)) (g x s) (now .1) in
-    (ap (each f xs) (now .0) ∙ later .0, later .1)
+-- ---- a loop over a unit, by places
 
 each-later : {S : Type 0} (f : ℕ → S → S) (n k : ℕ) (s : S) → each f (range n (suc k)) s ≡ each (λ i. f (suc i)) (range n k) s
 unfolding each
@@ -84,13 +69,11 @@ module _ (free : ℕ → Bool) (u : ℕ) (h : u < 27) (places k : ℕ) (loss : �
 
 -- a cell that is to lose nothing keeps its mask
 pub all-kept : (free : ℕ → Bool) (k : ℕ → ℕ) (e : ℕ) → k e ≡ 0 → (cs m : List ℕ) → at (loseAll free cs k m) e ≡ at m e
-unfolding each
-all-kept free k e z [] m = refl
-all-kept free k e z (c ∷ cs) m = all-kept free k e z cs (loseAt free c (k c) m) ∙ go (ℕ-discrete e c)
+all-kept free k e z cs m = each-keeps (λ c. loseAt free c (k c)) (λ (n : List ℕ). at n e ≡ at m e) cs (λ c l n p. one c n (ℕ-discrete e c) ∙ p) m refl
   where
-    go : Dec (e ≡ c) → at (loseAt free c (k c) m) e ≡ at m e
-    go (yes q) = ap (λ (n : List ℕ). at n e) (lose-none free c (k c) m (λ _. ap (bitAnd (at m c)) (ap k (sym q) ∙ z) ∙ and-zero-r (at m c)))
-    go (no q) = lose-other free c (k c) m e q
+    one : (c : ℕ) (n : List ℕ) → Dec (e ≡ c) → at (loseAt free c (k c) n) e ≡ at n e
+    one c n (yes q) = ap (λ (x : List ℕ). at x e) (lose-none free c (k c) n (λ _. ap (bitAnd (at n c)) (ap k (sym q) ∙ z) ∙ and-zero-r (at n c)))
+    one c n (no q) = lose-other free c (k c) n e q
 
 -- ---- the masks of a unit's open cells
 
@@ -111,6 +94,15 @@ unit-masks-same g m n u h =
     map-same (λ i. openMask g m (unitCell u i)) (λ i. openMask g n (unitCell u i)) (upTo 9)
     (λ i k. ap (λ (x : ℕ). cond (ltb (unitCell u i) 81 && isOpen g (unitCell u i)) (cond (ltb (unitCell u i) 81) x 0) 0) (h i (in-upTo 9 i k)))
 
+-- ---- the masks of a unit's cells
+
+pub mask-at : (m : List ℕ) (c : ℕ) → c < 81 → maskAt m c ≡ at m c
+mask-at m c h = cond-true (ltb c 81) (at m c) 0 (lt-ltb c 81 h)
+
+pub all-mask : (m : List ℕ) (u i : ℕ) → u < 27 → i < 9 → at (allMasks m u) i ≡ at m (unitCell u i)
+unfolding allMasks
+all-mask m u i h l = at-upTo (λ j. maskAt m (unitCell u j)) 0 9 i l ∙ mask-at m (unitCell u i) (cell-below u i h l)
+
 -- ---- the places that hold a digit
 
 pub gather-same : (f g : ℕ → Bool) (n : ℕ) → ((i : ℕ) → i < n → f i ≡ g i) → gather f n ≡ gather g n
@@ -119,16 +111,16 @@ gather-same f g zero h = refl
 gather-same f g (suc n) h =
     ap (λ (t : Bool). gather f n + cond t (2 ^ n) 0) (h n (omega arith)) ∙ ap (λ (x : ℕ). x + cond (g n) (2 ^ n) 0) (gather-same f g n (λ i k. h i (omega arith)))
 
-has-none : (d : ℕ) → has 0 d ≡ false
-has-none d = ne-eqb (bit 0 d) 1 (λ e. omega (arith, bit-none d))
+-- an open cell's mask holds d, and a cell that is not open holds nothing
+pub open-holds : (g m : List ℕ) (d c : ℕ) → c < 81 → has (openMask g m c) d ≡ holds g m d c
+open-holds g m d c h = ap (λ (x : ℕ). has x d) (open-mask g m c h) ∙ go (isOpen g c)
+  where
+    go : (t : Bool) → has (cond t (at m c) 0) d ≡ (t && has (at m c) d)
+    go true = refl
+    go false = has-none d
 
 pub spots-are : (g m : List ℕ) (u d : ℕ) → u < 27 → placesOf (unitMasks g m u) d ≡ spots g m u d
 unfolding placesOf spots
-spots-are g m u d h = gather-same (λ i. has (at (unitMasks g m u) i) d) (λ i. holds g m d (unitCell u i)) 9 one
-  where
-    one : (i : ℕ) → i < 9 → has (at (unitMasks g m u) i) d ≡ holds g m d (unitCell u i)
-    one i k = ap (λ (x : ℕ). has x d) (unit-mask g m u i k ∙ open-mask g m (unitCell u i) (cell-below u i h k)) ∙ go (isOpen g (unitCell u i))
-      where
-        go : (t : Bool) → has (cond t (at m (unitCell u i)) 0) d ≡ (t && has (at m (unitCell u i)) d)
-        go true = refl
-        go false = has-none d
+spots-are g m u d h =
+    gather-same (λ i. has (at (unitMasks g m u) i) d) (λ i. holds g m d (unitCell u i)) 9
+    (λ i k. ap (λ (x : ℕ). has x d) (unit-mask g m u i k) ∙ open-holds g m d (unitCell u i) (cell-below u i h k))

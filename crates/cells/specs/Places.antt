@@ -1,9 +1,9 @@
 -- The cells of a unit by their places 0 to 8: which of them hold a digit, and losing digits at some of them.
 use mathlib.Core.Bool.{Bool, cond, _&&_}
 use mathlib.Core.List.{List, map}
-use Prim.Native.Nat.{ℕ, _+_, _*_, _/_, _%_}
+use Prim.Native.Nat.{ℕ, _+_}
 use lib.Dec.{ltb}
-use Rattle.candidates.specs.Masks.{has, gather}
+use Rattle.candidates.specs.Masks.{has, minus, single, gather}
 use Rattle.grid.specs.Units.{unitCell}
 use Rattle.steps.specs.Boards.{at, isOpen}
 use Rattle.steps.specs.Loops.{each, upTo}
@@ -34,10 +34,18 @@ unitMasks g m u = map (λ i. openMask g m (unitCell u i)) (upTo 9)
 unfoldable pub allMasks : List ℕ → ℕ → List ℕ
 allMasks m u = map (λ i. maskAt m (unitCell u i)) (upTo 9)
 
--- nine masks from one cell on, three and three
-unfoldable pub spacedMasks : List ℕ → ℕ → ℕ → ℕ → List ℕ
-spacedMasks m start across down = map (λ i. at m (start + across * (i % 3) + down * (i / 3))) (upTo 9)
-
 -- the places of nine masks that hold d
 unfoldable pub placesOf : List ℕ → ℕ → ℕ
 placesOf nine d = gather (λ i. has (at nine i) d) 9
+
+-- the places of a unit that hold d, clue cells too
+unfoldable pub heldPlaces : List ℕ → ℕ → ℕ → ℕ
+heldPlaces m u d = gather (λ i. has (maskAt m (unitCell u i)) d) 9
+
+-- for each of nine units from f on, the places whose open cells hold d
+unfoldable pub lineSpots : List ℕ → List ℕ → ℕ → ℕ → List ℕ
+lineSpots g m f d = map (λ i. placesOf (unitMasks g m (f + i)) d) (upTo 9)
+
+-- all places but two
+abbrev pub allBut : ℕ → ℕ → ℕ
+allBut i j = minus (minus 511 (single i)) (single j)

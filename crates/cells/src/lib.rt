@@ -1,12 +1,14 @@
 // The givens and masks of a board as lent arrays: reading cells, and losing digits in place. The passes are loops over these.
 // Every function is total: a number above 80 is no cell, has no candidate and is not open.
 ghost use mathlib.Core.Path.{_≡_};
-ghost use Prim.Native.Nat.{_+_, _*_, _<_};
 ghost use Rattle.steps.specs.Boards.{isOpen, total};
 ghost use Rattle.steps.specs.Passes.{changed};
-ghost use Rattle.cells.specs.Places.{maskAt, openAt, loseIn, losePlaces, openMask, unitMasks, spacedMasks, allMasks, placesOf};
+ghost use Rattle.cells.specs.Places.{maskAt, openAt, loseIn, losePlaces, openMask, unitMasks, allMasks, placesOf, heldPlaces, lineSpots, allBut};
 use candidates::masks;
-use grid::unit_cells;
+use grid::unit_cell;
+
+pub mod lines;
+pub mod unions;
 
 pub fn is_open(givens: &[u8; 81], cell: usize) -> bool
     ensures { λ r. ⌜ r ≡ openAt (now (givens .entry)) cell ⌝ }
@@ -41,11 +43,10 @@ pub fn lose_at(givens: &[u8; 81], masks: &mut [u16; 81], cell: usize, lost: u16)
 pub fn lose_places(givens: &[u8; 81], masks: &mut [u16; 81], unit: usize, places: u16, lost: u16)
     ensures { λ _. ⌜ now (masks .exit) ≡ losePlaces (isOpen (now (givens .entry))) unit places lost (now (masks .entry)) ⌝ }
 {
-    let cells = unit_cells(unit);
     let mut place: usize = 0;
     while place < 9 {
         if masks::has_digit(places, place) {
-            lose_at(givens, masks, cells[place] as usize, lost);
+            lose_at(givens, masks, unit_cell(unit, place), lost);
         }
         place += 1;
     }
@@ -65,45 +66,26 @@ pub fn open_mask(givens: &[u8; 81], masks: &[u16; 81], cell: usize) -> u16
 pub fn unit_masks(givens: &[u8; 81], masks: &[u16; 81], unit: usize) -> [u16; 9]
     ensures { λ r. ⌜ r ≡ unitMasks (now (givens .entry)) (now (masks .entry)) unit ⌝ }
 {
-    let cells = unit_cells(unit);
     let mut nine = [0u16; 9];
     let mut place: usize = 0;
     while place < 9 {
-        nine[place] = open_mask(givens, masks, cells[place] as usize);
+        nine[place] = open_mask(givens, masks, unit_cell(unit, place));
         place += 1;
     }
     nine
 }
 
-// Nine masks, three and three: `across` from one to the next of three, `down` from three to three.
-fn spaced(masks: &[u16; 81], start: usize, across: usize, down: usize) -> [u16; 9]
-    requires { ⌜ start + across * 2 + down * 2 < 81 ⌝ }
-    ensures { λ r. ⌜ r ≡ spacedMasks (now (masks .entry)) start across down ⌝ }
-{
-    let mut nine = [0u16; 9];
-    let mut place: usize = 0;
-    while place < 9 {
-        nine[place] = masks[start + across * (place % 3) + down * (place / 3)];
-        place += 1;
-    }
-    nine
-}
-
-// The masks of the unit's cells, clue cells too, by place. Their numbers are worked out, which is quicker than a copy from the table.
+// The masks of the unit's cells, clue cells too, by place.
 pub fn all_masks(masks: &[u16; 81], unit: usize) -> [u16; 9]
     ensures { λ r. ⌜ r ≡ allMasks (now (masks .entry)) unit ⌝ }
 {
-    if unit < 9 {
-        return spaced(masks, 9 * unit, 1, 3);
+    let mut nine = [0u16; 9];
+    let mut place: usize = 0;
+    while place < 9 {
+        nine[place] = mask_at(masks, unit_cell(unit, place));
+        place += 1;
     }
-    if unit < 18 {
-        return spaced(masks, unit - 9, 9, 27);
-    }
-    if unit < 27 {
-        let block = unit - 18;
-        return spaced(masks, 27 * (block / 3) + 3 * (block % 3), 1, 9);
-    }
-    [0; 9]
+    nine
 }
 
 // The places that hold the digit.
@@ -119,6 +101,38 @@ pub fn places_of(nine: &[u16; 9], digit: usize) -> u16
         place += 1;
     }
     found
+}
+
+// The places of the unit that hold the digit, clue cells too.
+pub fn held_places(masks: &[u16; 81], unit: usize, digit: usize) -> u16
+    ensures { λ r. ⌜ r ≡ heldPlaces (now (masks .entry)) unit digit ⌝ }
+{
+    let nine = all_masks(masks, unit);
+    places_of(&nine, digit)
+}
+
+// The places whose open cells hold the digit, for each of the nine units from the first one.
+pub fn line_spots(givens: &[u8; 81], masks: &[u16; 81], first: usize, digit: usize) -> [u16; 9]
+    ensures { λ r. ⌜ r ≡ lineSpots (now (givens .entry)) (now (masks .entry)) first digit ⌝ }
+{
+    let mut list = [0u16; 9];
+    if 27 <= first {
+        return list;
+    }
+    let mut line: usize = 0;
+    while line < 9 {
+        let nine = unit_masks(givens, masks, first + line);
+        list[line] = places_of(&nine, digit);
+        line += 1;
+    }
+    list
+}
+
+// All places but two.
+pub fn all_but(first: usize, second: usize) -> u16
+    ensures { λ r. ⌜ r ≡ allBut first second ⌝ }
+{
+    masks::lose_digit(masks::lose_digit(511, first), second)
 }
 
 // Whether any mask differs: "whether it removed anything", once a pass is over.

@@ -1,65 +1,63 @@
--- `cells::all_masks` meets its contract. Assumes nothing.
-use mathlib.Core.Path.{_∙_}
+-- `cells::all_masks` meets its contract. The invariant: the places that are left still make the nine masks. Assumes nothing.
+use mathlib.Core.Path.{_≡_, refl, ap, _∙_}
+use Prim.Native.Nat.{_-_}
+use native.Mathlib.Omega.{arith}
 use borrow.Author.Needs.{needs}
-use Rattle.cells.proofs.Threes.{row-masks, col-masks, box-masks, past-masks}
+use lib.ListN.{replicate}
+use Rattle.grid.specs.Units.{unitCell}
+use Rattle.grid.proofs.Fills.{filled, fill-start, fill-on, fill-end}
+use Rattle.cells.specs.Places.{maskAt, allMasks}
 use Rattle.cells.proofs.all_masks.Statement.{statement}
 use Rattle.cells.proofs.all_masks.Tie as tie
 
-mul-spaced : tie.Need-mul-spaced
-mul-spaced c = search needs
+abbrev Inv-loop : tie.InvT-loop
+Inv-loop masks unit nine₀ place₀ nine place = filled (λ i. maskAt masks (unitCell unit i)) 9 place nine ≡ allMasks masks unit
 
-spaced-requires : tie.Need-spaced-requires
-spaced-requires c κs = search needs
+abbrev μ-loop : tie.MeasureT-loop
+μ-loop masks unit nine₀ place₀ nine place = 9 - place
 
-returns : tie.Need-returns
-returns c =
-    let a = c .before .before .args in
-    c .spaced .ensures ∙ row-masks (a .masks .now) (a .unit) (c .before .if1 .taken)
+loop-holds : tie.Need-loop-holds Inv-loop μ-loop
+unfolding allMasks
+loop-holds c = fill-start _ 9 (replicate 9 0) refl
 
-spaced-requires-2 : tie.Need-spaced-requires-2
-spaced-requires-2 c κs = search needs
+unit-cell-requires : tie.Need-unit-cell-requires Inv-loop μ-loop
+unit-cell-requires c κs = search needs
 
-returns-2 : tie.Need-returns-2
-returns-2 c =
-    let e = c .before .before in
-    let a = e .before .args in
-    c .spaced2 .ensures ∙ col-masks (a .masks .now) (a .unit) (e .if1 .left) (c .before .if2 .taken)
+mask-at-requires : tie.Need-mask-at-requires Inv-loop μ-loop
+mask-at-requires c κs = search needs
 
-mul-spaced-2 : tie.Need-mul-spaced-2
-mul-spaced-2 c = search needs
+mul-nine : tie.Need-mul-nine Inv-loop μ-loop
+mul-nine c = omega arith
 
-mul-spaced-3 : tie.Need-mul-spaced-3
-mul-spaced-3 c = search needs
+array-write-nine : tie.Need-array-write-nine Inv-loop μ-loop
+array-write-nine c = omega arith
 
-add-spaced : tie.Need-add-spaced
-add-spaced c = search needs
+add-place : tie.Need-add-place Inv-loop μ-loop
+add-place c = omega arith
 
-spaced-requires-3 : tie.Need-spaced-requires-3
-spaced-requires-3 c κs = search needs
+loop-less : tie.Need-loop-less Inv-loop μ-loop
+loop-less c = omega arith
 
-returns-3 : tie.Need-returns-3
-returns-3 c =
-    let e = c .before .before in
-    let a = e .before .before .args in
-    c .spaced3 .ensures ∙ box-masks (a .masks .now) (a .unit) (e .if2 .left) (c .before .if3 .taken)
+loop-again : tie.Need-loop-again Inv-loop μ-loop
+loop-again c =
+    let l = c .before .before .before in
+    fill-on _ 9 (l .loop .place) (l .loop .nine) (l .loop .inv) (omega arith) (c .mask-at .ensures ∙ ap (maskAt (l .before .args .masks .now)) (c .before .unit-cell .ensures))
 
-returns-4 : tie.Need-returns-4
-returns-4 c =
-    let a = c .before .before .before .args in
-    past-masks (a .masks .now) (a .unit) (c .if3 .left)
+returns : tie.Need-returns Inv-loop μ-loop
+returns c = fill-end _ 9 (c .before .loop .place) (c .before .loop .nine) (c .before .loop .inv) (c .loop-test .left)
 
 pub all-masks-spec : {M : Type 1} → statement M
 all-masks-spec =
     tie.close
     (tie.spec
-    mul-spaced
-    spaced-requires
-    returns
-    spaced-requires-2
-    returns-2
-    mul-spaced-2
-    mul-spaced-3
-    add-spaced
-    spaced-requires-3
-    returns-3
-    returns-4)
+    Inv-loop
+    μ-loop
+    loop-holds
+    unit-cell-requires
+    mask-at-requires
+    mul-nine
+    array-write-nine
+    add-place
+    loop-less
+    loop-again
+    returns)

@@ -3,17 +3,15 @@ use mathlib.Core.Path.{_≡_, refl, sym, ap, _∙_}
 use mathlib.Core.Logic.{⊎-elim}
 use mathlib.Core.Bool.{cond}
 use mathlib.Core.List.{List}
-use Prim.Native.Nat.{ℕ, _+_, _-_, _≤_}
+use Prim.Native.Nat.{ℕ, _-_, _≤_}
 use native.Mathlib.Omega.{arith}
 use borrow.Author.Needs.{needs}
-use lib.ListN.{getD}
 use Rattle.candidates.specs.Masks.{has}
 use Rattle.candidates.proofs.Tests.{cond-true, cond-false}
 use Rattle.grid.specs.Units.{unitCell}
-use Rattle.grid.proofs.Units.{array-cell}
 use Rattle.steps.specs.Boards.{isOpen}
 use Rattle.steps.specs.Loops.{each, range}
-use Rattle.grid.proofs.Lists.{each-on, each-end}
+use Rattle.grid.proofs.Lists.{turn-done, turns-over}
 use Rattle.cells.specs.Places.{loseIn, losePlaces}
 use Rattle.cells.proofs.lose_places.Statement.{statement}
 use Rattle.cells.proofs.lose_places.Tie as tie
@@ -23,14 +21,11 @@ turn : List ℕ → ℕ → ℕ → ℕ → ℕ → List ℕ → List ℕ
 turn g u places k i m = cond (has places i) (loseIn (isOpen g) (unitCell u i) k m) m
 
 abbrev Inv-loop : tie.InvT-loop
-Inv-loop givens masks₀ unit places lost cells place₀ masks place =
+Inv-loop givens masks₀ unit places lost place₀ masks place =
     (place ≤ 9) × (each (turn givens unit places lost) (range (9 - place) place) masks ≡ losePlaces (isOpen givens) unit places lost masks₀)
 
 abbrev μ-loop : tie.MeasureT-loop
-μ-loop givens masks₀ unit places lost cells place₀ masks place = 9 - place
-
-unit-cells-requires : tie.Need-unit-cells-requires Inv-loop μ-loop
-unit-cells-requires c κs = search needs
+μ-loop givens masks₀ unit places lost place₀ masks place = 9 - place
 
 loop-holds : tie.Need-loop-holds Inv-loop μ-loop
 unfolding losePlaces turn
@@ -39,11 +34,8 @@ loop-holds c = (omega arith, refl)
 has-digit-requires : tie.Need-has-digit-requires Inv-loop μ-loop
 has-digit-requires c κs = search needs
 
-array-read-lose-at : tie.Need-array-read-lose-at Inv-loop μ-loop
-array-read-lose-at c = omega arith
-
-cast-lose-at : tie.Need-cast-lose-at Inv-loop μ-loop
-cast-lose-at c = search needs
+unit-cell-requires : tie.Need-unit-cell-requires Inv-loop μ-loop
+unit-cell-requires c κs = search needs
 
 lose-at-requires : tie.Need-lose-at-requires Inv-loop μ-loop
 lose-at-requires c κs = search needs
@@ -55,43 +47,25 @@ loop-less : tie.Need-loop-less Inv-loop μ-loop
 loop-less c = omega arith
 
 loop-again : tie.Need-loop-again Inv-loop μ-loop
+unfolding turn
 loop-again c =
-    (omega arith, ap (each (turn g u ps k) (range (9 - (i + 1)) (i + 1))) turned ∙ sym (each-on (turn g u ps k) 9 i m (omega arith)) ∙ c .before .before .before .loop .inv .1)
-  where
-    g : List ℕ
-    g = c .before .before .before .before .before .args .givens .now
-
-    u : ℕ
-    u = c .before .before .before .before .before .args .unit
-
-    ps : ℕ
-    ps = c .before .before .before .before .before .args .places
-
-    k : ℕ
-    k = c .before .before .before .before .before .args .lost
-
-    i : ℕ
-    i = c .before .before .before .loop .place
-
-    m : List ℕ
-    m = c .before .before .before .loop .masks
-
-    at-place : getD (c .before .before .before .before .unit-cells .result) i 0 ≡ unitCell u i
-    at-place = array-cell (c .before .before .before .before .unit-cells .result) u i (c .before .before .before .before .unit-cells .ensures) (omega arith)
-
-    turned : c .if1 .masks ≡ turn g u ps k i m
-    turned =
-        unfold turn in
-        ⊎-elim
-        (λ w. w .3 ∙ w .2 .ensures ∙ ap (λ (e : ℕ). loseIn (isOpen g) e k m) at-place
-        ∙ sym (cond-true (has ps i) (loseIn (isOpen g) (unitCell u i) k m) m (sym (c .before .has-digit .ensures) ∙ w .0 .taken)))
-        (λ w. w .1 ∙ sym (cond-false (has ps i) (loseIn (isOpen g) (unitCell u i) k m) m (sym (c .before .has-digit .ensures) ∙ w .0 .left)))
-        (c .if1 .came)
+    let l = c .before .before .before .loop in
+    let a = c .before .before .before .before .args in
+    let g = a .givens .now in
+    let lost = loseIn (isOpen g) (unitCell (a .unit) (l .place)) (a .lost) (l .masks) in
+    let tested = sym (c .before .has-digit .ensures) in (
+      omega arith,
+      turn-done (turn g (a .unit) (a .places) (a .lost)) 9 (l .place) (omega arith)
+          (⊎-elim
+          (λ w. w .4 ∙ w .3 .ensures ∙ ap (λ (e : ℕ). loseIn (isOpen g) e (a .lost) (l .masks)) (w .2 .ensures) ∙ sym (cond-true (has (a .places) (l .place)) lost (l .masks) (tested ∙ w .0 .taken)))
+          (λ w. w .1 ∙ sym (cond-false (has (a .places) (l .place)) lost (l .masks) (tested ∙ w .0 .left)))
+          (c .if1 .came)) (l .inv .1),
+    )
 
 returns : tie.Need-returns Inv-loop μ-loop
 returns c =
-    sym (each-end (turn (c .before .before .before .args .givens .now) (c .before .before .before .args .unit) (c .before .before .before .args .places) (c .before .before .before .args .lost)) 9 (c .before .loop .place) (c .before .loop .masks) (c .loop-test .left))
-    ∙ c .before .loop .inv .1
+    let a = c .before .before .args in
+    turns-over (turn (a .givens .now) (a .unit) (a .places) (a .lost)) 9 (c .before .loop .place) (c .loop-test .left) (c .before .loop .inv .1)
 
 pub lose-places-spec : {M : Type 1} → statement M
 lose-places-spec =
@@ -99,11 +73,9 @@ lose-places-spec =
     (tie.spec
     Inv-loop
     μ-loop
-    unit-cells-requires
     loop-holds
     has-digit-requires
-    array-read-lose-at
-    cast-lose-at
+    unit-cell-requires
     lose-at-requires
     add-place
     loop-less

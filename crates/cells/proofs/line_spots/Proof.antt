@@ -1,0 +1,75 @@
+-- `cells::line_spots` meets its contract. The invariant: the lines that are left still make the nine masks. Assumes nothing.
+use mathlib.Core.Path.{_≡_, refl, ap, _∙_}
+use mathlib.Core.List.{List}
+use Prim.Native.Nat.{ℕ, _+_, _-_}
+use native.Mathlib.Omega.{arith}
+use borrow.Author.Needs.{needs}
+use lib.ListN.{replicate}
+use Rattle.grid.proofs.Fills.{filled, fill-start, fill-on, fill-end}
+use Rattle.cells.specs.Places.{unitMasks, placesOf, lineSpots}
+use Rattle.cells.proofs.HeldPlaces.{spots-past}
+use Rattle.cells.proofs.line_spots.Statement.{statement}
+use Rattle.cells.proofs.line_spots.Tie as tie
+
+abbrev Inv-loop : tie.InvT-loop
+Inv-loop givens masks first digit list₀ line₀ list line = filled (λ i. placesOf (unitMasks givens masks (first + i)) digit) 9 line list ≡ lineSpots givens masks first digit
+
+abbrev μ-loop : tie.MeasureT-loop
+μ-loop givens masks first digit list₀ line₀ list line = 9 - line
+
+returns : tie.Need-returns Inv-loop μ-loop
+returns c =
+    let a = c .before .args in
+    spots-past (a .givens .now) (a .masks .now) (a .first) (a .digit) (c .if1 .taken)
+
+loop-holds : tie.Need-loop-holds Inv-loop μ-loop
+unfolding lineSpots
+loop-holds c = fill-start _ 9 (replicate 9 0) refl
+
+add-unit-masks : tie.Need-add-unit-masks Inv-loop μ-loop
+add-unit-masks c = omega arith
+
+unit-masks-requires : tie.Need-unit-masks-requires Inv-loop μ-loop
+unit-masks-requires c κs = search needs
+
+places-of-requires : tie.Need-places-of-requires Inv-loop μ-loop
+places-of-requires c κs = search needs
+
+mul-list : tie.Need-mul-list Inv-loop μ-loop
+mul-list c = omega arith
+
+array-write-list : tie.Need-array-write-list Inv-loop μ-loop
+array-write-list c = omega arith
+
+add-line : tie.Need-add-line Inv-loop μ-loop
+add-line c = omega arith
+
+loop-less : tie.Need-loop-less Inv-loop μ-loop
+loop-less c = omega arith
+
+loop-again : tie.Need-loop-again Inv-loop μ-loop
+loop-again c =
+    let l = c .before .before .before .before in
+    fill-on _ 9 (l .loop .line) (l .loop .list) (l .loop .inv) (omega arith)
+    (c .places-of .ensures ∙ ap (λ (nine : List ℕ). placesOf nine (l .before .before .args .digit)) (c .before .before .unit-masks .ensures))
+
+returns-2 : tie.Need-returns-2 Inv-loop μ-loop
+returns-2 c = fill-end _ 9 (c .before .loop .line) (c .before .loop .list) (c .before .loop .inv) (c .loop-test .left)
+
+pub line-spots-spec : {M : Type 1} → statement M
+line-spots-spec =
+    tie.close
+    (tie.spec
+    Inv-loop
+    μ-loop
+    returns
+    loop-holds
+    add-unit-masks
+    unit-masks-requires
+    places-of-requires
+    mul-list
+    array-write-list
+    add-line
+    loop-less
+    loop-again
+    returns-2)

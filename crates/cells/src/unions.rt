@@ -1,0 +1,94 @@
+// Unions of nine masks: what they hold, what two of them hold, and what those hold that have more than one digit.
+ghost use mathlib.Core.Path.{_≡_};
+ghost use mathlib.Core.Bool.{cond};
+ghost use Rattle.candidates.specs.Masks.{has};
+ghost use Rattle.cells.specs.Unions.{joined, joinedAt, sharedOf, sharedSets, crowd, crowdedOf};
+use crate::all_masks;
+use candidates::masks;
+
+pub fn join_all(nine: &[u16; 9]) -> u16
+    ensures { λ r. ⌜ r ≡ joined (now (nine .entry)) ⌝ }
+{
+    let mut mask: u16 = 0;
+    let mut place: usize = 0;
+    while place < 9 {
+        mask = masks::join(mask, nine[place]);
+        place += 1;
+    }
+    mask
+}
+
+// A mask, or none if the place is not among these.
+fn mask_if(places: u16, place: usize, mask: u16) -> u16
+    ensures { λ r. ⌜ r ≡ cond (has places place) mask 0 ⌝ }
+{
+    if masks::has_digit(places, place) {
+        return mask;
+    }
+    0
+}
+
+// What the masks at these places hold.
+pub fn join_places(nine: &[u16; 9], places: u16) -> u16
+    ensures { λ r. ⌜ r ≡ joinedAt (now (nine .entry)) places ⌝ }
+{
+    let mut mask: u16 = 0;
+    let mut place: usize = 0;
+    while place < 9 {
+        mask = masks::join(mask, mask_if(places, place, nine[place]));
+        place += 1;
+    }
+    mask
+}
+
+// The digits that two or more of the masks hold.
+pub fn shared(nine: &[u16; 9]) -> u16
+    ensures { λ r. ⌜ r ≡ sharedOf (now (nine .entry)) ⌝ }
+{
+    let mut seen: u16 = 0;
+    let mut both: u16 = 0;
+    let mut place: usize = 0;
+    while place < 9 {
+        both = masks::join(both, masks::meet(seen, nine[place]));
+        seen = masks::join(seen, nine[place]);
+        place += 1;
+    }
+    both
+}
+
+// The digits that two or more cells of each unit hold.
+pub fn shared_sets(masks: &[u16; 81]) -> [u16; 27]
+    ensures { λ r. ⌜ r ≡ sharedSets (now (masks .entry)) ⌝ }
+{
+    let mut sets = [0u16; 27];
+    let mut unit: usize = 0;
+    while unit < 27 {
+        let nine = all_masks(masks, unit);
+        sets[unit] = shared(&nine);
+        unit += 1;
+    }
+    sets
+}
+
+// A mask, or none if it has one digit.
+fn unless_one(mask: u16) -> u16
+    ensures { λ r. ⌜ r ≡ crowd mask ⌝ }
+{
+    if masks::is_one(mask) {
+        return 0;
+    }
+    mask
+}
+
+// What the masks hold that have more than one digit.
+pub fn crowded(nine: &[u16; 9]) -> u16
+    ensures { λ r. ⌜ r ≡ crowdedOf (now (nine .entry)) ⌝ }
+{
+    let mut mask: u16 = 0;
+    let mut place: usize = 0;
+    while place < 9 {
+        mask = masks::join(mask, unless_one(nine[place]));
+        place += 1;
+    }
+    mask
+}
