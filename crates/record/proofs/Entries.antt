@@ -14,7 +14,7 @@ use Rattle.candidates.proofs.Answers.{gives-same, stop-gives}
 use Rattle.candidates.proofs.Tests.{both-left, both-right, cond-true, cond-false}
 use Rattle.steps.specs.Boards.{at}
 use Rattle.cells.specs.Places.{maskAt}
-use Rattle.cells.proofs.Threes.{mask-at}
+use Rattle.cells.proofs.Places.{mask-at}
 use Rattle.record.specs.declared.sections.Section.{Section}
 use Rattle.record.specs.declared.sections.Section.the-variants.{Clues, Removed}
 use Rattle.record.specs.Sections.{width, outside, numberAt, named, wellFormed, entryOf, entryAt}

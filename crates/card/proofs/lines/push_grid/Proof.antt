@@ -5,9 +5,9 @@ use mathlib.Core.List.{List}
 use native.Mathlib.Omega.{arith}
 use borrow.Author.Needs.{needs}
 use Rattle.grid.specs.Cells.{cells}
+use Rattle.grid.proofs.Lists.{turn-done, turns-over}
 use Rattle.steps.specs.Boards.{at}
 use Rattle.steps.specs.Loops.{each, range}
-use Rattle.techniques.proofs.Loops.{turned, ended}
 use Rattle.card.specs.declared.lines.Lines.{Lines}
 use Rattle.card.specs.Layout.{cellByte, gridBytes}
 use Rattle.card.specs.Lines.{pushed, append}
@@ -52,13 +52,13 @@ loop-again : tie.Need-loop-again Inv-loop μ-loop
 loop-again c =
     let l = c .before .before .before .before in
     let masks = l .before .args .masks .now in
-    turned (turn masks) 81 (l .loop .cell) (l .loop .longer) (c .before .before .before .loop-test .taken)
+    turn-done (turn masks) 81 (l .loop .cell) (c .before .before .before .loop-test .taken)
     (c .push .ensures ∙ ap (pushed (l .loop .longer)) (c .before .cell-byte .ensures)) (l .loop .inv)
 
 returns : tie.Need-returns Inv-loop μ-loop
 returns c =
     let l = c .before in
-    ended (turn (l .before .args .masks .now)) 81 (l .loop .cell) (l .loop .longer) (c .loop-test .left) (l .loop .inv)
+    turns-over (turn (l .before .args .masks .now)) 81 (l .loop .cell) (c .loop-test .left) (l .loop .inv)
 
 pub push-grid-spec : {M : Type 1} → statement M
 push-grid-spec =

@@ -1,30 +1,18 @@
 -- `chains::lists::candidate_positions` meets its contract. The invariant: the list and what the cells that are left add to it are all holders. Assumes nothing.
-use mathlib.Core.Path.{_≡_, refl, sym, ap, _∙_}
-use mathlib.Core.Bool.{Bool, true, false, cond, _&&_}
+use mathlib.Core.Path.{refl, sym, ap, _∙_}
 use mathlib.Core.Logic.{⊎-elim}
-use mathlib.Core.List.{List}
-use Prim.Native.Nat.{ℕ, _-_, _≤_, _<_}
+use Prim.Native.Nat.{ℕ, _-_, _≤_}
 use native.Mathlib.Omega.{arith}
 use borrow.Author.Needs.{needs}
 use Rattle.candidates.specs.Masks.{has}
-use Rattle.candidates.proofs.Held.{has-none}
 use Rattle.grid.specs.Cells.{cells}
 use Rattle.grid.proofs.Lists.{range-on, range-end}
-use Rattle.steps.specs.Boards.{at, isOpen}
 use Rattle.steps.specs.Loops.{range, select}
 use Rattle.steps.specs.Ported.{holds}
-use Rattle.cells.specs.Places.{openMask}
-use Rattle.cells.proofs.Places.{open-mask}
+use Rattle.cells.proofs.Places.{open-holds}
 use Rattle.chains.proofs.Listing.{Gathered, none-yet, chosen, passed, all-looked-at}
 use Rattle.chains.proofs.lists.candidate_positions.Statement.{statement}
 use Rattle.chains.proofs.lists.candidate_positions.Tie as tie
-
-holder : (g m : List ℕ) (d c : ℕ) → c < 81 → has (openMask g m c) d ≡ holds g m d c
-holder g m d c h = ap (λ (x : ℕ). has x d) (open-mask g m c h) ∙ go (isOpen g c)
-  where
-    go : (t : Bool) → has (cond t (at m c) 0) d ≡ (t && has (at m c) d)
-    go true = refl
-    go false = has-none d
 
 abbrev Inv-loop : tie.InvT-loop
 Inv-loop givens masks digit list₀ count₀ cell₀ list count cell =
@@ -66,7 +54,7 @@ loop-again c =
     let f = holds (a .givens .now) (a .masks .now) (a .digit) in
     let inv = l .loop .inv .1 in
     let next = range-on 81 i (omega arith) in
-    let test = sym (c .before .has-digit .ensures ∙ ap (λ (x : ℕ). has x (a .digit)) (c .before .before .open-mask .ensures) ∙ holder (a .givens .now) (a .masks .now) (a .digit) i (omega arith)) in (
+    let test = sym (c .before .has-digit .ensures ∙ ap (λ (x : ℕ). has x (a .digit)) (c .before .before .open-mask .ensures) ∙ open-holds (a .givens .now) (a .masks .now) (a .digit) i (omega arith)) in (
       omega arith,
       ⊎-elim
           (λ w. chosen f (l .loop .list) (l .loop .count) i next inv (omega arith) (test ∙ w .0 .taken) (w .1) (w .2))

@@ -7,8 +7,8 @@ use borrow.Author.Needs.{needs}
 use borrow.Author.Tests.{ltb-true}
 use lib.Dec.{ltb}
 use lib.ListN.{replicate}
+use Rattle.grid.proofs.Lists.{turn-done, turns-over}
 use Rattle.steps.specs.Loops.{each, range}
-use Rattle.techniques.proofs.Loops.{turned, ended}
 use Rattle.host.specs.Steps.{putReport, reportBytes, used}
 use Rattle.host.proofs.step_calls.bytes_of.Statement.{statement}
 use Rattle.host.proofs.step_calls.bytes_of.Tie as tie
@@ -75,7 +75,7 @@ loop-again c =
     let q = u .before .before .before .args .reports in (
       omega arith,
       omega arith,
-      turned (putReport (q .cells) (q .digits)) (u .used .result) (l .loop .report) (l .loop .bytes) (omega arith) refl (l .loop .inv .2),
+      turn-done (putReport (q .cells) (q .digits)) (u .used .result) (l .loop .report) (omega arith) refl (l .loop .inv .2),
     )
 
 returns : tie.Need-returns Inv-loop μ-loop
@@ -84,7 +84,7 @@ returns c =
     let l = c .before in
     let u = l .before in
     let q = u .before .before .before .args .reports in
-    ended (putReport (q .cells) (q .digits)) (u .used .result) (l .loop .report) (l .loop .bytes) (c .loop-test .left) (l .loop .inv .2)
+    turns-over (putReport (q .cells) (q .digits)) (u .used .result) (l .loop .report) (c .loop-test .left) (l .loop .inv .2)
     ∙ ap (λ (k : ℕ). each (putReport (q .cells) (q .digits)) (range k 0) (replicate 648 0)) (u .used .ensures)
 
 pub bytes-of-spec : {M : Type 1} → statement M
