@@ -1,5 +1,3 @@
-pub mod Loops
-pub mod UnitPlaces
 pub mod NakedPairs
 pub mod BoxLines
 pub mod XWings

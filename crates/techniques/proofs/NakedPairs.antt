@@ -1,28 +1,26 @@
 -- Naked pairs by places: what a turn does, and that the turns are those of module 3. Assumes nothing.
 use mathlib.Core.Path.{_≡_, refl, sym, ap, _∙_}
-use mathlib.Core.Bool.{Bool, true, false, cond, not, _&&_, _||_}
+use mathlib.Core.Bool.{Bool, true, false, cond, not, _&&_}
 use mathlib.Core.List.{List, List·Memᴰ}
 use Prim.Native.Nat.{ℕ, _+_, _-_, _≤_, _<_}
 use native.Mathlib.Omega.{arith}
 use borrow.Author.Tests.{eq-eqb, ne-eqb, eqb-true, not-true}
 use lib.Dec.{eqb}
-use Rattle.candidates.specs.Masks.{has, count}
+use Rattle.candidates.specs.Masks.{count}
 use Rattle.candidates.proofs.Counts.{count-none}
 use Rattle.candidates.proofs.Tests.{cond-true, cond-false, both, both-left}
 use Rattle.grid.specs.Units.{unit, unitCell}
-use Rattle.grid.proofs.Lists.{all-on, all-stop, all-end}
+use Rattle.grid.proofs.Lists.{all-on, all-stop, all-end, each-same}
 use Rattle.grid.proofs.Units.{cell-below}
 use Rattle.steps.specs.Boards.{at, isOpen}
 use Rattle.steps.specs.Loops.{each, all, range, upTo, above}
 use Rattle.steps.specs.Ported.{isNakedPair, nakedPairLoss, nakedPairAt, nakedPairs}
 use Rattle.steps.specs.Steps.{loseAll}
-use Rattle.steps.proofs.Loops.{in-upTo, in-above, all-member, member-all}
-use Rattle.cells.specs.Places.{losePlaces, openMask, unitMasks}
-use Rattle.cells.proofs.Places.{each-same, places-lose, open-mask, unit-mask}
-use Rattle.techniques.specs.Places.{allBut}
+use Rattle.steps.proofs.Loops.{in-upTo, in-above, all-member, member-all, each-idle}
+use Rattle.cells.specs.Places.{losePlaces, openMask, unitMasks, allBut}
+use Rattle.cells.proofs.Places.{open-mask, unit-mask}
+use Rattle.cells.proofs.UnitPlaces.{two-spared}
 use Rattle.techniques.specs.NakedPairs.{isPair, noTwin, pairAt, unitPairs}
-use Rattle.techniques.proofs.Loops.{each-stays}
-use Rattle.techniques.proofs.UnitPlaces.{has-allBut, unless, two-cells}
 
 -- ---- tests
 
@@ -97,7 +95,7 @@ module _ (nine : List ℕ) (i : ℕ) where
 -- a first place without a twin changes nothing
 pub no-twin : (g m nine : List ℕ) (u i : ℕ) → i < 9 → nine ≡ unitMasks g m u → noTwin nine i ≡ true → m ≡ each (pairAt g u i) (above i 9) m
 unfolding noTwin pairAt
-no-twin g m nine u i h e t = sym (each-stays (pairAt g u i) (above i 9) m one)
+no-twin g m nine u i h e t = sym (each-idle (pairAt g u i) (above i 9) m one)
   where
     mask : (j : ℕ) → j < 9 → at nine j ≡ openMask g m (unitCell u j)
     mask j k = ap (λ (l : List ℕ). at l j) e ∙ unit-mask g m u j k
@@ -139,16 +137,12 @@ module _ (g : List ℕ) (u i j : ℕ) (h : u < 27) (a : i < 9) (b : j < 9) (m : 
   unfolding pairAt nakedPairAt c e
   pair-is = go (isNakedPair g m c e) refl
     where
-      loss : (l : ℕ) → l < 9 → nakedPairLoss m c e (unitCell u l) ≡ cond (has (allBut i j) l) (at m c) 0
-      loss l d =
-          ap (λ (t : Bool). cond t 0 (at m c)) (two-cells u i j l h a b d) ∙ unless (eqb l i || eqb l j) (has (allBut i j) l) (at m c) (has-allBut i j l a b d)
-
       go : (t : Bool) → isNakedPair g m c e ≡ t → cond (isPair (openMask g m c) (openMask g m e)) (losePlaces (isOpen g) u (allBut i j) (openMask g m c) m) m
           ≡ cond (isNakedPair g m c e) (loseAll (isOpen g) (unit u) (nakedPairLoss m c e) m) m
       go true t =
           cond-true (isPair (openMask g m c) (openMask g m e)) (losePlaces (isOpen g) u (allBut i j) (openMask g m c) m) m (same-test g m c e (cell-below u i h a) (cell-below u j h b) ∙ t)
           ∙ ap (λ (x : ℕ). losePlaces (isOpen g) u (allBut i j) x m) (open-mask g m c (cell-below u i h a) ∙ cond-true (isOpen g c) (at m c) 0 (first-open (isOpen g c) (isOpen g e) (eqb (at m c) (at m e)) (eqb (count (at m c)) 2) t))
-          ∙ places-lose (isOpen g) u h (allBut i j) (at m c) (nakedPairLoss m c e) loss m
+          ∙ two-spared u h (isOpen g) i j (at m c) a b m
           ∙ sym (cond-true (isNakedPair g m c e) (loseAll (isOpen g) (unit u) (nakedPairLoss m c e) m) m t)
       go false t =
           cond-false (isPair (openMask g m c) (openMask g m e)) (losePlaces (isOpen g) u (allBut i j) (openMask g m c) m) m (same-test g m c e (cell-below u i h a) (cell-below u j h b) ∙ t)

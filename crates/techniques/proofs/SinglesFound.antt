@@ -5,14 +5,11 @@ use mathlib.Core.List.{List, []}
 use mathlib.Core.Option.{Option, none, some}
 use Prim.Native.Nat.{ℕ, suc, _+_, _<_}
 use native.Mathlib.Omega.{arith}
-use borrow.Author.Tests.{eqb-true}
 use lib.Dec.{eqb}
 use lib.IntN.{ℤ, pos, natAbs}
-use Rattle.candidates.specs.Masks.{has, count, lowest, gather}
+use Rattle.candidates.specs.Masks.{count, lowest}
 use Rattle.candidates.specs.Sets.{onlyOf, digitOr0}
-use Rattle.candidates.proofs.FewDigits.{count-one}
-use Rattle.candidates.proofs.Held.{none-held, held-below}
-use Rattle.candidates.proofs.Membership.{gather-lt}
+use Rattle.candidates.proofs.Held.{none-held}
 use Rattle.candidates.proofs.Only.{Says, single-says}
 use Rattle.candidates.proofs.Tests.{cond-true, cond-false}
 use Rattle.grid.specs.Cells.{cells}
@@ -70,14 +67,6 @@ unfolding append nakedSingles cells
 naked-loop g m q = sym (each-for (λ r q. pushed q (r .cell) (r .digit)) cells (nakedAt g m) q)
 
 -- ---- hidden singles
-
--- the place of a digit that has one is a place of the unit
-pub place-below : (nine : List ℕ) (d : ℕ) → eqb (count (placesOf nine d)) 1 ≡ true → lowest (placesOf nine d) < 9
-unfolding placesOf
-place-below nine d t =
-    let s = gather (λ i. has (at nine i) d) 9 in
-    let h = gather-lt (λ i. has (at nine i) d) 9 in
-    held-below s 9 (lowest s) h (count-one s (omega arith) (eqb-true (count s) 1 t) .held)
 
 -- one turn of the loop
 module _ (u d : ℕ) (q : Reports) {s p : ℕ} (spot : s ≡ p) where

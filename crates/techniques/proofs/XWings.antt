@@ -7,25 +7,23 @@ use Prim.Native.Nat.{ℕ, _+_, _≤_, _<_}
 use native.Mathlib.Omega.{arith}
 use borrow.Author.Tests.{eq-eqb, ne-eqb, eqb-true}
 use lib.Dec.{eqb, lit≤}
-use Rattle.candidates.specs.Masks.{has, count, single, lowest, tail}
+use Rattle.candidates.specs.Masks.{count, single, lowest, tail}
 use Rattle.candidates.proofs.FewDigits.{count-two}
-use Rattle.candidates.proofs.Tests.{allBelow, below, below-both, by-test, cond-true, cond-false}
-use Rattle.candidates.proofs.Membership.{single-power}
-use Rattle.grid.specs.Units.{units, unit, unitCell, inUnit}
-use Rattle.grid.proofs.Lists.{at-upTo, each-end}
+use Rattle.candidates.proofs.Tests.{by-test, cond-true, cond-false}
+use Rattle.grid.specs.Units.{unit, inUnit}
+use Rattle.grid.proofs.Lists.{at-upTo, each-end, each-same}
 use Rattle.steps.specs.Boards.{at, isOpen}
 use Rattle.steps.specs.Instances.{only}
 use Rattle.steps.specs.Loops.{each, upTo, above}
 use Rattle.steps.specs.Ported.{spots, xWingAt, xWingDigit, xWings}
-use Rattle.steps.specs.Steps.{loseAt, loseAll}
-use Rattle.steps.proofs.Loops.{each-append, in-upTo, in-above}
+use Rattle.steps.specs.Steps.{loseAll}
+use Rattle.steps.proofs.Loops.{in-upTo, in-above}
 use Rattle.steps.proofs.Spots.{spots-small, spot-below}
-use Rattle.cells.specs.Places.{losePlaces, unitMasks, placesOf}
-use Rattle.cells.proofs.Places.{each-same, places-lose, spots-are}
-use Rattle.techniques.specs.Places.{allBut}
-use Rattle.techniques.specs.XWings.{linesFrom, acrossFrom, lineSpots, wingAt, wingsFrom, wingDigit}
-use Rattle.techniques.proofs.Loops.{each-when}
-use Rattle.techniques.proofs.UnitPlaces.{agree, agreed, has-allBut, unless}
+use Rattle.steps.proofs.Turns.{each-when}
+use Rattle.cells.specs.Places.{losePlaces, unitMasks, placesOf, allBut, lineSpots}
+use Rattle.cells.proofs.Places.{spots-are}
+use Rattle.cells.proofs.Crossings.{Crossing, rows, columns, two-across}
+use Rattle.techniques.specs.XWings.{linesFrom, acrossFrom, wingAt, wingsFrom, wingDigit}
 
 pub lines-le : (columns : Bool) → linesFrom columns ≤ 9
 lines-le true = lit≤ tt
@@ -70,30 +68,13 @@ module _ (g : List ℕ) (columns : Bool) (d : ℕ) (list : List ℕ) (i : ℕ) (
 
 -- ---- the turns of module 5
 
--- line i is the place i of each line across
-crossing : (columns : Bool) (i x l : ℕ) → i < 9 → x < 9 → l < 9 → inUnit (linesFrom columns + i) (unitCell (acrossFrom columns + x) l) ≡ eqb l i
-unfolding unit units agree
-crossing true i x l h k b =
-    agreed (inUnit (9 + i) (unitCell (0 + x) l)) (eqb l i)
-    (below 9 (λ l. agree (inUnit (9 + i) (unitCell (0 + x) l)) (eqb l i)) (below-both 9 9 (λ i x. allBelow 9 (λ l. agree (inUnit (9 + i) (unitCell (0 + x) l)) (eqb l i))) tt i x h k) l b)
-crossing false i x l h k b =
-    agreed (inUnit (0 + i) (unitCell (9 + x) l)) (eqb l i)
-    (below 9 (λ l. agree (inUnit (0 + i) (unitCell (9 + x) l)) (eqb l i)) (below-both 9 9 (λ i x. allBelow 9 (λ l. agree (inUnit (0 + i) (unitCell (9 + x) l)) (eqb l i))) tt i x h k) l b)
+across : (columns : Bool) → Crossing (acrossFrom columns) (linesFrom columns)
+across true = rows
+across false = columns
 
 module _ (g : List ℕ) (columns : Bool) (d i j : ℕ) (hd : d < 9) (hi : i < 9) (hj : j < 9) where
   abbrev loss : ℕ → ℕ
   loss e = cond (inUnit (linesFrom columns + i) e || inUnit (linesFrom columns + j) e) 0 (only d)
-
-  across-lost : (x : ℕ) → x < 9 → (m : List ℕ)
-      → losePlaces (isOpen g) (acrossFrom columns + x) (allBut i j) (single d) m ≡ loseAll (isOpen g) (unit (acrossFrom columns + x)) loss m
-  across-lost x h m = places-lose (isOpen g) (acrossFrom columns + x) (omega (arith, across-le columns)) (allBut i j) (single d) loss same m
-    where
-      same : (l : ℕ) → l < 9 → loss (unitCell (acrossFrom columns + x) l) ≡ cond (has (allBut i j) l) (single d) 0
-      same l b =
-          ap (λ (t : Bool). cond (t || inUnit (linesFrom columns + j) (unitCell (acrossFrom columns + x) l)) 0 (only d)) (crossing columns i x l hi h b)
-          ∙ ap (λ (t : Bool). cond (eqb l i || t) 0 (only d)) (crossing columns j x l hj h b)
-          ∙ ap (cond (eqb l i || eqb l j) 0) (sym (single-power d (omega arith)))
-          ∙ unless (eqb l i || eqb l j) (has (allBut i j) l) (single d) (has-allBut i j l hi hj b)
 
   -- n are the masks when the list was made
   wing-is : (n m : List ℕ) → cond (eqb (count (spots g n (linesFrom columns + i) d)) 2) (wingAt g columns d i j (spots g n (linesFrom columns + i) d) (spots g n (linesFrom columns + j) d) m) m
@@ -117,9 +98,7 @@ module _ (g : List ℕ) (columns : Bool) (d i j : ℕ) (hd : d < 9) (hi : i < 9)
           let w = count-two s (spots-small g n (linesFrom columns + i) d) (eqb-true (count s) 2 e) in
           let h = spot-below g n (linesFrom columns + i) d (lowest s) (w .held (lowest s) .1 (inl refl)) in
           let k = spot-below g n (linesFrom columns + i) d (lowest (tail s)) (w .held (lowest (tail s)) .1 (inr refl)) in
-          ap (losePlaces (isOpen g) (a + lowest (tail s)) (allBut i j) (single d)) (across-lost (lowest s) h m)
-          ∙ across-lost (lowest (tail s)) k (loseAll (isOpen g) (unit (a + lowest s)) loss m)
-          ∙ sym (each-append (λ c. loseAt (isOpen g) c (loss c)) (unit (a + lowest s)) (unit (a + lowest (tail s))) m)
+          two-across g (linesFrom columns) (acrossFrom columns) d i j (across columns) hd hi hj (lowest s) (lowest (tail s)) h k m
 
       go : (two : Bool) → eqb (count s) 2 ≡ two → (same : Bool)
           → cond two (cond same (losePlaces (isOpen g) (a + lowest (tail s)) (allBut i j) (single d) (losePlaces (isOpen g) (a + lowest s) (allBut i j) (single d) m)) m) m
@@ -131,7 +110,7 @@ module _ (g : List ℕ) (columns : Bool) (d i j : ℕ) (hd : d < 9) (hi : i < 9)
 -- ---- the loops
 
 module _ (g : List ℕ) (columns : Bool) (d : ℕ) (hd : d < 9) where
-  listed : (n : List ℕ) (i : ℕ) → i < 9 → at (lineSpots g columns d n) i ≡ spots g n (linesFrom columns + i) d
+  listed : (n : List ℕ) (i : ℕ) → i < 9 → at (lineSpots g n (linesFrom columns) d) i ≡ spots g n (linesFrom columns + i) d
   unfolding lineSpots
   listed n i h =
       at-upTo (λ i. placesOf (unitMasks g n (linesFrom columns + i)) d) 0 9 i h
@@ -142,7 +121,7 @@ module _ (g : List ℕ) (columns : Bool) (d : ℕ) (hd : d < 9) where
   digit-is n = each-same (wingsFrom g columns d list) (λ i. each (wing i) (above i 9)) (upTo 9) (λ i l. lines i (in-upTo 9 i l)) n
     where
       list : List ℕ
-      list = lineSpots g columns d n
+      list = lineSpots g n (linesFrom columns) d
 
       wing : ℕ → ℕ → List ℕ → List ℕ
       wing i j m = xWingAt g n (acrossFrom columns) d (linesFrom columns + i) (linesFrom columns + j) m

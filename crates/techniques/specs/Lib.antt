@@ -1,4 +1,3 @@
-pub mod Places
 pub mod NakedPairs
 pub mod BoxLines
 pub mod XWings

@@ -7,8 +7,7 @@ use Rattle.candidates.specs.Masks.{count}
 use Rattle.grid.specs.Units.{unitCell}
 use Rattle.steps.specs.Boards.{at, isOpen}
 use Rattle.steps.specs.Loops.{each, all, upTo, above}
-use Rattle.cells.specs.Places.{losePlaces, openMask}
-use Rattle.techniques.specs.Places.{allBut}
+use Rattle.cells.specs.Places.{losePlaces, openMask, allBut}
 
 -- one mask of two digits; a cell that is not open counts as empty
 abbrev pub isPair : ℕ → ℕ → Bool

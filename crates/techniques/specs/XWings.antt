@@ -1,14 +1,13 @@
 -- X-wing by places of the nine lines, as the code goes about it; `proofs/XWings.antt` shows that it is the X-wing of module 5.
 -- The lines are the rows, or with the flag the columns; line i is the place i of each line across.
 use mathlib.Core.Bool.{Bool, cond}
-use mathlib.Core.List.{List, map}
+use mathlib.Core.List.{List}
 use Prim.Native.Nat.{ℕ, _+_}
 use lib.Dec.{eqb}
 use Rattle.candidates.specs.Masks.{count, single, lowest, tail}
 use Rattle.steps.specs.Boards.{at, isOpen}
 use Rattle.steps.specs.Loops.{each, upTo, above}
-use Rattle.cells.specs.Places.{losePlaces, unitMasks, placesOf}
-use Rattle.techniques.specs.Places.{allBut}
+use Rattle.cells.specs.Places.{losePlaces, lineSpots, allBut}
 
 -- the unit of the first line, and of the first line across
 abbrev pub linesFrom : Bool → ℕ
@@ -16,10 +15,6 @@ linesFrom columns = cond columns 9 0
 
 abbrev pub acrossFrom : Bool → ℕ
 acrossFrom columns = cond columns 0 9
-
--- for each line the places that hold d
-unfoldable pub lineSpots : List ℕ → Bool → ℕ → List ℕ → List ℕ
-lineSpots g columns d m = map (λ i. placesOf (unitMasks g m (linesFrom columns + i)) d) (upTo 9)
 
 -- lines i and j hold d at the places s, two of them, and t: where these are the same, the two lines across lose d at all other lines
 unfoldable pub wingAt : List ℕ → Bool → ℕ → ℕ → ℕ → ℕ → ℕ → List ℕ → List ℕ
@@ -35,4 +30,4 @@ wingsFrom g columns d list i m = cond (eqb (count (at list i)) 2) (each (λ j. w
 
 -- the list is made once, at the digit's start
 unfoldable pub wingDigit : List ℕ → Bool → ℕ → List ℕ → List ℕ
-wingDigit g columns d m = each (wingsFrom g columns d (lineSpots g columns d m)) (upTo 9) m
+wingDigit g columns d m = each (wingsFrom g columns d (lineSpots g m (linesFrom columns) d)) (upTo 9) m

@@ -25,7 +25,6 @@ use singles::Reports;
 
 pub mod box_lines;
 pub mod naked_pairs;
-pub mod places;
 pub mod singles;
 pub mod x_wings;
 

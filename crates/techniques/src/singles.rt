@@ -12,7 +12,7 @@ use candidates::masks;
 use cells::open_mask;
 use cells::places_of;
 use cells::unit_masks;
-use grid::unit_cells;
+use grid::unit_cell;
 
 // The reported cells and digits, the first first, and how many; unused entries are 0. No call has more than 324.
 pub struct Reports {
@@ -78,15 +78,14 @@ pub fn naked_singles(givens: &[u8; 81], masks: &[u16; 81], reports: Reports) -> 
 fn hidden_in(givens: &[u8; 81], masks: &[u16; 81], unit: usize, reports: Reports) -> Reports
     ensures { λ r. ⌜ r ≡ append (hiddenIn (now (givens .entry)) (now (masks .entry)) unit) reports ⌝ }
 {
-    let cells = unit_cells(unit);
     let nine = unit_masks(givens, masks, unit);
     let mut list = reports;
     let mut digit: usize = 0;
     while digit < 9 {
         let spots = places_of(&nine, digit);
         if masks::is_one(spots) {
-            let place = masks::lowest_digit(spots);
-            let next = list.push(cells[place], (digit + 1) as u8);
+            let cell = unit_cell(unit, masks::lowest_digit(spots));
+            let next = list.push(cell as u8, (digit + 1) as u8);
             list = next;
         }
         digit += 1;

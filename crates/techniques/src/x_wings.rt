@@ -3,13 +3,11 @@
 ghost use mathlib.Core.Path.{_≡_};
 ghost use Rattle.steps.specs.Loops.{each, upTo};
 ghost use Rattle.steps.specs.Ported.{xWings};
-ghost use Rattle.cells.specs.Places.{unitMasks, placesOf};
-ghost use Rattle.techniques.specs.XWings.{linesFrom, acrossFrom, wingAt, wingsFrom, lineSpots, wingDigit};
-use crate::places::all_but;
+ghost use Rattle.techniques.specs.XWings.{linesFrom, acrossFrom, wingAt, wingsFrom, wingDigit};
 use candidates::masks;
+use cells::all_but;
+use cells::line_spots;
 use cells::lose_places;
-use cells::places_of;
-use cells::unit_masks;
 
 // The unit of the first line, and of the first line across.
 fn lines_from(columns: bool) -> usize
@@ -28,28 +26,6 @@ fn across_from(columns: bool) -> usize
         return 0;
     }
     9
-}
-
-// The places of a unit whose open cells hold the digit.
-fn spots_of(givens: &[u8; 81], masks: &[u16; 81], unit: usize, digit: usize) -> u16
-    ensures { λ r. ⌜ r ≡ placesOf (unitMasks (now (givens .entry)) (now (masks .entry)) unit) digit ⌝ }
-{
-    let nine = unit_masks(givens, masks, unit);
-    places_of(&nine, digit)
-}
-
-// The same for each of the nine lines.
-fn line_spots(givens: &[u8; 81], masks: &[u16; 81], columns: bool, digit: usize) -> [u16; 9]
-    ensures { λ r. ⌜ r ≡ lineSpots (now (givens .entry)) columns digit (now (masks .entry)) ⌝ }
-{
-    let from = lines_from(columns);
-    let mut list = [0u16; 9];
-    let mut line: usize = 0;
-    while line < 9 {
-        list[line] = spots_of(givens, masks, from + line, digit);
-        line += 1;
-    }
-    list
 }
 
 // Two lines with their places, the first with two of them.
@@ -123,7 +99,7 @@ fn wings_from(
 fn wing_digit(givens: &[u8; 81], masks: &mut [u16; 81], columns: bool, digit: usize)
     ensures { λ _. ⌜ now (masks .exit) ≡ wingDigit (now (givens .entry)) columns digit (now (masks .entry)) ⌝ }
 {
-    let list = line_spots(givens, masks, columns, digit);
+    let list = line_spots(givens, masks, lines_from(columns), digit);
     let mut first: usize = 0;
     while first < 9 {
         wings_from(givens, masks, columns, digit, &list, first);

@@ -4,10 +4,10 @@ use mathlib.Core.List.{List}
 use Prim.Native.Nat.{ℕ, _-_, _≤_}
 use native.Mathlib.Omega.{arith}
 use borrow.Author.Needs.{needs}
+use Rattle.grid.proofs.Lists.{turn-done, turns-over}
 use Rattle.steps.specs.Loops.{each, range}
 use Rattle.cells.specs.Places.{placesOf}
 use Rattle.techniques.specs.BoxLines.{digitLines, blockLines}
-use Rattle.techniques.proofs.Loops.{turned, ended}
 use Rattle.techniques.proofs.box_lines.block_lines.Statement.{statement}
 use Rattle.techniques.proofs.box_lines.block_lines.Tie as tie
 
@@ -44,7 +44,7 @@ loop-again c =
     let i = c .before .before .before .before .loop .digit in
     let m = c .before .before .before .before .loop .masks in (
       omega arith,
-      turned (turn (a .givens .now) (a .block) (a .nine .now)) 9 i m (omega arith)
+      turn-done (turn (a .givens .now) (a .block) (a .nine .now)) 9 i (omega arith)
           (c .digit-lines .ensures ∙ ap (λ (s : ℕ). digitLines (a .givens .now) (a .block) i s m) (c .before .places-of .ensures))
           (c .before .before .before .before .loop .inv .1),
     )
@@ -52,7 +52,7 @@ loop-again c =
 returns : tie.Need-returns Inv-loop μ-loop
 returns c =
     let a = c .before .before .args in
-    ended (turn (a .givens .now) (a .block) (a .nine .now)) 9 (c .before .loop .digit) (c .before .loop .masks) (c .loop-test .left) (c .before .loop .inv .1)
+    turns-over (turn (a .givens .now) (a .block) (a .nine .now)) 9 (c .before .loop .digit) (c .loop-test .left) (c .before .loop .inv .1)
 
 pub block-lines-spec : {M : Type 1} → statement M
 block-lines-spec =

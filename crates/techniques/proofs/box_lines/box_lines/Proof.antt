@@ -4,11 +4,11 @@ use mathlib.Core.List.{List}
 use Prim.Native.Nat.{ℕ, _-_, _≤_}
 use native.Mathlib.Omega.{arith}
 use borrow.Author.Needs.{needs}
+use Rattle.grid.proofs.Lists.{turn-done, turns-over}
 use Rattle.steps.specs.Loops.{each, range}
 use Rattle.steps.specs.Ported.{boxLines}
 use Rattle.techniques.specs.BoxLines.{blockLines, blockTurn}
 use Rattle.techniques.proofs.BoxLines.{boxes-are}
-use Rattle.techniques.proofs.Loops.{turned, ended}
 use Rattle.techniques.proofs.box_lines.box_lines.Statement.{statement}
 use Rattle.techniques.proofs.box_lines.box_lines.Tie as tie
 
@@ -42,14 +42,14 @@ loop-again c =
     let a = c .before .before .before .before .before .before .before .args in
     let l = c .before .before .before .before .before .before .loop in (
       omega arith,
-      turned (blockTurn (a .givens .now)) 9 (l .block) (l .masks) (omega arith)
+      turn-done (blockTurn (a .givens .now)) 9 (l .block) (omega arith)
           (c .block-lines .ensures ∙ ap (λ (nine : List ℕ). blockLines (a .givens .now) (l .block) nine (l .masks)) (c .before .before .before .unit-masks .ensures))
           (l .inv .1),
     )
 
 returns : tie.Need-returns Inv-loop μ-loop
 returns c =
-    ended (blockTurn (c .before .before .args .givens .now)) 9 (c .before .loop .block) (c .before .loop .masks) (c .loop-test .left) (c .before .loop .inv .1)
+    turns-over (blockTurn (c .before .before .args .givens .now)) 9 (c .before .loop .block) (c .loop-test .left) (c .before .loop .inv .1)
 
 pub box-lines-spec : {M : Type 1} → statement M
 box-lines-spec =

@@ -3,10 +3,10 @@ use mathlib.Core.Path.{_≡_}
 use Prim.Native.Nat.{_-_, _≤_}
 use native.Mathlib.Omega.{arith}
 use borrow.Author.Needs.{needs}
+use Rattle.grid.proofs.Lists.{turn-done, turns-over}
 use Rattle.steps.specs.Loops.{each, range}
 use Rattle.steps.specs.Ported.{nakedPairs}
 use Rattle.techniques.specs.NakedPairs.{unitPairs}
-use Rattle.techniques.proofs.Loops.{turned, ended}
 use Rattle.techniques.proofs.NakedPairs.{pairs-are}
 use Rattle.techniques.proofs.naked_pairs.naked_pairs.Statement.{statement}
 use Rattle.techniques.proofs.naked_pairs.naked_pairs.Tie as tie
@@ -32,13 +32,13 @@ loop-less c = omega arith
 loop-again : tie.Need-loop-again Inv-loop μ-loop
 loop-again c = (
   omega arith,
-  turned (unitPairs (c .before .before .before .before .args .givens .now)) 27 (c .before .before .before .loop .unit) (c .before .before .before .loop .masks) (omega arith) (c .unit-pairs .ensures)
+  turn-done (unitPairs (c .before .before .before .before .args .givens .now)) 27 (c .before .before .before .loop .unit) (omega arith) (c .unit-pairs .ensures)
       (c .before .before .before .loop .inv .1),
 )
 
 returns : tie.Need-returns Inv-loop μ-loop
 returns c =
-    ended (unitPairs (c .before .before .args .givens .now)) 27 (c .before .loop .unit) (c .before .loop .masks) (c .loop-test .left) (c .before .loop .inv .1)
+    turns-over (unitPairs (c .before .before .args .givens .now)) 27 (c .before .loop .unit) (c .loop-test .left) (c .before .loop .inv .1)
 
 pub naked-pairs-spec : {M : Type 1} → statement M
 naked-pairs-spec =

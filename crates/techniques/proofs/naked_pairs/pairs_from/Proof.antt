@@ -3,10 +3,9 @@ use mathlib.Core.Path.{_≡_, refl, sym}
 use Prim.Native.Nat.{_+_, _-_, _≤_}
 use native.Mathlib.Omega.{arith}
 use borrow.Author.Needs.{needs}
-use Rattle.grid.proofs.Lists.{each-end}
+use Rattle.grid.proofs.Lists.{each-end, turn-done, turns-over}
 use Rattle.steps.specs.Loops.{each, range, above}
 use Rattle.techniques.specs.NakedPairs.{pairAt}
-use Rattle.techniques.proofs.Loops.{turned, ended}
 use Rattle.techniques.proofs.naked_pairs.pairs_from.Statement.{statement}
 use Rattle.techniques.proofs.naked_pairs.pairs_from.Tie as tie
 
@@ -40,14 +39,14 @@ loop-less c = omega arith
 loop-again : tie.Need-loop-again Inv-loop μ-loop
 loop-again c = (
   omega arith,
-  turned (pairAt (c .before .before .before .before .before .args .givens .now) (c .before .before .before .before .before .args .unit) (c .before .before .before .before .before .args .first)) 9
-      (c .before .before .before .loop .second) (c .before .before .before .loop .masks) (omega arith) (c .pair-at .ensures) (c .before .before .before .loop .inv .1),
+  turn-done (pairAt (c .before .before .before .before .before .args .givens .now) (c .before .before .before .before .before .args .unit) (c .before .before .before .before .before .args .first)) 9
+      (c .before .before .before .loop .second) (omega arith) (c .pair-at .ensures) (c .before .before .before .loop .inv .1),
 )
 
 returns-2 : tie.Need-returns-2 Inv-loop μ-loop
 returns-2 c =
     let a = c .before .before .before .args in
-    ended (pairAt (a .givens .now) (a .unit) (a .first)) 9 (c .before .loop .second) (c .before .loop .masks) (c .loop-test .left) (c .before .loop .inv .1)
+    turns-over (pairAt (a .givens .now) (a .unit) (a .first)) 9 (c .before .loop .second) (c .loop-test .left) (c .before .loop .inv .1)
 
 pub pairs-from-spec : {M : Type 1} → statement M
 pairs-from-spec =

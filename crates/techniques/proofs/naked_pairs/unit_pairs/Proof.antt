@@ -7,10 +7,10 @@ use Prim.Native.Nat.{ℕ, _-_, _≤_}
 use native.Mathlib.Omega.{arith}
 use borrow.Author.Needs.{needs}
 use borrow.Author.Tests.{not-false}
+use Rattle.grid.proofs.Lists.{turn-done, turns-over}
 use Rattle.steps.specs.Loops.{each, range, above}
 use Rattle.cells.specs.Places.{unitMasks}
 use Rattle.techniques.specs.NakedPairs.{pairAt, unitPairs}
-use Rattle.techniques.proofs.Loops.{turned, ended}
 use Rattle.techniques.proofs.NakedPairs.{no-twin}
 use Rattle.techniques.proofs.naked_pairs.unit_pairs.Statement.{statement}
 use Rattle.techniques.proofs.naked_pairs.unit_pairs.Tie as tie
@@ -63,12 +63,12 @@ loop-again : tie.Need-loop-again Inv-loop μ-loop
 loop-again c =
     let l = c .before .before .before .before .loop in
     let w = joined c in
-    (omega arith, w .0, turned (turn (c .before .before .before .before .before .before .before .args .givens .now) (c .before .before .before .before .before .before .before .args .unit)) 9 (l .first) (l .masks) (omega arith) (w .1) (l .inv .2))
+    (omega arith, w .0, turn-done (turn (c .before .before .before .before .before .before .before .args .givens .now) (c .before .before .before .before .before .before .before .args .unit)) 9 (l .first) (omega arith) (w .1) (l .inv .2))
 
 returns : tie.Need-returns Inv-loop μ-loop
 returns c =
     let a = c .before .before .before .before .args in
-    ended (turn (a .givens .now) (a .unit)) 9 (c .before .loop .first) (c .before .loop .masks) (c .loop-test .left) (c .before .loop .inv .2)
+    turns-over (turn (a .givens .now) (a .unit)) 9 (c .before .loop .first) (c .loop-test .left) (c .before .loop .inv .2)
 
 pub unit-pairs-spec : {M : Type 1} → statement M
 unit-pairs-spec =

@@ -4,12 +4,12 @@ use mathlib.Core.List.{List}
 use Prim.Native.Nat.{ℕ, _-_, _≤_}
 use native.Mathlib.Omega.{arith}
 use borrow.Author.Needs.{needs}
+use Rattle.grid.proofs.Lists.{turn-done, turns-over}
 use Rattle.steps.specs.Loops.{each, range}
 use Rattle.steps.specs.Singles.{hiddenSingles}
 use Rattle.techniques.specs.declared.singles.Reports.{Reports}
 use Rattle.techniques.specs.Reports.{append}
 use Rattle.techniques.specs.Singles.{hiddenIn}
-use Rattle.techniques.proofs.Loops.{turned, ended}
 use Rattle.techniques.proofs.SinglesFound.{units-loop}
 use Rattle.techniques.proofs.singles.hidden_singles.Statement.{statement}
 use Rattle.techniques.proofs.singles.hidden_singles.Tie as tie
@@ -41,12 +41,12 @@ loop-again : tie.Need-loop-again Inv-loop μ-loop
 loop-again c =
     let a = c .before .before .before .args in
     let l = c .before .before .loop in
-    (omega arith, turned (turn (a .givens .now) (a .masks .now)) 27 (l .unit) (l .list) (omega arith) (c .hidden-in .ensures) (l .inv .1))
+    (omega arith, turn-done (turn (a .givens .now) (a .masks .now)) 27 (l .unit) (omega arith) (c .hidden-in .ensures) (l .inv .1))
 
 returns : tie.Need-returns Inv-loop μ-loop
 returns c =
     let a = c .before .before .args in
-    ended (turn (a .givens .now) (a .masks .now)) 27 (c .before .loop .unit) (c .before .loop .list) (c .loop-test .left) (c .before .loop .inv .1)
+    turns-over (turn (a .givens .now) (a .masks .now)) 27 (c .before .loop .unit) (c .loop-test .left) (c .before .loop .inv .1)
 
 pub hidden-singles-spec : {M : Type 1} → statement M
 hidden-singles-spec =

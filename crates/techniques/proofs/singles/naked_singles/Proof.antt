@@ -6,11 +6,11 @@ use Prim.Native.Nat.{ℕ, _-_, _≤_}
 use native.Mathlib.Omega.{arith}
 use borrow.Author.Needs.{needs}
 use Rattle.candidates.specs.Sets.{onlyOf, digitOr0}
+use Rattle.grid.proofs.Lists.{turn-done, turns-over}
 use Rattle.steps.specs.Loops.{each, range}
 use Rattle.steps.specs.Singles.{nakedAt, nakedSingles}
 use Rattle.techniques.specs.declared.singles.Reports.{Reports}
 use Rattle.techniques.specs.Reports.{append}
-use Rattle.techniques.proofs.Loops.{turned, ended}
 use Rattle.techniques.proofs.SinglesFound.{naked-found, naked-none, naked-loop}
 use Rattle.techniques.proofs.singles.naked_singles.Statement.{statement}
 use Rattle.techniques.proofs.singles.naked_singles.Tie as tie
@@ -53,7 +53,7 @@ loop-again c =
     let l = c .before .before .before .before .loop in
     let digit = c .before .only-digit .ensures ∙ ap (λ (x : ℕ). digitOr0 (onlyOf x)) (c .before .before .open-mask .ensures) in (
       omega arith,
-      turned (turn (a .givens .now) (a .masks .now)) 81 (l .cell) (l .list) (omega arith)
+      turn-done (turn (a .givens .now) (a .masks .now)) 81 (l .cell) (omega arith)
           (⊎-elim (λ w. w .2 ∙ w .1 .ensures ∙ naked-found (a .givens .now) (a .masks .now) (l .cell) (omega arith) (l .list) digit (w .0 .taken))
           (λ w. w .1 ∙ naked-none (a .givens .now) (a .masks .now) (l .cell) (omega arith) (l .list) digit (w .0 .left)) (c .if1 .came))
           (l .inv .1),
@@ -62,7 +62,7 @@ loop-again c =
 returns : tie.Need-returns Inv-loop μ-loop
 returns c =
     let a = c .before .before .args in
-    ended (turn (a .givens .now) (a .masks .now)) 81 (c .before .loop .cell) (c .before .loop .list) (c .loop-test .left) (c .before .loop .inv .1)
+    turns-over (turn (a .givens .now) (a .masks .now)) 81 (c .before .loop .cell) (c .loop-test .left) (c .before .loop .inv .1)
 
 pub naked-singles-spec : {M : Type 1} → statement M
 naked-singles-spec =

@@ -3,11 +3,8 @@ use mathlib.Core.Path.{_≡_, sym, ap, _∙_}
 use mathlib.Core.Option.{some}
 use borrow.Author.Needs.{needs}
 use lib.IntN.{ℤ, pos, natAbs}
-use mir.Syntax.{w32}
-use mir.Val.{ofZ, toZ}
-use mir.Facts.{toZ-ofZ}
 use Rattle.candidates.specs.Sets.{onlyAnswer, onlyOf, digitOr0}
-use Rattle.candidates.proofs.Only.{Only, single-says, digit-fits}
+use Rattle.candidates.proofs.Only.{Only, single-says, digit-fits, digit-read}
 use Rattle.techniques.proofs.singles.only_digit.Statement.{statement}
 use Rattle.techniques.proofs.singles.only_digit.Tie as tie
 
@@ -23,12 +20,9 @@ enum-told c = search needs
 returns : tie.Need-returns
 returns c = ap digitOr0 (sym (ap onlyAnswer (c .enum-told .given .1)) ∙ c .before .before .single-candidate .ensures)
 
--- the digit that the call answered, and as the cast reads it
+-- the digit that the call answered
 abbrev digit : tie.After-known-told → ℤ
 digit c = c .before .digit .given .0 .0
-
-is-digit : (c : tie.After-known-told) → toZ w32 (ofZ w32 (digit c)) ≡ digit c
-is-digit c = toZ-ofZ (record { sfits = c .known-told .given .0 .1 })
 
 answered : (c : tie.After-known-told) → some (digit c) ≡ onlyOf (c .before .before .before .before .args .mask)
 answered c = sym (ap onlyAnswer (c .before .digit .given .1)) ∙ c .before .before .before .single-candidate .ensures
@@ -37,12 +31,12 @@ only : (c : tie.After-known-told) → Only (c .before .before .before .before .a
 only c = single-says (c .before .before .before .before .args .mask) (answered c)
 
 cast-result : tie.Need-cast-result
-cast-result c = digit-fits (only c) (is-digit c)
+cast-result c = digit-fits (only c) (digit-read (only c))
 
 returns-2 : tie.Need-returns-2
 returns-2 c =
     let e = only c .digit in
-    ap (λ (z : ℤ). pos (natAbs z)) (is-digit c ∙ e) ∙ sym e ∙ ap digitOr0 (answered c)
+    ap (λ (z : ℤ). pos (natAbs z)) (digit-read (only c) ∙ e) ∙ sym e ∙ ap digitOr0 (answered c)
 
 pub only-digit-spec : {M : Type 1} → statement M
 only-digit-spec =

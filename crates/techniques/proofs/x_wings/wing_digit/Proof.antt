@@ -1,12 +1,13 @@
 -- `techniques::x_wings::wing_digit` meets its contract. The invariant: the first lines that are left still make the whole. Assumes nothing.
-use mathlib.Core.Path.{_≡_, ap}
+use mathlib.Core.Path.{_≡_, ap, _∙_}
 use mathlib.Core.List.{List}
 use Prim.Native.Nat.{ℕ, _-_, _≤_}
 use native.Mathlib.Omega.{arith}
 use borrow.Author.Needs.{needs}
+use Rattle.grid.proofs.Lists.{turn-done, turns-over}
 use Rattle.steps.specs.Loops.{each, range, upTo}
+use Rattle.cells.specs.Places.{lineSpots}
 use Rattle.techniques.specs.XWings.{wingsFrom, wingDigit}
-use Rattle.techniques.proofs.Loops.{turned, ended}
 use Rattle.techniques.proofs.x_wings.wing_digit.Statement.{statement}
 use Rattle.techniques.proofs.x_wings.wing_digit.Tie as tie
 
@@ -17,14 +18,20 @@ Inv-loop givens masks₀ columns digit list first₀ masks first =
 abbrev μ-loop : tie.MeasureT-loop
 μ-loop givens masks₀ columns digit list first₀ masks first = 9 - first
 
+lines-from-requires : tie.Need-lines-from-requires Inv-loop μ-loop
+lines-from-requires c κs = search needs
+
 line-spots-requires : tie.Need-line-spots-requires Inv-loop μ-loop
 line-spots-requires c κs = search needs
 
 loop-holds : tie.Need-loop-holds Inv-loop μ-loop
 unfolding wingDigit
 loop-holds c =
-    let a = c .before .before .args in
-    (omega arith, ap (λ (list : List ℕ). each (wingsFrom (a .givens .now) (a .columns) (a .digit) list) (upTo 9) (a .masks .now)) (c .line-spots .ensures))
+    let a = c .before .before .before .args in (
+      omega arith,
+      ap (λ (list : List ℕ). each (wingsFrom (a .givens .now) (a .columns) (a .digit) list) (upTo 9) (a .masks .now))
+          (c .line-spots .ensures ∙ ap (λ (f : ℕ). lineSpots (a .givens .now) (a .masks .now) f (a .digit)) (c .before .lines-from .ensures)),
+    )
 
 wings-from-requires : tie.Need-wings-from-requires Inv-loop μ-loop
 wings-from-requires c κs = search needs
@@ -37,16 +44,16 @@ loop-less c = omega arith
 
 loop-again : tie.Need-loop-again Inv-loop μ-loop
 loop-again c =
-    let a = c .before .before .before .before .before .before .before .args in
+    let a = c .before .before .before .before .before .before .before .before .args in
     let l = c .before .before .before .before .loop in (
       omega arith,
-      turned (wingsFrom (a .givens .now) (a .columns) (a .digit) (c .before .before .before .before .before .line-spots .result)) 9 (l .first) (l .masks) (omega arith) (c .wings-from .ensures) (l .inv .1),
+      turn-done (wingsFrom (a .givens .now) (a .columns) (a .digit) (c .before .before .before .before .before .line-spots .result)) 9 (l .first) (omega arith) (c .wings-from .ensures) (l .inv .1),
     )
 
 returns : tie.Need-returns Inv-loop μ-loop
 returns c =
-    let a = c .before .before .before .before .args in
-    ended (wingsFrom (a .givens .now) (a .columns) (a .digit) (c .before .before .line-spots .result)) 9 (c .before .loop .first) (c .before .loop .masks) (c .loop-test .left) (c .before .loop .inv .1)
+    let a = c .before .before .before .before .before .args in
+    turns-over (wingsFrom (a .givens .now) (a .columns) (a .digit) (c .before .before .line-spots .result)) 9 (c .before .loop .first) (c .loop-test .left) (c .before .loop .inv .1)
 
 pub wing-digit-spec : {M : Type 1} → statement M
 wing-digit-spec =
@@ -54,6 +61,7 @@ wing-digit-spec =
     (tie.spec
     Inv-loop
     μ-loop
+    lines-from-requires
     line-spots-requires
     loop-holds
     wings-from-requires

@@ -6,10 +6,10 @@ use Prim.Native.Nat.{ℕ, _-_, _≤_}
 use native.Mathlib.Omega.{arith}
 use borrow.Author.Needs.{needs}
 use borrow.Author.Tests.{not-true, not-false}
+use Rattle.grid.proofs.Lists.{turn-done, turns-over}
 use Rattle.steps.specs.Boards.{at}
 use Rattle.steps.specs.Loops.{each, range}
 use Rattle.techniques.specs.XWings.{wingAt, wingsFrom}
-use Rattle.techniques.proofs.Loops.{turned, ended}
 use Rattle.techniques.proofs.XWings.{from-past, from-none, from-two}
 use Rattle.techniques.proofs.x_wings.wings_from.Statement.{statement}
 use Rattle.techniques.proofs.x_wings.wings_from.Tie as tie
@@ -72,13 +72,13 @@ loop-again c =
     let a = c .before .before .before .before .before .before .before .before .before .args in
     let l = c .before .before .before .before .loop in (
       omega arith,
-      turned (turn (a .givens .now) (a .columns) (a .digit) (a .list .now) (a .first)) 9 (l .second) (l .masks) (omega arith) (c .wing-at .ensures) (l .inv .1),
+      turn-done (turn (a .givens .now) (a .columns) (a .digit) (a .list .now) (a .first)) 9 (l .second) (omega arith) (c .wing-at .ensures) (l .inv .1),
     )
 
 returns-3 : tie.Need-returns-3 Inv-loop μ-loop
 returns-3 c =
     let a = c .before .before .before .before .before .before .args in
-    ended (turn (a .givens .now) (a .columns) (a .digit) (a .list .now) (a .first)) 9 (c .before .loop .second) (c .before .loop .masks) (c .loop-test .left) (c .before .loop .inv .1)
+    turns-over (turn (a .givens .now) (a .columns) (a .digit) (a .list .now) (a .first)) 9 (c .before .loop .second) (c .loop-test .left) (c .before .loop .inv .1)
 
 pub wings-from-spec : {M : Type 1} → statement M
 wings-from-spec =

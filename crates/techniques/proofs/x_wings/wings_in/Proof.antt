@@ -3,9 +3,9 @@ use mathlib.Core.Path.{_≡_, refl}
 use Prim.Native.Nat.{_-_, _≤_}
 use native.Mathlib.Omega.{arith}
 use borrow.Author.Needs.{needs}
+use Rattle.grid.proofs.Lists.{turn-done, turns-over}
 use Rattle.steps.specs.Loops.{each, range, upTo}
 use Rattle.techniques.specs.XWings.{wingDigit}
-use Rattle.techniques.proofs.Loops.{turned, ended}
 use Rattle.techniques.proofs.x_wings.wings_in.Statement.{statement}
 use Rattle.techniques.proofs.x_wings.wings_in.Tie as tie
 
@@ -32,12 +32,12 @@ loop-again : tie.Need-loop-again Inv-loop μ-loop
 loop-again c =
     let a = c .before .before .before .before .args in
     let l = c .before .before .before .loop in
-    (omega arith, turned (wingDigit (a .givens .now) (a .columns)) 9 (l .digit) (l .masks) (omega arith) (c .wing-digit .ensures) (l .inv .1))
+    (omega arith, turn-done (wingDigit (a .givens .now) (a .columns)) 9 (l .digit) (omega arith) (c .wing-digit .ensures) (l .inv .1))
 
 returns : tie.Need-returns Inv-loop μ-loop
 returns c =
     let a = c .before .before .args in
-    ended (wingDigit (a .givens .now) (a .columns)) 9 (c .before .loop .digit) (c .before .loop .masks) (c .loop-test .left) (c .before .loop .inv .1)
+    turns-over (wingDigit (a .givens .now) (a .columns)) 9 (c .before .loop .digit) (c .loop-test .left) (c .before .loop .inv .1)
 
 pub wings-in-spec : {M : Type 1} → statement M
 wings-in-spec =
