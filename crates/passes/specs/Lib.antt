@@ -1,5 +1,2 @@
-pub mod Turns
-pub mod Unions
-pub mod Twos
 pub mod Kinds
 pub mod Settlings

@@ -1,0 +1,2 @@
+pub mod PointingTurns
+pub mod PointingDue

@@ -1,0 +1,5 @@
+pub mod Peers
+pub mod Taking
+pub mod PlaceTurns
+pub mod PlaceDue
+pub mod LoneDue
