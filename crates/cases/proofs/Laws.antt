@@ -51,6 +51,15 @@ pub advanced-fresh : (clues : List ℤ) → onFresh advancedCall clues .masks �
 unfolding outcome
 advanced-fresh clues = by-test (λ (n : List ℕ). n ≡ freshMasks clues) (onFresh advancedCall clues .flag) (freshMasks clues) (freshMasks clues) (λ t. refl) (λ t. refl)
 
+-- ---- the five passes
+
+pub every-pass : (g m : List ℕ) → pass g Lone m ≡ m → pass g Place m ≡ m → pass g Pair m ≡ m → pass g Pointing m ≡ m → pass g Cross m ≡ m → (k : Kind) → pass g k m ≡ m
+every-pass g m l p q r c Lone = l
+every-pass g m l p q r c Place = p
+every-pass g m l p q r c Pair = q
+every-pass g m l p q r c Pointing = r
+every-pass g m l p q r c Cross = c
+
 -- ---- settling
 
 module _ (g : List ℕ) where

@@ -24,7 +24,7 @@ use Rattle.record.specs.Sections.{sectionBytes, candidates}
 use Rattle.cases.specs.Grids.{gridOf, p1}
 use Rattle.cases.specs.Cases.{Case1}
 use Rattle.cases.proofs.Idle.{pair-idle, cross-idle}
-use Rattle.cases.proofs.Laws.{Values, fresh-value, call-value, all-idle, settled-still}
+use Rattle.cases.proofs.Laws.{Values, fresh-value, call-value, all-idle, settled-still, every-pass}
 
 g : List ℕ
 g = replicate 81 0
@@ -75,11 +75,7 @@ unfolding g m spots gather onesIn unit units
 cross = cross-idle g m tt
 
 wide-pass : (k : Kind) → pass g k m ≡ m
-wide-pass Lone = lone
-wide-pass Place = place
-wide-pass Pair = pair
-wide-pass Pointing = pointing
-wide-pass Cross = cross
+wide-pass = every-pass g m lone place pair pointing cross
 
 -- ---- singles
 

@@ -17,7 +17,7 @@ use Rattle.steps.specs.Steps.{take}
 use Rattle.cases.specs.Cases.{Case7}
 use Rattle.cases.specs.Grids.{gridOf, p7}
 use Rattle.cases.proofs.Idle.{pair-idle, cross-idle}
-use Rattle.cases.proofs.Laws.{Values, fresh-value, all-idle}
+use Rattle.cases.proofs.Laws.{Values, fresh-value, all-idle, every-pass}
 
 g : List ℕ
 g =
@@ -84,11 +84,7 @@ unfolding g m spots gather onesIn unit units
 cross = cross-idle g m tt
 
 wide-pass : (k : Kind) → pass g k m ≡ m
-wide-pass Lone = lone
-wide-pass Place = place
-wide-pass Pair = pair
-wide-pass Pointing = pointing
-wide-pass Cross = cross
+wide-pass = every-pass g m lone place pair pointing cross
 
 pub p7-holds : Case7
 unfolding m

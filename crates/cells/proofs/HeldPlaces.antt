@@ -14,36 +14,30 @@ use Rattle.candidates.proofs.Membership.{bit-and, bit-power, bit-none, gather-l
 use Rattle.candidates.proofs.Order.{sub-of-minus}
 use Rattle.candidates.proofs.Tests.{bool-iff}
 use Rattle.grid.specs.Units.{unit, unitCell, Member}
-use Rattle.grid.proofs.Lists.{at-upTo, map-same, all-same}
-use Rattle.grid.proofs.Units.{mem-member, member-mem, at-place, cell-below, past-table}
+use Rattle.grid.proofs.Lists.{map-same, all-same}
+use Rattle.grid.proofs.Units.{mem-member, member-mem, at-place, past-table}
 use Rattle.steps.specs.Boards.{at}
 use Rattle.steps.specs.Instances.{only}
 use Rattle.steps.specs.Loops.{all, upTo}
 use Rattle.steps.specs.Steps.{lacks}
 use Rattle.steps.proofs.Loops.{all-member, member-all}
-use Rattle.cells.specs.Places.{maskAt, openMask, unitMasks, allMasks, placesOf, heldPlaces, lineSpots}
-use Rattle.cells.proofs.Places.{gather-same, unit-mask, mask-at}
+use Rattle.cells.specs.Places.{openMask, unitMasks, allMasks, placesOf, heldPlaces, lineSpots}
+use Rattle.cells.proofs.Places.{gather-same, unit-mask, all-mask}
 use Rattle.cells.proofs.NineBits.{not-held}
 
 -- ---- the places that hold a digit
 
-pub held-places : (m : List ℕ) (u d : ℕ) → placesOf (allMasks m u) d ≡ heldPlaces m u d
-unfolding placesOf heldPlaces allMasks
-held-places m u d =
-    gather-same (λ i. has (at (allMasks m u) i) d) (λ i. has (maskAt m (unitCell u i)) d) 9
-    (λ i l. ap (λ (x : ℕ). has x d) (at-upTo (λ j. maskAt m (unitCell u j)) 0 9 i l))
-
 module _ (m : List ℕ) (u d : ℕ) where
   pub held-small : heldPlaces m u d < 2 ^ 9
-  unfolding heldPlaces
-  held-small = gather-lt (λ i. has (maskAt m (unitCell u i)) d) 9
+  unfolding heldPlaces placesOf
+  held-small = gather-lt (λ i. has (at (allMasks m u) i) d) 9
 
   module _ (h : u < 27) where
     held-are : heldPlaces m u d ≡ gather (λ i. has (at m (unitCell u i)) d) 9
-    unfolding heldPlaces
+    unfolding heldPlaces placesOf
     held-are =
-        gather-same (λ i. has (maskAt m (unitCell u i)) d) (λ i. has (at m (unitCell u i)) d) 9
-        (λ i l. ap (λ (x : ℕ). has x d) (mask-at m (unitCell u i) (cell-below u i h l)))
+        gather-same (λ i. has (at (allMasks m u) i) d) (λ i. has (at m (unitCell u i)) d) 9
+        (λ i l. ap (λ (x : ℕ). has x d) (all-mask m u i h l))
 
     pub has-held : (i : ℕ) → i < 9 → has (heldPlaces m u d) i ≡ has (at m (unitCell u i)) d
     has-held i l = ap (λ (x : ℕ). has x i) held-are ∙ has-gather (λ i. has (at m (unitCell u i)) d) 9 i l

@@ -40,7 +40,7 @@ placesOf nine d = gather (λ i. has (at nine i) d) 9
 
 -- the places of a unit that hold d, clue cells too
 unfoldable pub heldPlaces : List ℕ → ℕ → ℕ → ℕ
-heldPlaces m u d = gather (λ i. has (maskAt m (unitCell u i)) d) 9
+heldPlaces m u d = placesOf (allMasks m u) d
 
 -- for each of nine units from f on, the places whose open cells hold d
 unfoldable pub lineSpots : List ℕ → List ℕ → ℕ → ℕ → List ℕ
