@@ -2,22 +2,24 @@
 use mathlib.Core.Path.{_≡_, sym, ap, _∙_}
 use mathlib.Core.Bool.{true, false, not, and-true, and-false, or-true}
 use mathlib.Core.List.{List}
-use mathlib.Core.Option.{Option, none, some}
+use mathlib.Core.Option.{Option, none}
 use Prim.Native.Nat.{ℕ}
 use borrow.Author.Tests.{eq-eqb, ne-eqb}
 use lib.Dec.{eqb}
 use lib.IntN.{ℤ, pos}
 use lib.ListN.{getD}
-use Rattle.candidates.specs.Answer.{gives, stop}
+use Rattle.stops.specs.Answer.{Answer, gives, stop, stopAt, then, passing}
+use Rattle.stops.specs.declared.Stop.the-variants.{BadClue, BadMask}
 use Rattle.candidates.specs.Masks.{minus}
 use Rattle.candidates.proofs.Order.{sub-refl, minus-of-sub}
 use Rattle.grid.specs.Cells.{cells}
 use Rattle.steps.specs.Boards.{at, givensOf, given, fresh}
-use Rattle.steps.specs.Calls.{badClue, badMask, refusal, opened}
-use Rattle.steps.specs.Demand3.{Clues}
+use Rattle.steps.specs.Calls.{badClue, badMask, firstBadClue, checkOf, opened}
+use Rattle.steps.specs.Calls.{Clues}
 use Rattle.steps.specs.Loops.{first}
 use Rattle.steps.proofs.Fresh.{fresh-at}
-use Rattle.board.specs.Boards.{handed, stops, firstBadClue, misfitOf, firstMisfit, openedOr, openOf}
+use Rattle.board.specs.Boards.{handed, openOf}
+use Rattle.board.specs.code.Checks.{misfitOf, firstMisfit}
 use Rattle.steps.proofs.Searches.{first-cells, cells-none}
 
 -- ---- one mask
@@ -34,10 +36,11 @@ module _ (x f d : ℕ) where
 
 -- ---- the two searches
 
-pub checks : (clues : List ℤ) (masks : List ℕ) {g f : List ℕ} → g ≡ givensOf clues → f ≡ fresh g → stops (firstBadClue clues) (firstMisfit g f masks) ≡ refusal (handed clues masks)
-unfolding refusal
+pub checks : (clues : List ℤ) (masks : List ℕ) {g f : List ℕ} → g ≡ givensOf clues → f ≡ fresh g
+    → then (stopAt BadClue (firstBadClue clues)) (λ _. stopAt BadMask (firstMisfit g f masks)) ≡ checkOf (handed clues masks)
+unfolding checkOf
 checks clues masks {g} {f} p q =
-    ap (stops (firstBadClue clues))
+    ap (λ (x : Option ℕ). then (stopAt BadClue (firstBadClue clues)) (λ _. stopAt BadMask x))
     (ap (λ (f : List ℕ). firstMisfit g f masks) q ∙ same g ∙ ap (λ (g : List ℕ). first (badMask g masks) cells) p)
   where
     same : (g : List ℕ) → firstMisfit g (fresh g) masks ≡ first (badMask g masks) cells
@@ -47,15 +50,6 @@ checks clues masks {g} {f} p q =
 
 -- ---- the opener
 
-module _ (clues : List ℤ) where
-  pub not-opened : {c : ℕ} → firstBadClue clues ≡ some c → stop 3 (pos c) ≡ openOf clues
-  unfolding openOf
-  not-opened e = sym (ap (λ (x : Option ℕ). openedOr x clues) e)
-
-  pub is-opened : firstBadClue clues ≡ none → {m : List ℕ} → m ≡ fresh (givensOf clues) → gives (handed clues m) ≡ openOf clues
-  unfolding openOf opened
-  is-opened e p = ap (λ (m : List ℕ). gives (handed clues m)) p ∙ sym (ap (λ (x : Option ℕ). openedOr x clues) e)
-
-  pub clues-open : Clues clues → openOf clues ≡ gives (opened clues)
-  unfolding openOf
-  clues-open ok = ap (λ (x : Option ℕ). openedOr x clues) (cells-none (λ c. badClue (getD clues c (pos 0))) (ok .good))
+pub clues-open : (clues : List ℤ) → Clues clues → openOf clues ≡ gives (opened clues)
+unfolding openOf
+clues-open clues ok = ap (λ (x : Option ℕ). passing (stopAt BadClue x) (opened clues)) (cells-none (λ c. badClue (getD clues c (pos 0))) (ok .good))

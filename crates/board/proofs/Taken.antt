@@ -9,7 +9,7 @@ use native.Mathlib.Omega.{arith}
 use borrow.Author.Tests.{eq-eqb}
 use lib.ListN.{length, getD, set, replicate, length-set, getD-replicate}
 use lib.Seq.{set-out, getD-set-same, getD-set-other}
-use Rattle.candidates.specs.Masks.{Sub, minus, union, single}
+use Rattle.candidates.specs.Masks.{Sub, minus, union, placeMask}
 use Rattle.candidates.proofs.Held.{none-held, held-sub, sub-held}
 use Rattle.candidates.proofs.Order.{sub-refl, sub-trans, sub-antisym, sub-none, union-left, union-right, union-sub}
 use Rattle.candidates.proofs.Tests.{by-test, cond-true}
@@ -21,7 +21,7 @@ use Rattle.grid.proofs.Units.{by-unit, Kind, kind, in-row, in-col, in-box, memb
 use Rattle.steps.specs.Boards.{given, isOpen, givenMask, taken, freshAt, fresh}
 use Rattle.steps.specs.Loops.{each, upTo}
 use Rattle.steps.proofs.Loops.{each-keeps, in-upTo, upTo-in}
-use Rattle.board.specs.Fresh.{joinAt, boxUnit, joinUnits, joinGiven, joinRow, unitSets, seen, freshMask, freshRow}
+use Rattle.board.specs.code.Fresh.{joinAt, boxUnit, joinUnits, joinGiven, joinRow, unitSets, seen, freshMask, freshRow}
 
 -- ---- a loop that makes a thing at one of its members, and keeps it
 
@@ -142,7 +142,7 @@ module _ (g : List ℕ) where
   unfolding joinGiven
   given-has u r k s h l d e n =
       by-test (λ (m : List ℕ). Sub (givenMask g (cell r k)) (getD m u 0)) (isOpen g (cell r k)) s (joinUnits r k (givenMask g (cell r k)) s)
-      (λ o. subst (λ (x : ℕ). Sub x (getD s u 0)) (sym (cond-true (isOpen g (cell r k)) 0 (single (given g (cell r k) - 1)) o)) (sub-none (getD s u 0)))
+      (λ o. subst (λ (x : ℕ). Sub x (getD s u 0)) (sym (cond-true (isOpen g (cell r k)) 0 (placeMask (given g (cell r k) - 1)) o)) (sub-none (getD s u 0)))
       (λ o. units-have r k (givenMask g (cell r k)) h l u s n d e)
 
   sets-have : (u c : ℕ) → u < 27 → c < 81 → inUnit u c ≡ true → Sub (givenMask g c) (getD (unitSets g) u 0)
@@ -221,7 +221,7 @@ module _ (g : List ℕ) (r k : ℕ) (h : r < 9) (l : k < 9) where
     where
       go : (u e : ℕ) → u < 27 → e < 81 → inUnit u c ≡ true → inUnit u e ≡ true → Dec (c ≡ e) → Sub (givenMask g e) (taken g c)
       go u e i j p q (yes w) =
-          subst (λ (x : ℕ). Sub x (taken g c)) (sym (cond-true (isOpen g c) 0 (single (given g c - 1)) o) ∙ ap (givenMask g) w) (sub-none (taken g c))
+          subst (λ (x : ℕ). Sub x (taken g c)) (sym (cond-true (isOpen g c) 0 (placeMask (given g c - 1)) o) ∙ ap (givenMask g) w) (sub-none (taken g c))
       go u e i j p q (no w) =
           sub-held (givenMask g e) (taken g c) (λ d t. held-gathered (givenMask g) (peers c) 0 d .1 (inr (e, sees-peer c e j (share-sees u c e i w p q), t)))
 

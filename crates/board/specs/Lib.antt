@@ -1,3 +1,3 @@
 pub mod Boards
-pub mod Fresh
 pub mod Answers
+pub mod code

@@ -2,13 +2,14 @@
 // engine works on givens, the digit of each cell or 0 where it is open.
 ghost use mathlib.Core.Path.{_≡_};
 ghost use Rattle.steps.specs.Boards.{digitOf, givensOf};
-ghost use Rattle.steps.specs.Calls.{badClue};
-ghost use Rattle.board.specs.Boards.{firstBadClue};
-ghost use Rattle.board.specs.Answers.{foundCell};
-use crate::Found;
+ghost use Rattle.stops.specs.Answer.{checkAnswer, stopAt};
+ghost use Rattle.stops.specs.declared.Stop.the-variants.{BadClue};
+ghost use Rattle.steps.specs.Calls.{badClue, firstBadClue};
+use stops::Check;
+use stops::Stop;
 
 // Whether a number is outside 0 to 9.
-pub fn is_bad(clue: i32) -> bool
+fn is_bad(clue: i32) -> bool
     ensures { λ r. ⌜ r ≡ badClue clue ⌝ }
 {
     if clue < 0 {
@@ -42,16 +43,16 @@ pub fn givens_of(clues: &[i32; 81]) -> [u8; 81]
     givens
 }
 
-// The first cell of stop 3.
-pub fn first_bad(clues: &[i32; 81]) -> Found
-    ensures { λ r. ⌜ foundCell r ≡ firstBadClue (now (clues .entry)) ⌝ }
+// Stop 3 with its first cell.
+pub fn check_clues(clues: &[i32; 81]) -> Check
+    ensures { λ r. ⌜ checkAnswer r ≡ stopAt BadClue (firstBadClue (now (clues .entry))) ⌝ }
 {
     let mut cell: usize = 0;
     while cell < 81 {
         if is_bad(clues[cell]) {
-            return Found::At(cell);
+            return Check::Refused(Stop::BadClue(cell as i64));
         }
         cell += 1;
     }
-    Found::Nothing
+    Check::Passed
 }

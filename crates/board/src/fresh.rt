@@ -4,7 +4,7 @@
 ghost use mathlib.Core.Path.{_≡_};
 ghost use Prim.Native.Nat.{_<_};
 ghost use Rattle.steps.specs.Boards.{fresh};
-ghost use Rattle.board.specs.Fresh.{digitMask, joinAt, boxUnit, joinUnits, joinRow, unitSets, seen, freshMask, freshRow};
+ghost use Rattle.board.specs.code.Fresh.{digitMask, joinAt, boxUnit, joinUnits, joinRow, unitSets, seen, freshMask, freshRow};
 use candidates::masks;
 
 // The mask of a given digit; none for an open cell.

@@ -1,22 +1,20 @@
 // What the masks of a board say of it (module 13), read cell by cell through the candidate set.
 ghost use mathlib.Core.Path.{_≡_};
 ghost use lib.Dec.{eqb};
-ghost use Rattle.candidates.specs.Answer.{gives};
-ghost use Rattle.candidates.specs.Masks.{count, nine};
-ghost use Rattle.board.specs.Answers.{verdictAnswer};
-ghost use Rattle.board.specs.Boards.{allSingle, noneEmpty, verdictRead};
-use crate::BoardVerdict;
+ghost use Rattle.candidates.specs.Masks.{count, lowNine};
+ghost use Rattle.board.specs.Boards.{allSingle, noneEmpty, verdictOf};
+use crate::Verdict;
 use candidates::SingleCandidate;
 use candidates::SudokuCandidateSet;
 
 fn is_empty(mask: u16) -> bool
-    ensures { λ r. ⌜ r ≡ eqb (count (nine mask)) 0 ⌝ }
+    ensures { λ r. ⌜ r ≡ eqb (count (lowNine mask)) 0 ⌝ }
 {
     SudokuCandidateSet { mask }.is_empty()
 }
 
 fn is_single(mask: u16) -> bool
-    ensures { λ r. ⌜ r ≡ eqb (count (nine mask)) 1 ⌝ }
+    ensures { λ r. ⌜ r ≡ eqb (count (lowNine mask)) 1 ⌝ }
 {
     match (SudokuCandidateSet { mask }).single_candidate() {
         SingleCandidate::Digit(_) => true,
@@ -50,14 +48,15 @@ fn all_single(masks: &[u16; 81]) -> bool
     true
 }
 
-pub fn verdict_of(masks: &[u16; 81]) -> BoardVerdict
-    ensures { λ r. ⌜ verdictAnswer r ≡ gives (verdictRead (now (masks .entry))) ⌝ }
+// Of any masks; a board that is handed over is checked first.
+pub fn verdict_of(masks: &[u16; 81]) -> Verdict
+    ensures { λ r. ⌜ r ≡ verdictOf (now (masks .entry)) ⌝ }
 {
     if !none_empty(masks) {
-        return BoardVerdict::Dead;
+        return Verdict::Dead;
     }
     if all_single(masks) {
-        return BoardVerdict::Finished;
+        return Verdict::Finished;
     }
-    BoardVerdict::Open
+    Verdict::Open
 }

@@ -4,35 +4,40 @@
 use board::Board;
 use board::BoardVerdict;
 use board::CellMask;
-use board::Checked;
 use board::Counting;
-use board::Opening;
+use board::Verdict;
 use board::clues;
-use libc::STDOUT_FILENO;
-use text::Parsing;
-use text::Writing;
+use printing::fold;
+use printing::mask_sum;
+use printing::number;
+use printing::refusal;
+use printing::word;
+use stops::Check;
+use stops::Stop;
+use stops::Writing;
 
 const NUMBERS: [i32; 7] = [-2147483648, -1, 0, 1, 9, 10, 2147483647];
 
-fn number(n: u64) {
-    io::write_all(STDOUT_FILENO, b" ");
-    io::print_decimal(STDOUT_FILENO, n);
-}
-
-fn line(name: &[u8], a: u64, b: u64, stop: u64, detail: u64) {
-    io::write_all(STDOUT_FILENO, name);
+fn named(name: &[u8], a: u64, b: u64) {
+    word(name);
     number(a);
     number(b);
-    number(stop);
-    number(detail);
-    io::write_all(STDOUT_FILENO, b"\n");
 }
 
-fn fold(sum: u64, n: u16) -> u64 {
-    (sum % 72057594037927931 * 31 + n as u64) % 72057594037927931
+fn line(name: &[u8], a: u64, b: u64, value: u64) {
+    named(name, a, b);
+    number(0);
+    number(value);
+    word(b"\n");
 }
 
-fn wide(byte: u8) -> u16 {
+fn refused(name: &[u8], a: u64, b: u64, stop: Stop) {
+    named(name, a, b);
+    refusal(stop);
+    word(b"\n");
+}
+
+fn widened(byte: u8) -> u16 {
     byte as u16
 }
 
@@ -40,18 +45,8 @@ fn byte_sum(bytes: &[u8]) -> u64 {
     let mut sum: u64 = 0;
     let mut i: usize = 0;
     while i < bytes.len() {
-        sum = fold(sum, wide(bytes[i]));
+        sum = fold(sum, widened(bytes[i]));
         i += 1;
-    }
-    sum
-}
-
-fn mask_sum(masks: &[u16; 81]) -> u64 {
-    let mut sum: u64 = 0;
-    let mut cell: usize = 0;
-    while cell < 81 {
-        sum = fold(sum, masks[cell]);
-        cell += 1;
     }
     sum
 }
@@ -60,11 +55,10 @@ fn clue_sum(grid: &[i32; 81]) -> u64 {
     byte_sum(&clues::givens_of(grid))
 }
 
-fn checked(name: &[u8], a: u64, b: u64, answer: Checked, value: u64) {
+fn checked(name: &[u8], a: u64, b: u64, answer: Check, value: u64) {
     match answer {
-        Checked::Good => line(name, a, b, 0, value),
-        Checked::BadClue(cell) => line(name, a, b, 3, cell as u64),
-        Checked::BadMask(cell) => line(name, a, b, 9, cell as u64),
+        Check::Passed => line(name, a, b, value),
+        Check::Refused(stop) => refused(name, a, b, stop),
     }
 }
 
@@ -72,34 +66,26 @@ fn read(name: &[u8], a: u64, b: u64, bytes: &[u8]) {
     let parsed = text::parse_string(bytes);
     let answer = parsed.answer;
     let grid = parsed.clues;
-    match answer {
-        Parsing::Read => line(name, a, b, 0, clue_sum(&grid)),
-        Parsing::WrongLength(length) => line(name, a, b, 1, length as u64),
-        Parsing::BadByte(index) => line(name, a, b, 2, index as u64),
-    }
+    checked(name, a, b, answer, clue_sum(&grid));
 }
 
 fn opened(a: u64, b: u64, grid: [i32; 81]) {
     let opened = Board::new(grid);
     let answer = opened.answer;
     let masks = opened.board.masks;
-    match answer {
-        Opening::Opened => line(b"open", a, b, 0, mask_sum(&masks)),
-        Opening::BadClue(cell) => line(b"open", a, b, 3, cell as u64),
-    }
+    checked(b"open", a, b, answer, mask_sum(&masks));
 }
 
 fn write(a: u64, grid: &[i32; 81], out: &mut [u8]) {
     let lent = out.len() as u64;
     match text::write_text(grid, out) {
-        Writing::Written(n) => line(b"write", a, lent, 0, n as u64),
-        Writing::TooShort(n) => line(b"write", a, lent, 6, n as u64),
-        Writing::BadClue(cell) => line(b"write", a, lent, 3, cell as u64),
+        Writing::Written(n) => line(b"write", a, lent, n as u64),
+        Writing::Refused(stop) => refused(b"write", a, lent, stop),
     }
 }
 
 fn lent(a: u64, b: u64, out: &[u8; 100]) {
-    line(b"lent", a, b, 0, byte_sum(out));
+    line(b"lent", a, b, byte_sum(out));
 }
 
 // The writer on so many of a hundred bytes, and what they are after it.
@@ -118,25 +104,27 @@ fn writes(a: u64, grid: &[i32; 81]) {
     lent(a, 100, &more);
 }
 
+fn judged(a: u64, b: u64, verdict: Verdict) {
+    match verdict {
+        Verdict::Dead => line(b"dead", a, b, 0),
+        Verdict::Finished => line(b"finished", a, b, 0),
+        Verdict::Open => line(b"open", a, b, 0),
+    }
+}
+
 fn numbers_of(a: u64, at: u32, board: Board) {
     let b = at as u64;
     match board.clue_count() {
-        Counting::Clues(n) => line(b"count", a, b, 0, n as u64),
-        Counting::BadClue(cell) => line(b"count", a, b, 3, cell as u64),
-        Counting::BadMask(cell) => line(b"count", a, b, 9, cell as u64),
+        Counting::Clues(n) => line(b"count", a, b, n as u64),
+        Counting::Refused(stop) => refused(b"count", a, b, stop),
     }
     match board.cell_mask(at) {
-        CellMask::Mask(mask) => line(b"mask", a, b, 0, mask as u64),
-        CellMask::BadClue(cell) => line(b"mask", a, b, 3, cell as u64),
-        CellMask::BadMask(cell) => line(b"mask", a, b, 9, cell as u64),
-        CellMask::NoCell(cell) => line(b"mask", a, b, 5, cell as u64),
+        CellMask::Mask(mask) => line(b"mask", a, b, mask as u64),
+        CellMask::Refused(stop) => refused(b"mask", a, b, stop),
     }
     match board.verdict() {
-        BoardVerdict::Dead => line(b"dead", a, b, 0, 0),
-        BoardVerdict::Finished => line(b"finished", a, b, 0, 0),
-        BoardVerdict::Open => line(b"open", a, b, 0, 0),
-        BoardVerdict::BadClue(cell) => line(b"verdict", a, b, 3, cell as u64),
-        BoardVerdict::BadMask(cell) => line(b"verdict", a, b, 9, cell as u64),
+        BoardVerdict::Is(verdict) => judged(a, b, verdict),
+        BoardVerdict::Refused(stop) => refused(b"verdict", a, b, stop),
     }
 }
 
@@ -155,7 +143,7 @@ fn calls(a: u64, at: u32, board: Board) {
     let updated_answer = updated.answer;
     let after = updated.board.masks;
     checked(b"update", a, b, updated_answer, mask_sum(&after));
-    line(b"left", a, b, 0, mask_sum(&after));
+    line(b"left", a, b, mask_sum(&after));
     numbers_of(a, at, board);
 }
 

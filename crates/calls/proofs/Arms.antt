@@ -2,50 +2,62 @@
 use mathlib.Core.Path.{_≡_, refl, sym, ap, _∙_, subst}
 use mathlib.Core.Bool.{Bool, false}
 use mathlib.Core.List.{List, [], map}
-use mathlib.Core.Option.{Option, none, some}
+use mathlib.Core.Option.{Option, none, some, Option·map}
 use Prim.Native.Nat.{ℕ, _≤_}
-use lib.IntN.{ℤ, pos}
 use lib.ListN.{getD, List·getD-eq-default}
-use Rattle.candidates.specs.Answer.{Answer, gives, stop}
+use Rattle.stops.specs.Answer as answers
+use Rattle.stops.specs.Answer.{Answer, gives, stop, valueOr, passing, progressAnswer}
+use Rattle.stops.proofs.Answers.{map-map}
 use Rattle.steps.specs.Boards as S
 use Rattle.steps.specs.Boards.{givensOf}
-use Rattle.steps.specs.Calls.{Call, updateCandidates, nakedPairsCall, boxLineCall, xWingCall, nakedSinglesCall, hiddenSinglesCall, advancedCall, wide, settling, chainCall, Outcome, refusal, checked, outcome, answer, left}
+use Rattle.steps.specs.Calls.{Call, updateCandidates, nakedPairsCall, boxLineCall, xWingCall, nakedSinglesCall, hiddenSinglesCall, advancedCall, wide, settlingCall, chainCall, Outcome, checkOf, outcome, answer, left}
 use Rattle.steps.specs.Passes.{Kind}
+use Rattle.steps.specs.Singles.{Report}
 use Rattle.board.specs.Boards.{boardOf}
-use Rattle.progress.specs.Answers.{progressAnswer, flagOf, reportsIn, Eliminates}
-use Rattle.progress.specs.declared.Eliminated.{Eliminated}
 use Rattle.techniques.specs.Reports.{reportsOf}
 use Rattle.techniques.specs.Techniques.{Finds}
 use Rattle.techniques.specs.declared.Reported.{Reported}
 use Rattle.passes.specs.Settlings.{settlingAnswer, countsOf, Settles}
-use Rattle.passes.specs.declared.calls.SettledBoard.{SettledBoard}
-use Rattle.calls.specs.StepNumbers.{stepCalls, callOf, answerOr20, stepAnswer, idle, sweepsOf, removedOf, Hands, HandsReports, HandsBack}
+use Rattle.passes.specs.declared.Counts.{Counts}
+use Rattle.passes.specs.declared.SettledBoard.{SettledBoard}
+use Rattle.eliminations.specs.Eliminations.{Eliminates}
+use Rattle.eliminations.specs.declared.Eliminated.{Eliminated}
+use Rattle.calls.specs.StepNumbers.{stepCalls, stepCall, stepAnswer, outcomeOr, Hands, HandsBack}
 use Rattle.calls.specs.declared.Stepped.{Stepped}
 
 -- ---- the call of a number
 
 module _ (b : S.Board) where
   -- the step whose number is j
-  pub step-is : (k : Call) (j : ℕ) {n : ℕ} → n ≡ j → getD (map some stepCalls) j none ≡ some k → answer k b ≡ stepAnswer n b
-  unfolding stepAnswer callOf
-  step-is k j {n} e is = ap (λ (o : Option Call). answerOr20 n o b) (sym (ap (λ (i : ℕ). getD (map some stepCalls) i none) e ∙ is))
+  pub step-is : (k : Call) (j : ℕ) {n : ℕ} → n ≡ j → getD (map some stepCalls) j none ≡ some k → some (answer k b) ≡ stepAnswer n b
+  unfolding stepAnswer stepCall
+  step-is k j e is = ap (Option·map (λ (k : Call). answer k b)) (sym (ap (λ (i : ℕ). getD (map some stepCalls) i none) e ∙ is))
 
   -- a number past all of them
-  pub no-step-is : {n : ℕ} → 14 ≤ n → stop 20 (pos n) ≡ stepAnswer n b
-  unfolding stepAnswer callOf
-  no-step-is {n} past = ap (λ (o : Option Call). answerOr20 n o b) (sym (List·getD-eq-default (map some stepCalls) none past))
+  pub no-step-is : {n : ℕ} → 14 ≤ n → none ≡ stepAnswer n b
+  unfolding stepAnswer stepCall
+  no-step-is past = ap (Option·map (λ (k : Call). answer k b)) (sym (List·getD-eq-default (map some stepCalls) none past))
 
--- ---- what an answer does not speak of
+-- ---- parts of an answer
 
--- f says a of every refusal, and of the outcome
-module _ {A : Type 0} (f : Answer Outcome → A) (a : A) (refused : (n : ℕ) (z : ℤ) → f (stop n z) ≡ a) where
-  unspoken : (k : Call) (b : S.Board) → f (gives (outcome k (givensOf (b .clues)) (b .masks))) ≡ a → f (answer k b) ≡ a
+-- two parts that are the same of the outcome
+module _ {A : Type 0} (f g : Outcome → A) (k : Call) (b : S.Board) where
+  same-part : f (outcome k (givensOf (b .clues)) (b .masks)) ≡ g (outcome k (givensOf (b .clues)) (b .masks)) → answers.map f (answer k b) ≡ answers.map g (answer k b)
   unfolding answer
-  unspoken k b said = go (refusal b)
+  same-part e = go (checkOf b)
     where
-      go : (o : Option (ℕ × ℕ)) → f (checked o (outcome k (givensOf (b .clues)) (b .masks))) ≡ a
-      go none = said
-      go (some r) = refused (r .0) (pos (r .1))
+      go : (a : Answer (Unit {0})) → answers.map f (passing a (outcome k (givensOf (b .clues)) (b .masks))) ≡ answers.map g (passing a (outcome k (givensOf (b .clues)) (b .masks)))
+      go (gives u) = ap gives e
+      go (stop s) = refl
+
+-- what an outcome does not speak of
+module _ {A : Type 0} (z : A) (part : Outcome → A) (k : Call) (b : S.Board) where
+  constant : (a : Answer Outcome) → valueOr z (answers.map (λ (o : Outcome). z) a) ≡ z
+  constant (gives o) = refl
+  constant (stop s) = refl
+
+  unspoken : part (outcome k (givensOf (b .clues)) (b .masks)) ≡ z → z ≡ outcomeOr z part (some (answer k b))
+  unspoken said = sym (ap (valueOr z) (same-part part (λ (o : Outcome). z) k b said) ∙ constant (answer k b))
 
 -- a call that counts nothing, and one that reports nothing either
 abbrev pub Uncounted : Call → Type 0
@@ -54,80 +66,69 @@ Uncounted k = (g m : List ℕ) → (outcome k g m .sweeps ≡ 0) × (outcome k g
 abbrev pub Quiet : Call → Type 0
 Quiet k = (g m : List ℕ) → (outcome k g m .sweeps ≡ 0) × (outcome k g m .removed ≡ 0) × (outcome k g m .reports ≡ [])
 
-counts-too : (k : Call) → Quiet k → Uncounted k
-counts-too k q g m = (q g m .0, q g m .1)
-
 module _ (k : Call) (b : S.Board) where
-  no-sweeps : Uncounted k → sweepsOf (countsOf (answer k b)) ≡ 0
-  no-sweeps q = unspoken (λ (a : Answer Outcome). sweepsOf (countsOf a)) 0 (λ n z. refl) k b (q (givensOf (b .clues)) (b .masks) .0)
+  no-sweeps : outcome k (givensOf (b .clues)) (b .masks) .sweeps ≡ 0 → 0 ≡ outcomeOr 0 (λ (o : Outcome). o .sweeps) (some (answer k b))
+  no-sweeps = unspoken 0 (λ (o : Outcome). o .sweeps) k b
 
-  none-removed : Uncounted k → removedOf (countsOf (answer k b)) ≡ 0
-  none-removed q = unspoken (λ (a : Answer Outcome). removedOf (countsOf a)) 0 (λ n z. refl) k b (q (givensOf (b .clues)) (b .masks) .1)
+  none-removed : outcome k (givensOf (b .clues)) (b .masks) .removed ≡ 0 → 0 ≡ outcomeOr 0 (λ (o : Outcome). o .removed) (some (answer k b))
+  none-removed = unspoken 0 (λ (o : Outcome). o .removed) k b
 
-  no-reports : Quiet k → reportsIn (answer k b) ≡ []
-  no-reports q = unspoken reportsIn [] (λ n z. refl) k b (q (givensOf (b .clues)) (b .masks) .2)
+  no-reports : outcome k (givensOf (b .clues)) (b .masks) .reports ≡ [] → [] ≡ outcomeOr [] (λ (o : Outcome). o .reports) (some (answer k b))
+  no-reports = unspoken [] (λ (o : Outcome). o .reports) k b
 
--- ---- what a step hands back, from what its call ensures; a is the step's answer
+-- ---- what a step hands back, from what its call ensures; o is the step's answer
 
-module _ (k : Call) (b : S.Board) {a : Answer Outcome} (is : answer k b ≡ a) {r : Stepped} where
+module _ (k : Call) (b : S.Board) {o : Option (Answer Outcome)} (is : some (answer k b) ≡ o) {r : Stepped} where
   -- its flag and its board are told, and it says nothing else
-  pub quiet-hands : Quiet k → {f : Answer Bool} {c : S.Board} → f ≡ flagOf (answer k b) → c ≡ left b (answer k b) → Hands r f c [] 0 0 → HandsBack r b a
+  pub quiet-hands : Quiet k → {f : Answer Bool} {c : S.Board} → f ≡ answers.map (λ (o : Outcome). o .flag) (answer k b) → c ≡ left b (answer k b) → Hands r (some f) c (reportsOf []) 0 0 → HandsBack r b o
   quiet-hands q flag board h =
+      let w = q (givensOf (b .clues)) (b .masks) in
       subst (HandsBack r b) is
       record {
-        answer = h .answer ∙ flag;
+        flag = h .flag ∙ ap some flag;
         board = h .board ∙ board;
-        reports = h .reports ∙ ap reportsOf (sym (no-reports k b q));
-        sweeps = h .sweeps ∙ sym (no-sweeps k b (counts-too k q));
-        removed = h .removed ∙ sym (none-removed k b (counts-too k q));
+        reports = h .reports ∙ ap reportsOf (no-reports k b (w .2));
+        sweeps = h .sweeps ∙ no-sweeps k b (w .0);
+        removed = h .removed ∙ none-removed k b (w .1);
       }
 
-  pub elimination-hands : Quiet k → (d : Eliminated) → Eliminates k b d → Hands r (progressAnswer (d .answer)) (boardOf (d .board)) [] 0 0 → HandsBack r b a
-  elimination-hands q d told h = quiet-hands q (told .0) (told .1) h
+  pub elimination-hands : Quiet k → (d : Eliminated) → Eliminates k b d → Hands r (some (progressAnswer (d .answer))) (boardOf (d .board)) (reportsOf []) 0 0 → HandsBack r b o
+  elimination-hands q d e h = quiet-hands q (e .flag) (e .board) h
 
-  pub reports-hands : Uncounted k → (d : Reported) → Finds k b d → HandsReports r (progressAnswer (d .answer)) (boardOf (d .board)) (d .reports) 0 0 → HandsBack r b a
-  reports-hands q d told h =
+  pub reports-hands : Uncounted k → (d : Reported) → Finds k b d → Hands r (some (progressAnswer (d .answer))) (boardOf (d .board)) (d .reports) 0 0 → HandsBack r b o
+  reports-hands q d e h =
+      let w = q (givensOf (b .clues)) (b .masks) in
       subst (HandsBack r b) is
       record {
-        answer = h .answer ∙ told .0;
-        board = h .board ∙ told .1;
-        reports = h .reports ∙ told .2;
-        sweeps = h .sweeps ∙ sym (no-sweeps k b q);
-        removed = h .removed ∙ sym (none-removed k b q);
+        flag = h .flag ∙ ap some (e .flag);
+        board = h .board ∙ e .board;
+        reports = h .reports ∙ e .reports;
+        sweeps = h .sweeps ∙ no-sweeps k b (w .0);
+        removed = h .removed ∙ none-removed k b (w .1);
       }
 
-settling-idle : (b : S.Board) → idle (countsOf (answer settling b)) ≡ flagOf (answer settling b)
-unfolding answer outcome
-settling-idle b = go (refusal b)
-  where
-    go : (o : Option (ℕ × ℕ)) → idle (countsOf (checked o (outcome settling (givensOf (b .clues)) (b .masks)))) ≡ flagOf (checked o (outcome settling (givensOf (b .clues)) (b .masks)))
-    go none = refl
-    go (some r) = refl
+-- what settling counts
+counted : {A : Type 0} (f : Counts → A) (b : S.Board) (d : SettledBoard) → Settles b d → answers.map f (settlingAnswer (d .answer)) ≡ answers.map (λ (o : Outcome). f (countsOf o)) (answer settlingCall b)
+counted f b d e = ap (answers.map f) (e .counts) ∙ map-map f countsOf (answer settlingCall b)
 
-settling-silent : (b : S.Board) → reportsIn (answer settling b) ≡ []
+pub settling-hands : (b : S.Board) {o : Option (Answer Outcome)} → some (answer settlingCall b) ≡ o → {r : Stepped} (d : SettledBoard) → Settles b d
+    → Hands r (some (answers.map (λ _. false) (settlingAnswer (d .answer)))) (boardOf (d .board)) (reportsOf []) (valueOr 0 (answers.map (λ (k : Counts). k .sweeps) (settlingAnswer (d .answer)))) (valueOr 0 (answers.map (λ (k : Counts). k .removed) (settlingAnswer (d .answer))))
+    → HandsBack r b o
 unfolding outcome
-settling-silent b = unspoken reportsIn [] (λ n z. refl) settling b refl
-
-pub settling-hands : (b : S.Board) {a : Answer Outcome} → answer settling b ≡ a → {r : Stepped} (d : SettledBoard) → Settles b d
-    → Hands r (idle (settlingAnswer (d .answer))) (boardOf (d .board)) [] (sweepsOf (settlingAnswer (d .answer))) (removedOf (settlingAnswer (d .answer))) → HandsBack r b a
-settling-hands b is {r} d told h =
+settling-hands b is {r} d e h =
     subst (HandsBack r b) is
     record {
-      answer = h .answer ∙ ap idle (told .0) ∙ settling-idle b;
-      board = h .board ∙ told .1;
-      reports = h .reports ∙ ap reportsOf (sym (settling-silent b));
-      sweeps = h .sweeps ∙ ap sweepsOf (told .0);
-      removed = h .removed ∙ ap removedOf (told .0);
+      flag = h .flag ∙ ap some (counted (λ _. false) b d e ∙ same-part (λ (o : Outcome). false) (λ (o : Outcome). o .flag) settlingCall b refl);
+      board = h .board ∙ e .board;
+      reports = h .reports ∙ ap reportsOf (no-reports settlingCall b refl);
+      sweeps = h .sweeps ∙ ap (valueOr 0) (counted (λ (k : Counts). k .sweeps) b d e);
+      removed = h .removed ∙ ap (valueOr 0) (counted (λ (k : Counts). k .removed) b d e);
     }
 
 -- `update_candidates` has no flag
-pub update-flag : (b : S.Board) {o : Option (ℕ × ℕ)} → o ≡ refusal b → checked o false ≡ flagOf (answer updateCandidates b)
+pub update-flag : (b : S.Board) {a : Answer (Unit {0})} → a ≡ checkOf b → passing a false ≡ answers.map (λ (o : Outcome). o .flag) (answer updateCandidates b)
 unfolding answer outcome
-update-flag b {o} same = go o ∙ ap (λ (o : Option (ℕ × ℕ)). flagOf (checked o (outcome updateCandidates (givensOf (b .clues)) (b .masks)))) same
-  where
-    go : (o : Option (ℕ × ℕ)) → checked o false ≡ flagOf (checked o (outcome updateCandidates (givensOf (b .clues)) (b .masks)))
-    go none = refl
-    go (some r) = refl
+update-flag b e = ap (λ (a : Answer (Unit {0})). passing a false) e ∙ sym (map-map (λ (o : Outcome). o .flag) (λ _. outcome updateCandidates (givensOf (b .clues)) (b .masks)) (checkOf b))
 
 -- ---- the calls that report nothing or count nothing
 

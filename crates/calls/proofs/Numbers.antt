@@ -13,7 +13,7 @@ use Rattle.steps.specs.Calls.{Call, chainCall, isChain, withoutChain}
 use Rattle.steps.specs.Loops.{upTo}
 use Rattle.steps.proofs.Loops.{none-first, in-upTo}
 use Rattle.calls.specs.Replays.{firstNoStep, consCall, callsOf}
-use Rattle.calls.specs.StepNumbers.{stepCalls, callOf, isCall, isStep}
+use Rattle.calls.specs.StepNumbers.{stepCalls, stepCall, isCall, isStep}
 
 -- a list's members have the numbers below its length
 numbers : (ks : List Call) (n : ℕ) → isCall (getD (map some ks) n none) ≡ ltb n (length ks)
@@ -26,7 +26,7 @@ numbers (k ∷ ks) (suc n) = numbers ks n ∙ below (ltb n (length ks)) refl
     below false e = e ∙ sym (le-ltb (suc n) (length (k ∷ ks)) (omega (arith, ltb-false n (length ks) e)))
 
 pub steps-below : (n : ℕ) → ltb n 14 ≡ isStep n
-unfolding callOf
+unfolding stepCall
 steps-below n = sym (numbers stepCalls n)
 
 -- where no call of cs is the chain pass, the number of one of them adds none to a list
@@ -38,7 +38,7 @@ unchained-at (c ∷ cs) rest t (suc n) h ks u = unchained-at cs rest (both-right
 
 -- a list of numbers below 13
 pub unchained-calls : (ns : List ℕ) → ((i : ℕ) → i < length ns → getD ns i 0 < 13) → withoutChain (callsOf ns) ≡ true
-unfolding callsOf callOf
+unfolding callsOf stepCall
 unchained-calls [] h = refl
 unchained-calls (n ∷ ns) h =
     unchained-at (take 13 stepCalls) (chainCall ∷ []) refl n (h 0 (omega arith)) (callsOf ns) (unchained-calls ns (λ i k. h (suc i) (omega arith)))

@@ -7,21 +7,21 @@ use mathlib.Core.Option.{none}
 use Prim.Native.Nat.{ℕ, _+_, _-_, _≤_, _<_}
 use lib.IntN.{ℤ}
 use lib.ListN.{length, getD}
+use Rattle.stops.specs.Answer.{gives, valueOr}
+use Rattle.stops.specs.declared.Progress.the-variants as progress
 use Rattle.grid.specs.Fillings.{verified}
 use Rattle.steps.specs.Boards.{givensOf, total}
-use Rattle.steps.specs.Calls.{Call, withoutChain, wide, refusal, Admitted, answer, left, opened, run}
-use Rattle.steps.specs.Demand3.{Clues}
+use Rattle.steps.specs.Calls.{Call, withoutChain, wide, checkOf, Admitted, answer, left, opened, run}
+use Rattle.steps.specs.Calls.{Clues}
 use Rattle.steps.specs.Fillings.{KeepsClues, InMasks}
 use Rattle.steps.specs.Passes.{Kind, pass, sweep, swept, changed, Settled}
-use Rattle.board.specs.Answers.{beside}
 use Rattle.board.specs.Boards.{boardOf, noBoard, openOf}
 use Rattle.board.specs.declared.Board.{Board}
-use Rattle.progress.specs.Answers.{Eliminates}
-use Rattle.progress.specs.declared.Eliminated.{Eliminated}
-use Rattle.progress.specs.declared.Progress.the-variants as progress
 use Rattle.passes.specs.Settlings.{Settles}
-use Rattle.passes.specs.declared.calls.SettledBoard.{SettledBoard}
-use Rattle.passes.specs.declared.calls.Settling.the-variants as settling
+use Rattle.passes.specs.declared.SettledBoard.{SettledBoard}
+use Rattle.passes.specs.declared.Settling.the-variants as settling
+use Rattle.eliminations.specs.Eliminations.{Eliminates}
+use Rattle.eliminations.specs.declared.Eliminated.{Eliminated}
 use Rattle.calls.specs.Replays.{firstNoStep, callsOf, Replays}
 use Rattle.calls.specs.declared.Replayed.{Replayed}
 use Rattle.calls.specs.declared.Replaying.the-variants as replaying
@@ -31,9 +31,9 @@ abbrev pub After : List ℤ → List Call → Board → Type 0
 After clues ks b = boardOf b ≡ run ks (opened clues)
 
 -- A list of step numbers "without the chain pass".
-pub record Unchained (ns : List ℕ) : Type 0 where
+pub record StepsWithoutChain (ns : List ℕ) : Type 0 where
   pub steps : firstNoStep ns ≡ none
-  pub unchained : withoutChain (callsOf ns) ≡ true
+  pub without : withoutChain (callsOf ns) ≡ true
 
 -- "A board is settled when none of the five wide steps would remove a candidate."
 abbrev pub IsSettled : Board → Type 0
@@ -47,14 +47,14 @@ pub record Ends (clues : List ℤ) (B C : Board) : Type 0 where
   pub fillings : (f : List ℤ) → length f ≡ 81 → verified f ≡ true → InMasks (B .masks) f ↔ KeepsClues clues f
 
 -- "each wide pass gives the board and the answer of document 01's module 8"
-pub record Passes (k : Kind) (b : Board) (r : Eliminated) : Type 0 where
+pub record PassDone (k : Kind) (b : Board) (r : Eliminated) : Type 0 where
   pub answer : r .answer ≡ progress.Made (changed (b .masks) (pass (givensOf (b .clues)) k (b .masks)))
   pub clues : r .board .clues ≡ b .clues
   pub masks : r .board .masks ≡ pass (givensOf (b .clues)) k (b .masks)
 
 -- Settling from the board b, in n sweeps that remove x candidates.
-pub record Settling (b : Board) (r : SettledBoard) (n x : ℕ) : Type 0 where
-  pub answer : r .answer ≡ settling.Settled n x
+pub record SettlingDone (b : Board) (r : SettledBoard) (n x : ℕ) : Type 0 where
+  pub answer : r .answer ≡ settling.Counted n x
   pub clues : r .board .clues ≡ b .clues
   -- "the settling call, by sweeps of those passes, ends on a settled one"
   pub masks : r .board .masks ≡ swept (givensOf (b .clues)) (n - 1) (b .masks)
@@ -70,17 +70,17 @@ pub record Settling (b : Board) (r : SettledBoard) (n x : ℕ) : Type 0 where
 
 pub record Demand3 : Type 0 where
   -- Which boards are those after a list: the one that `Board::new` opens after none; what a call hands back after one call more, where the equation is its contract's; what `replay` hands back.
-  pub opens : (clues : List ℤ) → Clues clues → (b : Board) → boardOf b ≡ beside (openOf clues) noBoard → After clues [] b
+  pub opens : (clues : List ℤ) → Clues clues → (b : Board) → boardOf b ≡ valueOr noBoard (openOf clues) → After clues [] b
   pub calls : (clues : List ℤ) (ks : List Call) (b : Board) → After clues ks b → (k : Call) (c : Board) → boardOf c ≡ left (boardOf b) (answer k (boardOf b)) → After clues (ks ++ k ∷ []) c
   pub replays : (clues : List ℤ) → Clues clues → (ns : List ℕ) → firstNoStep ns ≡ none → (r : Replayed) → Replays clues ns r
       → (r .answer ≡ replaying.Done) × After clues (callsOf ns) (r .board)
   -- "on these boards stops 3 and 9 never occur", the chain pass among the calls or not
-  pub taken : (clues : List ℤ) → Clues clues → (ks : List Call) (b : Board) → After clues ks b → refusal (boardOf b) ≡ none
+  pub taken : (clues : List ℤ) → Clues clues → (ks : List Call) (b : Board) → After clues ks b → checkOf (boardOf b) ≡ gives tt
   -- "any clue grid of 0 to 9 and any two lists of document 01's board calls without the chain pass"
   pub lists : (clues : List ℤ) → Clues clues → (ks ls : List Call) → withoutChain ks ≡ true → withoutChain ls ≡ true → (B C : Board) → After clues ks B → After clues ls C → Ends clues B C
   -- and so of any two values that `replay` hands back; step numbers below 13 are those of the calls without the chain pass
-  pub replayed : (clues : List ℤ) → Clues clues → (ns ms : List ℕ) → Unchained ns → Unchained ms → (B C : Replayed) → Replays clues ns B → Replays clues ms C → Ends clues (B .board) (C .board)
-  pub below : (ns : List ℕ) → ((i : ℕ) → i < length ns → getD ns i 0 < 13) → Unchained ns
+  pub replayed : (clues : List ℤ) → Clues clues → (ns ms : List ℕ) → StepsWithoutChain ns → StepsWithoutChain ms → (B C : Replayed) → Replays clues ns B → Replays clues ms C → Ends clues (B .board) (C .board)
+  pub below : (ns : List ℕ) → ((i : ℕ) → i < length ns → getD ns i 0 < 13) → StepsWithoutChain ns
   -- `apply_lone` to `apply_cross`, and `apply_settling`, "handed any board that no listed stop refuses"
-  pub passes : (k : Kind) (b : Board) → Admitted (boardOf b) → (r : Eliminated) → Eliminates (wide k) (boardOf b) r → Passes k b r
-  pub settling : (b : Board) → Admitted (boardOf b) → (r : SettledBoard) → Settles (boardOf b) r → (n : ℕ) × (x : ℕ) × Settling b r n x
+  pub passes : (k : Kind) (b : Board) → Admitted (boardOf b) → (r : Eliminated) → Eliminates (wide k) (boardOf b) r → PassDone k b r
+  pub settling : (b : Board) → Admitted (boardOf b) → (r : SettledBoard) → Settles (boardOf b) r → (n : ℕ) × (x : ℕ) × SettlingDone b r n x

@@ -4,15 +4,14 @@ use mathlib.Core.Bool.{not}
 use mathlib.Core.List.{List, [], _∷_}
 use mathlib.Core.Option.{Option, none, some}
 use Prim.Native.Nat.{ℕ}
-use lib.IntN.{ℤ, pos}
+use lib.IntN.{ℤ}
 use lib.ListN.{length, getD}
-use Rattle.candidates.specs.Answer.{Answer, gives, stop}
+use Rattle.stops.specs.Answer.{Answer, gives, stop, map}
 use Rattle.steps.specs.Boards as S
 use Rattle.steps.specs.Calls.{Call, run}
 use Rattle.steps.specs.Loops.{first, upTo}
-use Rattle.board.specs.Answers.{beside}
 use Rattle.board.specs.Boards.{boardOf, noBoard, openOf}
-use Rattle.calls.specs.StepNumbers.{callOf, isStep}
+use Rattle.calls.specs.StepNumbers.{stepCall, isStep}
 use Rattle.calls.specs.declared.Replayed.{Replayed}
 use Rattle.calls.specs.declared.Replaying.{Replaying}
 use Rattle.calls.specs.declared.Replaying.the-variants as replaying
@@ -28,26 +27,33 @@ consCall (some k) ks = k ∷ ks
 
 unfoldable pub callsOf : List ℕ → List Call
 callsOf [] = []
-callsOf (n ∷ ns) = consCall (callOf n) (callsOf ns)
+callsOf (n ∷ ns) = consCall (stepCall n) (callsOf ns)
 
--- the board after a list of steps; stop 3 of the opener, then 20, which is no stop of the paper, with the index of the first number that is no step's
-abbrev pub runOr20 : Option ℕ → List Call → S.Board → Answer S.Board
-runOr20 none ks b = gives (run ks b)
-runOr20 (some i) ks b = stop 20 (pos i)
+-- the board after a list of steps; or the index of the first number that is no step's, and then nothing is run
+pub data Run : Type 0 where
+  ran : S.Board → Run
+  noStep : ℕ → Run
 
-abbrev pub openedThen : Answer S.Board → (S.Board → Answer S.Board) → Answer S.Board
-openedThen (gives b) f = f b
-openedThen (stop n z) f = stop n z
+abbrev pub runOr : Option ℕ → List Call → S.Board → Run
+runOr none ks b = ran (run ks b)
+runOr (some i) ks b = noStep i
 
-unfoldable pub replayOf : List ℤ → List ℕ → Answer S.Board
-replayOf clues ns = openedThen (openOf clues) (runOr20 (firstNoStep ns) (callsOf ns))
+-- the opener's stop comes first
+unfoldable pub replayOf : List ℤ → List ℕ → Answer Run
+replayOf clues ns = map (runOr (firstNoStep ns) (callsOf ns)) (openOf clues)
 
-abbrev pub replayingAnswer : Replaying → S.Board → Answer S.Board
-replayingAnswer replaying.Done b = gives b
-replayingAnswer (replaying.BadClue c) b = stop 3 (pos c)
-replayingAnswer (replaying.NoStep i) b = stop 20 (pos i)
+abbrev pub replayingAnswer : Replaying → S.Board → Answer Run
+replayingAnswer replaying.Done b = gives (ran b)
+replayingAnswer (replaying.Refused s) b = stop s
+replayingAnswer (replaying.NoStep i) b = gives (noStep i)
 
--- what `replay` hands back; zeros beside a refusal
+-- the board that was reached; zeros where none was
+abbrev pub reached : Answer Run → S.Board
+reached (gives (ran b)) = b
+reached (gives (noStep i)) = noBoard
+reached (stop s) = noBoard
+
+-- what `replay` hands back
 pub record Replays (clues : List ℤ) (ns : List ℕ) (r : Replayed) : Type 0 where
   pub answer : replayingAnswer (r .answer) (boardOf (r .board)) ≡ replayOf clues ns
-  pub board : boardOf (r .board) ≡ beside (replayOf clues ns) noBoard
+  pub board : boardOf (r .board) ≡ reached (replayOf clues ns)

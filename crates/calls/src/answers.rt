@@ -2,27 +2,27 @@
 ghost use mathlib.Core.Path.{_≡_};
 ghost use mathlib.Core.Bool.{false};
 ghost use mathlib.Core.List.{[]};
-ghost use Rattle.steps.specs.Calls.{checked};
-ghost use Rattle.board.specs.Answers.{refusalOf};
+ghost use mathlib.Core.Option.{some};
+ghost use Rattle.stops.specs.Answer.{checkAnswer, map, passing, progressAnswer, valueOr};
 ghost use Rattle.board.specs.Boards.{boardOf};
+ghost use Rattle.techniques.specs.Reports.{reportsOf};
 ghost use Rattle.passes.specs.Settlings.{settlingAnswer};
-ghost use Rattle.progress.specs.Answers.{progressAnswer};
-ghost use Rattle.calls.specs.StepNumbers.{Hands, HandsReports, steppingAnswer, idle, sweepsOf, removedOf};
+ghost use Rattle.calls.specs.StepNumbers.{Hands, steppingAnswer};
 use crate::Stepped;
 use crate::Stepping;
 use board::Board;
 use board::Updated;
-use passes::calls::SettledBoard;
-use passes::calls::Settling;
-use progress::Eliminated;
-use progress::Progress;
-use progress::answered;
+use eliminations::Eliminated;
+use passes::SettledBoard;
+use passes::Settling;
+use stops::Check;
+use stops::Progress;
 use techniques::Reported;
 use techniques::singles::Reports;
 
 // A step that reports and counts nothing.
 pub fn quiet(answer: Stepping, board: Board) -> Stepped
-    ensures { λ r. ⌜ Hands r (steppingAnswer answer) (boardOf board) [] 0 0 ⌝ }
+    ensures { λ r. ⌜ Hands r (steppingAnswer answer) (boardOf board) (reportsOf []) 0 0 ⌝ }
 {
     Stepped {
         answer,
@@ -34,17 +34,16 @@ pub fn quiet(answer: Stepping, board: Board) -> Stepped
 }
 
 fn of_progress(progress: Progress) -> Stepping
-    ensures { λ r. ⌜ steppingAnswer r ≡ progressAnswer progress ⌝ }
+    ensures { λ r. ⌜ steppingAnswer r ≡ some (progressAnswer progress) ⌝ }
 {
     match progress {
         Progress::Made(made) => Stepping::Made(made),
-        Progress::BadClue(cell) => Stepping::BadClue(cell),
-        Progress::BadMask(cell) => Stepping::BadMask(cell),
+        Progress::Refused(stop) => Stepping::Refused(stop),
     }
 }
 
 pub fn of_elimination(done: Eliminated) -> Stepped
-    ensures { λ r. ⌜ Hands r (progressAnswer (done .answer)) (boardOf (done .board)) [] 0 0 ⌝ }
+    ensures { λ r. ⌜ Hands r (some (progressAnswer (done .answer))) (boardOf (done .board)) (reportsOf []) 0 0 ⌝ }
 {
     let progress = done.answer;
     let board = done.board;
@@ -53,15 +52,18 @@ pub fn of_elimination(done: Eliminated) -> Stepped
 
 // `update_candidates` has no flag.
 pub fn of_update(done: Updated) -> Stepped
-    ensures { λ r. ⌜ Hands r (checked (refusalOf (done .answer)) false) (boardOf (done .board)) [] 0 0 ⌝ }
+    ensures { λ r. ⌜ Hands r (some (passing (checkAnswer (done .answer)) false)) (boardOf (done .board)) (reportsOf []) 0 0 ⌝ }
 {
     let check = done.answer;
     let board = done.board;
-    quiet(of_progress(answered(check, false)), board)
+    match check {
+        Check::Passed => quiet(Stepping::Made(false), board),
+        Check::Refused(stop) => quiet(Stepping::Refused(stop), board),
+    }
 }
 
 pub fn of_reports(done: Reported) -> Stepped
-    ensures { λ r. ⌜ HandsReports r (progressAnswer (done .answer)) (boardOf (done .board)) (done .reports) 0 0 ⌝ }
+    ensures { λ r. ⌜ Hands r (some (progressAnswer (done .answer))) (boardOf (done .board)) (done .reports) 0 0 ⌝ }
 {
     let progress = done.answer;
     let board = done.board;
@@ -77,19 +79,18 @@ pub fn of_reports(done: Reported) -> Stepped
 
 // Settling has no flag, and counts.
 pub fn of_settling(done: SettledBoard) -> Stepped
-    ensures { λ r. ⌜ Hands r (idle (settlingAnswer (done .answer))) (boardOf (done .board)) [] (sweepsOf (settlingAnswer (done .answer))) (removedOf (settlingAnswer (done .answer))) ⌝ }
+    ensures { λ r. ⌜ Hands r (some (map (λ _. false) (settlingAnswer (done .answer)))) (boardOf (done .board)) (reportsOf []) (valueOr 0 (map (λ k. k .sweeps) (settlingAnswer (done .answer)))) (valueOr 0 (map (λ k. k .removed) (settlingAnswer (done .answer)))) ⌝ }
 {
     let settling = done.answer;
     let board = done.board;
     match settling {
-        Settling::Settled(sweeps, removed) => Stepped {
+        Settling::Counted(sweeps, removed) => Stepped {
             answer: Stepping::Made(false),
             board,
             reports: Reports::new(),
             sweeps,
             removed,
         },
-        Settling::BadClue(cell) => quiet(Stepping::BadClue(cell), board),
-        Settling::BadMask(cell) => quiet(Stepping::BadMask(cell), board),
+        Settling::Refused(stop) => quiet(Stepping::Refused(stop), board),
     }
 }

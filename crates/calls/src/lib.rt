@@ -4,18 +4,18 @@ ghost use Rattle.calls.specs.Replays.{Replays};
 ghost use Rattle.calls.specs.StepNumbers.{HandsBack, stepAnswer};
 use board::Board;
 use board::Found;
-use board::Opening;
+use stops::Check;
+use stops::Stop;
 use techniques::singles::Reports;
 
 mod answers;
 mod lists;
 
-// What a step answers: whether there was progress, the first cell of stop 3 or of stop 9, or the number that is no step's.
+// What a step answers: whether there was progress, or that its number is no step's.
 pub enum Stepping {
     Made(bool),
-    BadClue(usize),
-    BadMask(usize),
-    NoStep(u8),
+    Refused(Stop),
+    NoStep,
 }
 
 // All that a step hands back. What its call does not speak of is false, empty or 0; beside a refusal the board is as it was.
@@ -33,31 +33,31 @@ pub fn step(number: u8, board: Board) -> Stepped
 {
     match number {
         0 => answers::of_update(board.update_candidates()),
-        1 => answers::of_elimination(techniques::apply_naked_pairs(board)),
-        2 => answers::of_elimination(techniques::apply_box_line_reduction(board)),
-        3 => answers::of_elimination(techniques::apply_x_wing(board)),
+        1 => answers::of_elimination(eliminations::apply_naked_pairs(board)),
+        2 => answers::of_elimination(eliminations::apply_box_line_reduction(board)),
+        3 => answers::of_elimination(eliminations::apply_x_wing(board)),
         4 => answers::of_reports(techniques::apply_naked_singles(board)),
         5 => answers::of_reports(techniques::apply_hidden_singles(board)),
         6 => answers::of_reports(techniques::apply_advanced_techniques(board)),
-        7 => answers::of_elimination(passes::calls::apply_lone(board)),
-        8 => answers::of_elimination(passes::calls::apply_place(board)),
-        9 => answers::of_elimination(passes::calls::apply_pair(board)),
-        10 => answers::of_elimination(passes::calls::apply_pointing(board)),
-        11 => answers::of_elimination(passes::calls::apply_cross(board)),
-        12 => answers::of_settling(passes::calls::apply_settling(board)),
-        13 => answers::of_elimination(chains::apply_alternating_inference_chains(board)),
-        _ => answers::quiet(Stepping::NoStep(number), board),
+        7 => answers::of_elimination(eliminations::apply_lone(board)),
+        8 => answers::of_elimination(eliminations::apply_place(board)),
+        9 => answers::of_elimination(eliminations::apply_pair(board)),
+        10 => answers::of_elimination(eliminations::apply_pointing(board)),
+        11 => answers::of_elimination(eliminations::apply_cross(board)),
+        12 => answers::of_settling(passes::apply_settling(board)),
+        13 => answers::of_elimination(eliminations::apply_alternating_inference_chains(board)),
+        _ => answers::quiet(Stepping::NoStep, board),
     }
 }
 
-// What `replay` answers: the list was run, the first cell of stop 3, or the index of the first byte that is no step number.
+// What `replay` answers: the list was run, or the index of the first byte that is no step number.
 pub enum Replaying {
     Done,
-    BadClue(usize),
+    Refused(Stop),
     NoStep(usize),
 }
 
-// The board after a list of steps; zeros beside a refusal.
+// The board after a list of steps; zeros where it was not run.
 pub struct Replayed {
     pub answer: Replaying,
     pub board: Board,
@@ -71,8 +71,8 @@ pub fn replay(clues: [i32; 81], steps: &[u8]) -> Replayed
     let opening = opened.answer;
     let board = opened.board;
     match opening {
-        Opening::BadClue(cell) => lists::refused(Replaying::BadClue(cell)),
-        Opening::Opened => match lists::first_no_step(steps) {
+        Check::Refused(stop) => lists::refused(Replaying::Refused(stop)),
+        Check::Passed => match lists::first_no_step(steps) {
             Found::At(index) => lists::refused(Replaying::NoStep(index)),
             Found::Nothing => Replayed {
                 answer: Replaying::Done,

@@ -55,9 +55,6 @@ pub fn refused(answer: Replaying) -> Replayed
 {
     Replayed {
         answer,
-        board: Board {
-            clues: [0; 81],
-            masks: [0; 81],
-        },
+        board: Board::zeros(),
     }
 }

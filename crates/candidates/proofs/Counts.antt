@@ -13,7 +13,7 @@ use lib.Count.{ones, ones-step, ones-cat, trailingZeros, trailing-le, under}
 use lib.Dec.{eqb}
 use lib.Pow.{pow-pos, shr-shr}
 use Rattle.candidates.specs.Masks.{bit, has, minus, count, single, firstPlace, lowest, tail, Sub}
-use Rattle.candidates.proofs.Membership.{and-low, bit-and, bit-minus, bit-none, bit-power, single-power, minus-half, minus-low, ext}
+use Rattle.candidates.proofs.Membership.{and-low, bit-and, bit-minus, bit-none, bit-power, minus-half, minus-low, ext}
 use Rattle.candidates.proofs.Order.{sub-le, sub-of-and}
 use Rattle.candidates.proofs.Tests.{by-test, cond-true, cond-false, eqb-iff}
 
@@ -178,20 +178,14 @@ lowest-cleared x p h = subst (λ (t : ℕ). Cleared 16 x t) (lowest-zeros x) (cl
 pub lowest-lt : (x : ℕ) → 0 < x → x < 2 ^ 16 → lowest x < 16
 lowest-lt x p h = lowest-cleared x p h .within
 
-single-lowest : (x : ℕ) → 0 < x → x < 2 ^ 16 → single (lowest x) ≡ 2 ^ lowest x
-single-lowest x p h = single-power (lowest x) (lowest-lt x p h)
-
-lowest-held : (x : ℕ) → 0 < x → x < 2 ^ 16 → bitAnd x (single (lowest x)) ≡ 2 ^ lowest x
-lowest-held x p h = ap (bitAnd x) (single-lowest x p h) ∙ lowest-cleared x p h .held
+lowest-held : (x : ℕ) → 0 < x → x < 2 ^ 16 → bitAnd x (single (lowest x)) ≡ single (lowest x)
+lowest-held x p h = lowest-cleared x p h .held
 
 pub lowest-sub : (x : ℕ) → 0 < x → x < 2 ^ 16 → Sub (2 ^ lowest x) x
-lowest-sub x p h = sub-of-and x (2 ^ lowest x) (lowest-cleared x p h .held)
+lowest-sub x p h = sub-of-and x (2 ^ lowest x) (lowest-held x p h)
 
 pub bit-lowest : (x : ℕ) → 0 < x → x < 2 ^ 16 → bit x (lowest x) ≡ 1
 bit-lowest x p h = omega (arith, lowest-sub x p h .at (lowest x), bit-power (lowest x))
-
-pub tail-rest : (x : ℕ) → 0 < x → x < 2 ^ 16 → tail x ≡ minus x (2 ^ lowest x)
-tail-rest x p h = ap (minus x) (single-lowest x p h)
 
 pub tail-is : (x : ℕ) → 0 < x → x < 2 ^ 16 → bitAnd x (x - 1) ≡ tail x
 tail-is x p h = lowest-cleared x p h .rest ∙ ap (λ (n : ℕ). x - n) (sym (lowest-held x p h))
@@ -221,9 +215,5 @@ test-two x h = go (decLt 0 x)
 
 -- ---- all digits but those of a mask
 
--- the digits outside a mask
-pub bit-except : {k : ℕ} (d : ℕ) → Sub k 511 → bit (511 - k) d ≡ bit 511 d - bit k d
-bit-except {k} d p = ap (λ (n : ℕ). bit (511 - n) d) (sym (sub-and p)) ∙ bit-minus 511 k d
-
-pub and-except : {k : ℕ} → Sub k 511 → bitAnd k (511 - k) ≡ 0
-and-except {k} p = ext (bitAnd k (511 - k)) 0 (λ d. omega (arith, bit-and k (511 - k) d, bit-except d p, bit-none d))
+pub and-except : (k : ℕ) → bitAnd k (minus 511 k) ≡ 0
+and-except k = ext (bitAnd k (minus 511 k)) 0 (λ d. omega (arith, bit-and k (minus 511 k) d, bit-minus 511 k d, bit-none d))

@@ -7,8 +7,8 @@ use native.Mathlib.Decide.{ℕ-discrete}
 use native.Mathlib.Omega.{arith}
 use borrow.Author.Tests.{eq-eqb}
 use lib.Arith.{lt-of-le-ne}
-use Rattle.candidates.specs.Masks.{bit, has, minus, union, count, firstPlace, lowest, tail}
-use Rattle.candidates.proofs.Counts.{count-minus, count-zero, count-some, count-power, sub-and, lowest-le, bit-lowest, tail-rest, count-tail}
+use Rattle.candidates.specs.Masks.{bit, has, minus, union, count, single, firstPlace, lowest, tail}
+use Rattle.candidates.proofs.Counts.{count-minus, count-zero, count-some, count-power, sub-and, lowest-le, bit-lowest, count-tail}
 use Rattle.candidates.proofs.Held.{Held, held-ext, none-held, held-power, held-minus, held-union, held-both, power-sub}
 
 -- d and no other
@@ -59,7 +59,7 @@ module _ (x : ℕ) (small : x < 2 ^ 16) (some : 0 < count x) where
   lowest-held = lowest-in x pos small
 
   pub held-tail : (d : ℕ) → Held (tail x) d ↔ (Held x d × (d ≢ lowest x))
-  held-tail d = rw (tail-rest x pos small) (λ t. down (held-minus x (2 ^ lowest x) d .0 t), λ p. held-minus x (2 ^ lowest x) d .1 (p .0, λ t. p .1 (held-power (lowest x) d .0 t)))
+  held-tail d = (λ t. down (held-minus x (single (lowest x)) d .0 t), λ p. held-minus x (single (lowest x)) d .1 (p .0, λ t. p .1 (held-power (lowest x) d .0 t)))
     where
       down : Held x d × ¬ (Held (2 ^ lowest x) d) → Held x d × (d ≢ lowest x)
       down p = (p .0, λ e. p .1 (held-power (lowest x) d .1 e))

@@ -7,8 +7,8 @@ use native.Mathlib.Decide.{ℕ-discrete, decLt}
 use native.Mathlib.Omega.{arith}
 use borrow.Author.Tests.{eq-eqb, eqb-true}
 use lib.Dec.{eqb, lit≤}
-use Rattle.candidates.specs.Masks.{bit, has, minus, union, single, gather, Sub}
-use Rattle.candidates.proofs.Membership.{single-power, bit-power, bit-other, bit-minus, bit-union, bit-none, bit-all, bit-high, bit-gather, ext}
+use Rattle.candidates.specs.Masks.{bit, has, minus, union, gather, Sub}
+use Rattle.candidates.proofs.Membership.{bit-power, bit-other, bit-minus, bit-union, bit-none, bit-all, bit-high, bit-gather, ext}
 use Rattle.candidates.proofs.Tests.{bool-iff, either}
 
 abbrev pub Held : ℕ → ℕ → Type 0
@@ -80,9 +80,6 @@ held-power a d = (λ t. same (ℕ-discrete a d) t, λ e. rw e (eq-eqb (bit (2 ^ 
 
 pub has-power : (a d : ℕ) → has (2 ^ a) d ≡ eqb d a
 has-power a d = bool-iff (has (2 ^ a) d) (eqb d a) (λ t. eq-eqb d a (held-power a d .0 t)) (λ t. held-power a d .1 (eqb-true d a t))
-
-pub has-single : (d i : ℕ) → d < 16 → has (single d) i ≡ eqb i d
-has-single d i h = ap (λ (x : ℕ). has x i) (single-power d h) ∙ has-power d i
 
 -- ---- without, either
 

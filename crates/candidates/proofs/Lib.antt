@@ -1,5 +1,4 @@
 pub mod Tests
-pub mod Answers
 pub mod Membership
 pub mod Order
 pub mod Counts

@@ -12,7 +12,7 @@ use lib.Bits.{bitAnd, bitOr, and-step, or-step, and-shr, or-shr, and-mask, and-l
 use borrow.Author.Tests.{lt-ltb}
 use lib.Dec.{eqb, ltb, eqb→eq, lit<}
 use lib.Pow.{pow-mono, shr-shr}
-use Rattle.candidates.specs.Masks.{bit, minus, union, single, nine, gather}
+use Rattle.candidates.specs.Masks.{bit, minus, union, single, placeMask, lowNine, gather}
 use Rattle.candidates.proofs.Tests.{below, by-test, cond-true}
 
 -- ---- a bit of a half
@@ -78,8 +78,8 @@ bit-high x n d h k = ap (λ (m : ℕ). m % 2) (div-eq-of-lt (lt-of-lt-of-le h (p
 double : (p : ℕ) → 2 ^ suc p / 2 ≡ 2 ^ p
 double p = omega (arith, pow-suc 2 p)
 
-pub single-power : (d : ℕ) → d < 16 → single d ≡ 2 ^ d
-single-power d h = cond-true (ltb d 16) (2 ^ d) 0 (lt-ltb d 16 h)
+pub place-single : (d : ℕ) → d < 16 → placeMask d ≡ single d
+place-single d h = cond-true (ltb d 16) (single d) 0 (lt-ltb d 16 h)
 
 pub bit-power : (d : ℕ) → bit (2 ^ d) d ≡ 1
 bit-power zero = refl
@@ -95,7 +95,7 @@ bit-other (suc p) (suc d) h =
 pub bit-all : (d : ℕ) → d < 9 → bit 511 d ≡ 1
 bit-all d h = eqb→eq (bit 511 d) 1 (below 9 (λ (k : ℕ). eqb (bit 511 k) 1) tt d h)
 
-pub bit-nine : (x d : ℕ) → d < 9 → bit (nine x) d ≡ bit x d
+pub bit-nine : (x d : ℕ) → d < 9 → bit (lowNine x) d ≡ bit x d
 bit-nine x d h =
     ap (λ (n : ℕ). bit n d) (sym (and-mask x 9)) ∙ bit-and x 511 d ∙ omega (arith, bit-all d h)
 
@@ -133,10 +133,10 @@ bit-gather f (suc n) d h = go (f n) refl (ℕ-discrete d n) (λ k. bit-gather f 
     go false t (no k) ih = rw t (ap (λ (x : ℕ). bit x d) (add-zero (gather f n)) ∙ ih (omega arith))
 
 -- one more place, as code joins it
-pub gather-here : (f : ℕ → Bool) (n : ℕ) → n < 16 → f n ≡ true → union (gather f n) (single n) ≡ gather f (n + 1)
+pub gather-here : (f : ℕ → Bool) (n : ℕ) → f n ≡ true → union (gather f n) (single n) ≡ gather f (n + 1)
 unfolding gather
-gather-here f n h t =
-    ap (union (gather f n)) (single-power n h) ∙ join (gather f n) (gather-lt f n)
+gather-here f n t =
+    join (gather f n) (gather-lt f n)
     ∙ sym (ap (gather f) (add-one n) ∙ ap (λ (b : Bool). gather f n + cond b (2 ^ n) 0) t)
   where
     join : (x : ℕ) → x < 2 ^ n → union x (2 ^ n) ≡ x + 2 ^ n

@@ -13,7 +13,7 @@ use lib.Signed.{nonNeg}
 use mir.Syntax.{w8, w32}
 use mir.Val.{Fits, SFits, toZ, ofZ}
 use mir.Facts.{toZ-ofZ}
-use Rattle.candidates.specs.Masks.{nine, count, lowest}
+use Rattle.candidates.specs.Masks.{lowNine, count, lowest}
 use Rattle.candidates.specs.Sets.{onlyOf}
 use Rattle.candidates.proofs.FewDigits.{One, one-count, count-one}
 use Rattle.candidates.proofs.Held.{held-below}
@@ -24,35 +24,35 @@ pub record Only (m : ℕ) (z : ℤ) : Type 0 where
   pub place : ℕ
   pub below : place < 9
   pub digit : z ≡ pos (suc place)
-  pub one : One (nine m) place
+  pub one : One (lowNine m) place
 
 abbrev pub Says : ℕ → Option ℤ → Type 0
 Says m (some z) = Only m z
-Says m none = count (nine m) ≢ 1
+Says m none = count (lowNine m) ≢ 1
 
 module _ (m : ℕ) where
-  small : nine m < 512
+  small : lowNine m < 512
   small = mod-lt m (lit< tt)
 
   pub single-says : {o : Option ℤ} → o ≡ onlyOf m → Says m o
   single-says e =
       subst (Says m) (sym e)
-      (by-test (Says m) (eqb (count (nine m)) 1) (some (pos (lowest (nine m) + 1))) none
-      (λ t. only (count-one (nine m) (omega (arith, small)) (eqb-true (count (nine m)) 1 t))) (λ t. eqb-false (count (nine m)) 1 t))
+      (by-test (Says m) (eqb (count (lowNine m)) 1) (some (pos (lowest (lowNine m) + 1))) none
+      (λ t. only (count-one (lowNine m) (omega (arith, small)) (eqb-true (count (lowNine m)) 1 t))) (λ t. eqb-false (count (lowNine m)) 1 t))
     where
-      only : One (nine m) (lowest (nine m)) → Only m (pos (lowest (nine m) + 1))
-      only o = record { place = lowest (nine m); below = held-below (nine m) 9 (lowest (nine m)) small (o .held); digit = ap pos (add-one (lowest (nine m))); one = o }
+      only : One (lowNine m) (lowest (lowNine m)) → Only m (pos (lowest (lowNine m) + 1))
+      only o = record { place = lowest (lowNine m); below = held-below (lowNine m) 9 (lowest (lowNine m)) small (o .held); digit = ap pos (add-one (lowest (lowNine m))); one = o }
 
   -- so a digit is the answer just where it is the set's one digit
-  pub single-is : (d : ℕ) → (onlyOf m ≡ some (pos (suc d))) ↔ One (nine m) d
+  pub single-is : (d : ℕ) → (onlyOf m ≡ some (pos (suc d))) ↔ One (lowNine m) d
   single-is d = (λ e. here (single-says (sym e)), λ o. go (onlyOf m) (single-says refl) o)
     where
-      here : Only m (pos (suc d)) → One (nine m) d
+      here : Only m (pos (suc d)) → One (lowNine m) d
       here w =
           let e : suc d ≡ suc (w .place) = ap natAbs (w .digit) in
-          subst (One (nine m)) (omega arith) (w .one)
+          subst (One (lowNine m)) (omega arith) (w .one)
 
-      go : (o : Option ℤ) → Says m o → One (nine m) d → o ≡ some (pos (suc d))
+      go : (o : Option ℤ) → Says m o → One (lowNine m) d → o ≡ some (pos (suc d))
       go (some z) w o = ap some (w .digit ∙ ap (λ (k : ℕ). pos (suc k)) (o .alone (w .place) (w .one .held)))
       go none w o = absurd (w (one-count o))
 

@@ -1,12 +1,15 @@
 -- The order of masks by their digits, and what losing digits does to it. Assumes nothing.
-use mathlib.Core.Path.{_≡_, ap}
+use mathlib.Core.Path.{_≡_, sym, ap, _∙_}
 use Prim.Native.Nat.{ℕ, _^_, _≤_, _<_}
 use native.Mathlib.Nat.{le-refl, le-trans, le-antisymm}
 use native.Mathlib.Decide.{ℕ-discrete, decLt}
 use native.Mathlib.Omega.{arith}
-use lib.Bits.{bitAnd}
-use Rattle.candidates.specs.Masks.{bit, minus, union, Sub}
-use Rattle.candidates.proofs.Membership.{bit-and, bit-union, bit-minus, bit-none, bit-other, bit-all, bit-high, le-of-bits, ext}
+use borrow.Author.Tests.{le-ltb}
+use lib.Bits.{bitAnd, and-zero-r}
+use lib.Dec.{ltb}
+use Rattle.candidates.specs.Masks.{bit, minus, union, single, placeMask, Sub}
+use Rattle.candidates.proofs.Membership.{bit-and, bit-union, bit-minus, bit-none, bit-other, bit-all, bit-high, place-single, le-of-bits, ext}
+use Rattle.candidates.proofs.Tests.{cond-false}
 
 pub sub-refl : (x : ℕ) → Sub x x
 sub-refl x = record { at = λ d. le-refl (bit x d) }
@@ -73,3 +76,14 @@ and-only x d e = ext (bitAnd x (2 ^ d)) 0 (λ k. go k (ℕ-discrete d k))
     go : (k : ℕ) → Dec (d ≡ k) → bit (bitAnd x (2 ^ d)) k ≡ bit 0 k
     go k (yes q) = omega (arith, bit-and x (2 ^ d) k, ap (bit x) q, bit-none k)
     go k (no q) = omega (arith, bit-and x (2 ^ d) k, bit-other d k q, bit-none k)
+
+-- no mask in code holds a place past those that it has
+pub minus-place : (x d : ℕ) → x < 2 ^ 16 → minus x (placeMask d) ≡ minus x (single d)
+minus-place x d h = go (decLt d 16)
+  where
+    go : Dec (d < 16) → minus x (placeMask d) ≡ minus x (single d)
+    go (yes l) = ap (minus x) (place-single d l)
+    go (no n) =
+        ap (minus x) (cond-false (ltb d 16) (single d) 0 (le-ltb d 16 (omega arith)))
+        ∙ minus-none x 0 (and-zero-r x)
+        ∙ sym (minus-none x (single d) (and-only x d (bit-high x 16 d h (omega arith))))

@@ -10,8 +10,11 @@ use lib.Signed.{ltZ, nonNeg}
 use mir.Syntax.{w32}
 use mir.Val.{SFits, toZ, ofZ}
 use mir.Facts.{toZ-ofZ}
-use Rattle.candidates.specs.Answer.{gives, stop}
-use Rattle.candidates.specs.Sets.{place, atDigit}
+use Rattle.stops.specs.Answer.{gives, stop}
+use Rattle.stops.specs.declared.Stop.the-variants.{BadDigit}
+use Rattle.candidates.specs.Masks.{single, placeMask}
+use Rattle.candidates.specs.Sets.{place, atDigit, whereDigit}
+use Rattle.candidates.proofs.Membership.{place-single}
 use Rattle.candidates.proofs.Tests.{cond-true, cond-false}
 
 pub low : (z : ℤ) → ltZ z (pos 1) ≡ true → 9 ≡ place z
@@ -38,6 +41,11 @@ pub place-pos : (n : ℕ) → 1 ≤ n → n ≤ 9 → place (pos n) ≡ n - 1
 place-pos zero h k = absurd (omega arith)
 place-pos (suc n) h k = omega arith
 
+pub place-le : (z : ℤ) → place z ≤ 9
+place-le (pos zero) = omega arith
+place-le (pos (suc n)) = omega arith
+place-le (negsuc n) = omega arith
+
 -- ---- which answer a call gives, by the place p that `place_of` found for the bits of z
 
 found : (z : ℤ) (p : ℕ) → SFits w32 z → p ≡ place (toZ w32 (ofZ w32 z)) → p ≡ place z
@@ -55,5 +63,9 @@ pub at-place {ℓ} : {A : Type ℓ} (g : ℕ → A) (z : ℤ) (p : ℕ) → SFit
 at-place g z p f e = ap g (found z p f e)
 
 -- the digit that a refusal hands back is the one that came
-pub stops : {A : Type 0} (z : ℤ) (p : ℕ) (a : A) → SFits w32 z → p ≡ place (toZ w32 (ofZ w32 z)) → 9 ≤ p → stop 4 (toZ w32 (ofZ w32 z)) ≡ atDigit z a
-stops z p a f e h = ap (stop 4) (toZ-ofZ f) ∙ refused z p (gives a) (stop 4 z) f e h
+pub stops : {A : Type 0} (z : ℤ) (p : ℕ) (a : A) → SFits w32 z → p ≡ place (toZ w32 (ofZ w32 z)) → 9 ≤ p → stop (BadDigit (toZ w32 (ofZ w32 z))) ≡ atDigit z a
+stops z p a f e h = ap (λ (y : ℤ). stop (BadDigit y)) (toZ-ofZ f) ∙ refused z p (gives a) (stop (BadDigit z)) f e h
+
+-- an accepted digit's mask k, joined to m or taken from it
+pub changes : (op : ℕ → ℕ → ℕ) (m old : ℕ) (z : ℤ) (p k r : ℕ) → SFits w32 z → p ≡ place (toZ w32 (ofZ w32 z)) → p < 9 → k ≡ placeMask p → r ≡ op m k → r ≡ whereDigit z (op m (single (place z))) old
+changes op m old z p k r f e h mask is = is ∙ ap (op m) (mask ∙ place-single p (omega arith)) ∙ at-place (λ (q : ℕ). op m (single q)) z p f e ∙ accepted z p _ old f e h

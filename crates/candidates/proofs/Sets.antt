@@ -11,10 +11,11 @@ use native.Mathlib.Omega.{arith}
 use borrow.Author.Tests.{lt-ltb, le-ltb}
 use lib.Dec.{ltb, lit<}
 use lib.IntN.{ℤ, pos}
-use Rattle.candidates.specs.Answer.{gives, stop}
-use Rattle.candidates.specs.Masks.{bit, has, nine, firstPlace}
+use Rattle.stops.specs.Answer.{gives, stop}
+use Rattle.stops.specs.declared.Stop.the-variants.{BadDigit}
+use Rattle.candidates.specs.Masks.{bit, has, lowNine, firstPlace}
 use Rattle.candidates.specs.Sets.{containsOf, nextAt, nextOf, after, digitsFrom, drained}
-use Rattle.candidates.proofs.Answers.{gives-same}
+use Rattle.stops.proofs.Answers.{gives-same}
 use Rattle.candidates.proofs.Held.{bit-same}
 use Rattle.candidates.proofs.Membership.{bit-high, ext}
 use Rattle.candidates.proofs.Counts.{first-hit, first-miss, first-end, first-ge}
@@ -22,20 +23,20 @@ use Rattle.candidates.proofs.Tests.{cond-true, cond-false}
 
 -- ---- "Equal sets have equal masks"
 
-contains-at : (x d : ℕ) → d < 9 → containsOf x (pos (suc d)) ≡ gives (has (nine x) d)
+contains-at : (x d : ℕ) → d < 9 → containsOf x (pos (suc d)) ≡ gives (has (lowNine x) d)
 contains-at x d k =
     let e : min d 9 ≡ d = omega arith in
-    ap (λ (q : ℕ). cond (ltb q 9) (gives (has (nine x) q)) (stop 4 (pos (suc d)))) e
-    ∙ cond-true (ltb d 9) (gives (has (nine x) d)) (stop 4 (pos (suc d))) (lt-ltb d 9 k)
+    ap (λ (q : ℕ). cond (ltb q 9) (gives (has (lowNine x) q)) (stop (BadDigit (pos (suc d))))) e
+    ∙ cond-true (ltb d 9) (gives (has (lowNine x) d)) (stop (BadDigit (pos (suc d)))) (lt-ltb d 9 k)
 
-pub equal-sets : (x y : ℕ) → ((z : ℤ) → containsOf x z ≡ containsOf y z) → nine x ≡ nine y
-equal-sets x y h = ext (nine x) (nine y) (λ d. go d (decLt d 9))
+pub equal-sets : (x y : ℕ) → ((z : ℤ) → containsOf x z ≡ containsOf y z) → lowNine x ≡ lowNine y
+equal-sets x y h = ext (lowNine x) (lowNine y) (λ d. go d (decLt d 9))
   where
-    go : (d : ℕ) → Dec (d < 9) → bit (nine x) d ≡ bit (nine y) d
+    go : (d : ℕ) → Dec (d < 9) → bit (lowNine x) d ≡ bit (lowNine y) d
     go d (yes k) =
-        bit-same (nine x) (nine y) d (gives-same (sym (contains-at x d k) ∙ h (pos (suc d)) ∙ contains-at y d k))
+        bit-same (lowNine x) (lowNine y) d (gives-same (sym (contains-at x d k) ∙ h (pos (suc d)) ∙ contains-at y d k))
     go d (no k) =
-        bit-high (nine x) 9 d (mod-lt x (lit< tt)) (omega arith) ∙ sym (bit-high (nine y) 9 d (mod-lt y (lit< tt)) (omega arith))
+        bit-high (lowNine x) 9 d (mod-lt x (lit< tt)) (omega arith) ∙ sym (bit-high (lowNine y) 9 d (mod-lt y (lit< tt)) (omega arith))
 
 -- ---- iteration
 

@@ -18,8 +18,8 @@ pub record Sub (x y : ℕ) : Type 0 where
   pub at : (d : ℕ) → bit x d ≤ bit y d
 
 -- "Higher bits in a set that a caller made are dropped first"
-abbrev pub nine : ℕ → ℕ
-nine x = x % 512
+abbrev pub lowNine : ℕ → ℕ
+lowNine x = x % 512
 
 -- x without the digits of k
 abbrev pub minus : ℕ → ℕ → ℕ
@@ -32,9 +32,13 @@ union x y = bitOr x y
 abbrev pub count : ℕ → ℕ
 count x = ones x
 
--- the mask of the digit at place d; none where d is past the 16 places that a mask has in code
+-- the mask of the digit at place d
 abbrev pub single : ℕ → ℕ
-single d = cond (ltb d 16) (2 ^ d) 0
+single d = 2 ^ d
+
+-- the same in code, where a mask has 16 places: none past them
+abbrev pub placeMask : ℕ → ℕ
+placeMask d = cond (ltb d 16) (single d) 0
 
 -- the first of the n places from d on that x holds; d + n where it holds none of them
 unfoldable pub firstPlace : ℕ → ℕ → ℕ → ℕ
@@ -52,4 +56,4 @@ tail x = minus x (single (lowest x))
 -- the places below n that pass a test
 unfoldable pub gather : (ℕ → Bool) → ℕ → ℕ
 gather f zero = 0
-gather f (suc n) = gather f n + cond (f n) (2 ^ n) 0
+gather f (suc n) = gather f n + cond (f n) (single n) 0

@@ -5,8 +5,9 @@ use mathlib.Core.Option.{Option, none, some}
 use Prim.Native.Nat.{ℕ, zero, suc, _+_, _-_, min}
 use lib.Dec.{eqb, ltb}
 use lib.IntN.{ℤ, pos, negsuc}
-use Rattle.candidates.specs.Answer.{Answer, gives, stop}
-use Rattle.candidates.specs.Masks.{nine, has, minus, union, count, single, firstPlace, lowest}
+use Rattle.stops.specs.Answer.{Answer, gives, stop}
+use Rattle.stops.specs.declared.Stop.the-variants.{BadDigit}
+use Rattle.candidates.specs.Masks.{lowNine, has, minus, union, count, single, firstPlace, lowest}
 use Rattle.candidates.specs.declared.SingleCandidate.{SingleCandidate}
 use Rattle.candidates.specs.declared.SingleCandidate.the-variants as only
 use Rattle.candidates.specs.declared.NextCandidate.{NextCandidate}
@@ -15,8 +16,6 @@ use Rattle.candidates.specs.declared.NewSet.{NewSet}
 use Rattle.candidates.specs.declared.NewSet.the-variants as new
 use Rattle.candidates.specs.declared.Presence.{Presence}
 use Rattle.candidates.specs.declared.Presence.the-variants as presence
-use Rattle.candidates.specs.declared.Insertion.{Insertion}
-use Rattle.candidates.specs.declared.Insertion.the-variants as insertion
 
 -- the place of a digit, 0 to 8 for 1 to 9; 9 for a number that is no digit
 abbrev pub place : ℤ → ℕ
@@ -26,26 +25,22 @@ place (negsuc n) = 9
 
 -- stop 4, "digit outside 1 to 9", with the digit beside it
 abbrev pub atDigit : {A : Type 0} → ℤ → A → Answer A
-atDigit z a = cond (ltb (place z) 9) (gives a) (stop 4 z)
+atDigit z a = cond (ltb (place z) 9) (gives a) (stop (BadDigit z))
 
 -- "Higher bits .. are dropped first" by an accepted call; a refused one leaves the set as it was
-abbrev pub changed : ℤ → ℕ → ℕ → ℕ
-changed z new old = cond (ltb (place z) 9) new old
+abbrev pub whereDigit : ℤ → ℕ → ℕ → ℕ
+whereDigit z new old = cond (ltb (place z) 9) new old
 
 -- ---- what the paper calls each case of an answer
 
 abbrev pub newAnswer : NewSet → Answer ℕ
 newAnswer (new.Set s) = gives (s .mask)
-newAnswer (new.BadDigit z) = stop 4 z
+newAnswer (new.Refused s) = stop s
 
 abbrev pub presenceAnswer : Presence → Answer Bool
 presenceAnswer presence.Present = gives true
 presenceAnswer presence.Absent = gives false
-presenceAnswer (presence.BadDigit z) = stop 4 z
-
-abbrev pub insertionAnswer : Insertion → Answer (Unit {0})
-insertionAnswer insertion.Done = gives tt
-insertionAnswer (insertion.BadDigit z) = stop 4 z
+presenceAnswer (presence.Refused s) = stop s
 
 abbrev pub onlyAnswer : SingleCandidate → Option ℤ
 onlyAnswer (only.Digit z) = some z
@@ -67,20 +62,20 @@ abbrev pub singleOf : ℤ → Answer ℕ
 singleOf z = atDigit z (single (place z))
 
 abbrev pub containsOf : ℕ → ℤ → Answer Bool
-containsOf m z = atDigit z (has (nine m) (place z))
+containsOf m z = atDigit z (has (lowNine m) (place z))
 
 abbrev pub insertOf : ℤ → Answer (Unit {0})
 insertOf z = atDigit z tt
 
 abbrev pub inserted : ℕ → ℤ → ℕ
-inserted m z = changed z (union (nine m) (single (place z))) m
+inserted m z = whereDigit z (union (lowNine m) (single (place z))) m
 
 abbrev pub removed : ℕ → ℤ → ℕ
-removed m z = changed z (minus (nine m) (single (place z))) m
+removed m z = whereDigit z (minus (lowNine m) (single (place z))) m
 
 -- "none unless one digit"
 abbrev pub onlyOf : ℕ → Option ℤ
-onlyOf m = cond (eqb (count (nine m)) 1) (some (pos (lowest (nine m) + 1))) none
+onlyOf m = cond (eqb (count (lowNine m)) 1) (some (pos (lowest (lowNine m) + 1))) none
 
 -- "rising": the first digit at place p or above, and the iterator past it
 abbrev pub nextAt : ℕ → ℕ → Option (ℤ × ℕ × ℕ)

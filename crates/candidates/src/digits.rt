@@ -2,10 +2,12 @@
 ghost use mathlib.Core.Path.{_≡_};
 ghost use Prim.Native.Nat.{_+_, min};
 ghost use lib.IntN.{pos};
-ghost use Rattle.candidates.specs.Sets.{place, presenceAnswer, insertionAnswer, containsOf, insertOf, inserted, removed};
-use crate::Insertion;
+ghost use Rattle.stops.specs.Answer.{checkAnswer};
+ghost use Rattle.candidates.specs.Sets.{place, presenceAnswer, containsOf, insertOf, inserted, removed};
 use crate::Presence;
 use crate::masks;
+use stops::Check;
+use stops::Stop;
 
 // The place of a digit: 0 to 8, and 9 for a number outside 1 to 9.
 pub fn place_of(digit: i32) -> usize
@@ -35,7 +37,7 @@ pub fn presence(mask: u16, digit: i32) -> Presence
 {
     let place = place_of(digit);
     if 9 <= place {
-        return Presence::BadDigit(digit);
+        return Presence::Refused(Stop::BadDigit(digit));
     }
     if masks::has_digit(mask % 512, place) {
         return Presence::Present;
@@ -43,14 +45,14 @@ pub fn presence(mask: u16, digit: i32) -> Presence
     Presence::Absent
 }
 
-pub fn insertion(digit: i32) -> Insertion
-    ensures { λ r. ⌜ insertionAnswer r ≡ insertOf digit ⌝ }
+pub fn insertion(digit: i32) -> Check
+    ensures { λ r. ⌜ checkAnswer r ≡ insertOf digit ⌝ }
 {
     let place = place_of(digit);
     if 9 <= place {
-        return Insertion::BadDigit(digit);
+        return Check::Refused(Stop::BadDigit(digit));
     }
-    Insertion::Done
+    Check::Passed
 }
 
 // The mask after `insert`; a bad digit leaves it as it is, higher bits too.
@@ -72,5 +74,5 @@ pub fn without_digit(mask: u16, digit: i32) -> u16
     if 9 <= place {
         return mask;
     }
-    masks::lose_digit(mask % 512, place)
+    masks::lose(mask % 512, masks::digit_mask(place))
 }

@@ -1,14 +1,15 @@
 // The set's changing calls with plain parameters: a set is made, lent to the call, and taken back.
 ghost use mathlib.Core.Path.{_≡_};
-ghost use Rattle.candidates.specs.Sets.{presenceAnswer, insertionAnswer, containsOf, insertOf, inserted, removed};
-use crate::Insertion;
+ghost use Rattle.stops.specs.Answer.{checkAnswer};
+ghost use Rattle.candidates.specs.Sets.{presenceAnswer, containsOf, insertOf, inserted, removed};
 use crate::Presence;
 use crate::SudokuCandidateSet;
+use stops::Check;
 
 // The mask after a call, and what the call answered.
 pub struct Inserted {
     pub mask: u16,
-    pub answer: Insertion,
+    pub answer: Check,
 }
 
 pub struct Removed {
@@ -17,7 +18,7 @@ pub struct Removed {
 }
 
 pub fn insert(mask: u16, digit: i32) -> Inserted
-    ensures { λ r. ⌜ (insertionAnswer (r .answer) ≡ insertOf digit) × (r .mask ≡ inserted mask digit) ⌝ }
+    ensures { λ r. ⌜ (checkAnswer (r .answer) ≡ insertOf digit) × (r .mask ≡ inserted mask digit) ⌝ }
 {
     let mut set = SudokuCandidateSet { mask: mask };
     let answer = set.insert(digit);

@@ -2,9 +2,12 @@
 // The passes work on bare masks by the functions of `masks`; the set is the same masks with the calls of the Rust.
 ghost use mathlib.Core.Path.{_≡_};
 ghost use lib.Dec.{eqb};
-ghost use Rattle.candidates.specs.Masks.{nine, count};
-ghost use Rattle.candidates.specs.Sets.{newAnswer, presenceAnswer, insertionAnswer, onlyAnswer, nextAnswer};
+ghost use Rattle.candidates.specs.Masks.{lowNine, count};
+ghost use Rattle.stops.specs.Answer.{checkAnswer};
+ghost use Rattle.candidates.specs.Sets.{newAnswer, presenceAnswer, onlyAnswer, nextAnswer};
 ghost use Rattle.candidates.specs.Sets.{singleOf, containsOf, insertOf, inserted, removed, onlyOf, nextOf};
+use stops::Check;
+use stops::Stop;
 
 pub mod digits;
 pub mod lent;
@@ -18,20 +21,14 @@ pub struct SudokuCandidateSet {
 // What `single` answers.
 pub enum NewSet {
     Set(SudokuCandidateSet),
-    BadDigit(i32),
+    Refused(Stop),
 }
 
 // What `contains` and `remove` answer: whether the digit is there, or was.
 pub enum Presence {
     Present,
     Absent,
-    BadDigit(i32),
-}
-
-// What `insert` answers.
-pub enum Insertion {
-    Done,
-    BadDigit(i32),
+    Refused(Stop),
 }
 
 // What `single_candidate` answers.
@@ -74,7 +71,7 @@ impl SudokuCandidateSet {
     {
         let place = digits::place_of(digit);
         if 9 <= place {
-            return NewSet::BadDigit(digit);
+            return NewSet::Refused(Stop::BadDigit(digit));
         }
         NewSet::Set(Self {
             mask: masks::digit_mask(place),
@@ -88,13 +85,13 @@ impl SudokuCandidateSet {
     }
 
     pub fn len(self) -> usize
-        ensures { λ r. ⌜ r ≡ count (nine (self .mask)) ⌝ }
+        ensures { λ r. ⌜ r ≡ count (lowNine (self .mask)) ⌝ }
     {
         masks::digit_count(self.mask % 512)
     }
 
     pub fn is_empty(self) -> bool
-        ensures { λ r. ⌜ r ≡ eqb (count (nine (self .mask))) 0 ⌝ }
+        ensures { λ r. ⌜ r ≡ eqb (count (lowNine (self .mask))) 0 ⌝ }
     {
         masks::is_none(self.mask % 512)
     }
@@ -111,7 +108,7 @@ impl SudokuCandidateSet {
     }
 
     pub fn iter(self) -> SudokuCandidateIter
-        ensures { λ r. ⌜ (r .mask ≡ nine (self .mask)) × (r .current ≡ 0) ⌝ }
+        ensures { λ r. ⌜ (r .mask ≡ lowNine (self .mask)) × (r .current ≡ 0) ⌝ }
     {
         SudokuCandidateIter {
             mask: self.mask % 512,
@@ -119,8 +116,8 @@ impl SudokuCandidateSet {
         }
     }
 
-    pub fn insert(&mut self, digit: i32) -> Insertion
-        ensures { λ r. ⌜ (insertionAnswer r ≡ insertOf digit) × (now (self .exit) .mask ≡ inserted (now (self .entry) .mask) digit) ⌝ }
+    pub fn insert(&mut self, digit: i32) -> Check
+        ensures { λ r. ⌜ (checkAnswer r ≡ insertOf digit) × (now (self .exit) .mask ≡ inserted (now (self .entry) .mask) digit) ⌝ }
     {
         self.mask = digits::with_digit(self.mask, digit);
         digits::insertion(digit)

@@ -3,7 +3,7 @@ ghost use mathlib.Core.Path.{_≡_};
 ghost use Prim.Native.Nat.{_-_};
 ghost use lib.Bits.{bitAnd};
 ghost use lib.Dec.{eqb};
-ghost use Rattle.candidates.specs.Masks.{has, minus, union, count, single, firstPlace, lowest, tail};
+ghost use Rattle.candidates.specs.Masks.{has, minus, union, count, single, placeMask, firstPlace, lowest, tail};
 
 pub fn has_digit(mask: u16, place: usize) -> bool
     ensures { λ r. ⌜ r ≡ has mask place ⌝ }
@@ -15,7 +15,7 @@ pub fn has_digit(mask: u16, place: usize) -> bool
 }
 
 pub fn digit_mask(place: usize) -> u16
-    ensures { λ r. ⌜ r ≡ single place ⌝ }
+    ensures { λ r. ⌜ r ≡ placeMask place ⌝ }
 {
     if place < 16 {
         return 1 << place;

@@ -15,7 +15,8 @@ use Rattle.steps.specs.Loops.{each}
 use Rattle.steps.proofs.Loops.{each-append}
 use Rattle.card.specs.declared.lines.Lines.{Lines}
 use Rattle.card.specs.Layout.{lineOf}
-use Rattle.card.specs.Lines.{linesOf, pushed, append, over}
+use Rattle.card.specs.code.Lines.{linesOf, pushed, append}
+use Rattle.card.specs.Layout.{over}
 
 -- ---- lists after a value
 

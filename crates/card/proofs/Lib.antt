@@ -4,4 +4,4 @@ pub mod Cards
 pub mod Printed
 mod CellBytes
 mod Newlines
-mod Refusals
+mod Signs

@@ -5,16 +5,15 @@ use Prim.Native.Nat.{ℕ, _-_}
 use lib.Dec.{eqb}
 use lib.IntN.{ℤ}
 use lib.ListN.{length, getD, take}
-use Rattle.candidates.specs.Answer.{Answer, gives, stop}
+use Rattle.stops.specs.Answer.{Answer, gives, stop, map, valueOr}
 use Rattle.grid.specs.Cells.{cells}
 use Rattle.steps.specs.Boards.{givensOf, fresh}
-use Rattle.steps.specs.Calls.{advancedCall, settling, outcome}
+use Rattle.steps.specs.Calls.{advancedCall, settlingCall, outcome}
 use Rattle.board.specs.Boards.{clueCount, verdictOf}
-use Rattle.board.specs.Boards as B
+use Rattle.board.specs.declared.Verdict.{Verdict}
+use Rattle.board.specs.declared.Verdict.the-variants as verdict
 use Rattle.text.specs.Texts.{parseOf}
 use Rattle.card.specs.declared.layout.Card.{Card}
-use Rattle.card.specs.declared.layout.Verdict.{Verdict}
-use Rattle.card.specs.declared.layout.Verdict.the-variants as verdict
 use Rattle.card.specs.Decimals.{decimal}
 use Rattle.card.specs.Layout.{lineOf, cluesLabel, reportedLabel, sweepsLabel, removedLabel, verdictLabel, gridLabel, gridBytes, refusalBytes}
 
@@ -27,21 +26,16 @@ textLength input = cond (eqb (getD input (length input - 1) 0) 10) (length input
 abbrev pub textIn : List ℕ → List ℕ
 textIn input = take (textLength input) input
 
-abbrev pub verdictIn : B.Verdict → Verdict
-verdictIn B.Dead = verdict.Dead
-verdictIn B.Finished = verdict.Finished
-verdictIn B.Open = verdict.Open
-
 -- "clues; singles reported by `apply_advanced_techniques` on the fresh board; settling from fresh; verdict of the settled board; there each cell's only digit": g is what the cells are given, and f the fresh masks
 abbrev pub cardFrom : List ℕ → List ℕ → Card
 cardFrom g f =
-    let settled = outcome settling g f in
+    let settled = outcome settlingCall g f in
     record {
       clues = clueCount g cells;
       reported = length (outcome advancedCall g f .reports);
       sweeps = settled .sweeps;
       removed = settled .removed;
-      verdict = verdictIn (verdictOf (settled .masks));
+      verdict = verdictOf (settled .masks);
       masks = settled .masks;
     }
 
@@ -49,12 +43,8 @@ unfoldable pub cardFor : List ℤ → Card
 cardFor clues = cardFrom (givensOf clues) (fresh (givensOf clues))
 
 -- the card of the clues, or the stop of the reader
-abbrev pub cardRead : Answer (List ℤ) → Answer Card
-cardRead (gives clues) = gives (cardFor clues)
-cardRead (stop n z) = stop n z
-
 unfoldable pub cardOf : List ℕ → Answer Card
-cardOf input = cardRead (parseOf (textIn input))
+cardOf input = map cardFor (parseOf (textIn input))
 
 -- ---- its bytes
 
@@ -76,4 +66,12 @@ cardBytes card =
 -- "prints the lines below, or `refused N P`"
 abbrev pub printed : Answer Card → List ℕ
 printed (gives card) = cardBytes card
-printed (stop n z) = refusalBytes (n, z)
+printed (stop s) = refusalBytes s
+
+-- what is written of a card, and of a refusal: nothing of the other
+abbrev pub cardLines : Answer Card → List ℕ
+cardLines a = valueOr [] (map cardBytes a)
+
+abbrev pub refusalLine : Answer ℕ → List ℕ
+refusalLine (gives n) = []
+refusalLine (stop s) = refusalBytes s

@@ -5,7 +5,9 @@ use mathlib.Core.Option.{Option, none, some}
 use Prim.Native.Nat.{ℕ, suc}
 use lib.Dec.{eqb}
 use lib.IntN.{ℤ, pos, negsuc, natAbs}
-use Rattle.candidates.specs.Masks.{nine, count}
+use Rattle.stops.specs.Stops.{rowOf}
+use Rattle.stops.specs.declared.Stop.{Stop}
+use Rattle.candidates.specs.Masks.{lowNine, count}
 use Rattle.candidates.specs.Sets.{onlyOf}
 use Rattle.grid.specs.Cells.{cells}
 use Rattle.steps.specs.Boards.{at}
@@ -52,7 +54,7 @@ onlyByte (some z) = digitByte (natAbs z)
 
 -- "each cell's only digit, `!` for an empty mask, else `.`"
 unfoldable pub cellByte : ℕ → ℕ
-cellByte m = cond (eqb (count (nine m)) 0) 33 (onlyByte (onlyOf m))
+cellByte m = cond (eqb (count (lowNine m)) 0) 33 (onlyByte (onlyOf m))
 
 abbrev pub gridBytes : List ℕ → List ℕ
 gridBytes m = map (λ c. cellByte (at m c)) cells
@@ -65,5 +67,13 @@ signed (pos n) = decimal n
 signed (negsuc n) = 45 ∷ decimal (suc n)
 
 -- "`refused N P`"
-unfoldable pub refusalBytes : ℕ × ℤ → List ℕ
-refusalBytes s = (refusedLabel ++ decimal (s .0)) ++ lineOf (32 ∷ []) (signed (s .1))
+unfoldable pub refusalBytes : Stop → List ℕ
+refusalBytes s = (refusedLabel ++ decimal (rowOf s .number)) ++ lineOf (32 ∷ []) (signed (rowOf s .detail))
+
+-- ---- lent bytes
+
+-- bytes over the first of those that are lent: "later bytes keep"
+abbrev pub over : List ℕ → List ℕ → List ℕ
+over [] lent = lent
+over (x ∷ xs) [] = []
+over (x ∷ xs) (y ∷ ys) = x ∷ over xs ys

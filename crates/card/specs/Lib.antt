@@ -1,5 +1,4 @@
 pub mod Decimals
 pub mod Layout
-pub mod Lines
 pub mod Cards
-pub mod Answers
+pub mod code

@@ -5,20 +5,15 @@ ghost use Prim.Native.Nat.{_≤_};
 ghost use lib.ListN.{length, take};
 ghost use Rattle.card.specs.Cards.{cardBytes, verdictWord};
 ghost use Rattle.card.specs.Decimals.{decimal};
-ghost use Rattle.card.specs.Layout.{lineOf, verdictLabel, gridLabel, gridBytes, refusalBytes};
-ghost use Rattle.card.specs.Lines.{linesOf, append, over};
-ghost use Rattle.card.specs.Answers.{stopOf};
-use crate::Stop;
+ghost use Rattle.card.specs.Layout.{lineOf, over, verdictLabel, gridLabel, gridBytes, refusalBytes};
+ghost use Rattle.card.specs.code.Lines.{linesOf, append};
 use crate::lines::Lines;
 use crate::lines::push_grid;
 use crate::lines::push_number;
+use crate::lines::push_signed;
 use crate::lines::push_word;
-
-pub enum Verdict {
-    Dead,
-    Finished,
-    Open,
-}
+use board::Verdict;
+use stops::Stop;
 
 // What a card says; `masks` are those of the settled board.
 pub struct Card {
@@ -72,10 +67,13 @@ pub fn card_lines(card: Card) -> Lines
 
 // There is room for every stop.
 pub fn refusal_lines(stop: Stop) -> Lines
-    ensures { λ r. ⌜ (r ≡ linesOf (refusalBytes (stopOf stop))) × (length (refusalBytes (stopOf stop)) ≤ 256) ⌝ }
+    ensures { λ r. ⌜ (r ≡ linesOf (refusalBytes stop)) × (length (refusalBytes stop) ≤ 256) ⌝ }
 {
-    let number = push_number(push_word(Lines::new(), b"refused "), stop.number as usize);
-    number_line(number, b" ", stop.detail)
+    let number = push_number(
+        push_word(Lines::new(), b"refused "),
+        stops::number(stop) as usize,
+    );
+    push_signed(number.push(b' '), stops::detail(stop)).push(b'\n')
 }
 
 // The lines over the first lent bytes; later ones keep.

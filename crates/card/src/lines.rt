@@ -2,8 +2,8 @@
 ghost use mathlib.Core.Path.{_≡_};
 ghost use mathlib.Core.List.{[]};
 ghost use Rattle.card.specs.Decimals.{decimal};
-ghost use Rattle.card.specs.Layout.{cellByte, gridBytes};
-ghost use Rattle.card.specs.Lines.{linesOf, pushed, append};
+ghost use Rattle.card.specs.Layout.{cellByte, gridBytes, signed};
+ghost use Rattle.card.specs.code.Lines.{linesOf, pushed, append};
 use candidates::SingleCandidate;
 use candidates::SudokuCandidateSet;
 
@@ -57,6 +57,16 @@ pub fn push_number(lines: Lines, n: usize) -> Lines
         return lines.push(b'0' + n as u8);
     }
     push_number(lines, n / 10).push(b'0' + (n % 10) as u8)
+}
+
+// A number with its sign.
+pub fn push_signed(lines: Lines, z: i64) -> Lines
+    ensures { λ r. ⌜ r ≡ append (signed z) lines ⌝ }
+{
+    if z < 0 {
+        return push_number(lines.push(b'-'), (-1 - z) as usize + 1);
+    }
+    push_number(lines, z as usize)
 }
 
 // A cell's only digit, `!` where it has no candidate, else `.`.

@@ -1,38 +1,33 @@
 // The cards of some inputs and the refusals of others, each with all 256 lent bytes, which are `x` before the call.
 // tools/card_check.py makes the file `stdout` from the paper's words, and knows nothing of this crate.
-use card::Carding;
-use libc::STDOUT_FILENO;
-
-fn number(word: &[u8], n: usize) {
-    io::write_all(STDOUT_FILENO, word);
-    io::print_decimal(STDOUT_FILENO, n as u64);
-}
+use printing::number;
+use printing::refusal;
+use printing::word;
+use stops::Writing;
 
 fn bytes(out: &[u8; 256]) {
-    io::write_all(STDOUT_FILENO, b"\n");
-    io::write_all(STDOUT_FILENO, out);
-    io::write_all(STDOUT_FILENO, b"\n");
-}
-
-fn stopped(answer: Carding) {
-    let Carding::Refused(stop) = answer else {
-        return;
-    };
-    number(b"stop ", stop.number as usize);
-    number(b" ", stop.detail);
+    word(b"\n");
+    word(out);
+    word(b"\n");
 }
 
 fn show(input: &[u8]) {
     let mut out = [b'x'; 256];
     let answer = card::write_card(input, &mut out);
-    let Carding::Written(count) = answer else {
-        stopped(answer);
-        bytes(&out);
-        number(b"line ", card::write_refusal(answer, &mut out));
-        bytes(&out);
-        return;
-    };
-    number(b"card ", count);
+    match answer {
+        Writing::Written(count) => {
+            word(b"card");
+            number(count as u64);
+        }
+        Writing::Refused(stop) => {
+            word(b"stop");
+            refusal(stop);
+            bytes(&out);
+            let count = card::write_refusal(answer, &mut out);
+            word(b"line");
+            number(count as u64);
+        }
+    }
     bytes(&out);
 }
 

@@ -6,8 +6,8 @@ use Rattle.steps.specs.Boards.{total, Under}
 use Rattle.steps.specs.Instances.{Instance, pair}
 use Rattle.steps.specs.Loops.{each}
 use Rattle.steps.specs.Passes.{Pair, instanceTaken, settle}
-use Rattle.steps.proofs.Ported.{pair-listed}
-use Rattle.steps.proofs.Reach.{Reach, start, next, reach-under, settled-still, reach-keeps}
+use Rattle.steps.proofs.Instances.{pair-listed}
+use Rattle.steps.proofs.Reach.{Reach, start, next, reach-under, reach-keeps}
 use Rattle.steps.proofs.Settling.{settles-in}
 
 unfoldable pub withFive : List Instance
@@ -29,4 +29,4 @@ module _ (g m : List ℕ) where
   pub settled-below : total m < 730 → Under (settle g m .left) (each (instanceTaken g) withFive m)
   settled-below h =
       let s = settles-in g 730 m h in
-      reach-keeps g (settled-still g (s .ends)) (reach-under g (s .reach)) reached
+      reach-keeps g (s .ends) (reach-under g (s .reach)) reached

@@ -12,7 +12,7 @@ use lib.Bits.{bitAnd}
 use lib.Count.{onesIn, ones, ones-step}
 use lib.Pow.{shr-lt}
 use lib.Dec.{T, eqb, leb, ltb, leb→le}
-use Rattle.candidates.specs.Masks.{bit, has, nine, union, count, Sub}
+use Rattle.candidates.specs.Masks.{bit, has, minus, lowNine, union, count, single, Sub}
 use Rattle.candidates.proofs.Counts.{count-sub, count-proper}
 use Rattle.candidates.proofs.Membership.{bit-and, bit-union, bit-none, bit-power, bit-high, bit-nine}
 use Rattle.candidates.proofs.Order.{sub-le}
@@ -21,11 +21,11 @@ use Rattle.grid.specs.Units.{unit, unitCell, inUnit}
 use Rattle.grid.proofs.Lists.{place-mem}
 use Rattle.grid.proofs.Units.{unit-length, in-row, in-col, col-place, row-place}
 use Rattle.steps.specs.Boards.{at, isOpen}
-use Rattle.steps.specs.Instances.{Instance, pair, cross, exchanged, only, both, except, pairStep, crossStep, stepOf, pairs, crosses}
+use Rattle.steps.specs.Instances.{Instance, pair, cross, exchanged, both, pairStep, crossStep, stepOf, pairs, crosses}
 use Rattle.steps.specs.Loops.{for, all, upTo, above}
 use Rattle.steps.specs.Passes.{Pair, Cross, instances, instanceTaken, pass}
 use Rattle.steps.specs.Ported.{spots}
-use Rattle.steps.specs.Steps.{Step, lacks, applies, loseAll, take}
+use Rattle.steps.specs.Steps.{Step, lacks, applies, loseAll, stepTaken}
 use Rattle.steps.proofs.Digits.{both-small, bit-outside}
 use Rattle.steps.proofs.Spots.{spots-lt, has-spots}
 use Rattle.steps.proofs.Loops.{for-all, in-upTo, in-above, upTo-in, all-member, all-append, each-idle}
@@ -89,22 +89,22 @@ module _ (g m : List ℕ) where
       (λ c k f. eqb-true (bitAnd (at m c) (loses c)) 0
       (or-implied (isOpen g c) (eqb (bitAnd (at m c) (loses c)) 0) (all-member (λ y. not (isOpen g y) || eqb (bitAnd (at m y) (loses y)) 0) hits t c k) f))
 
-  step-idle : (s : Step) → (applies s m ≡ true → harmless (s .hits) (s .loses) ≡ true) → take (isOpen g) s m ≡ m
-  unfolding take
+  step-idle : (s : Step) → (applies s m ≡ true → harmless (s .hits) (s .loses) ≡ true) → stepTaken (isOpen g) s m ≡ m
+  unfolding stepTaken
   step-idle s h =
       by-test (λ (n : List ℕ). n ≡ m) (applies s m) (loseAll (isOpen g) (s .hits) (s .loses) m) m (λ t. harmless-none (s .hits) (s .loses) (h t)) (λ t. refl)
 
   -- what a cell holds, where it shares nothing with all but the digits of k
-  lacking : (c k d : ℕ) → k < 512 → d < 9 → lacks m c (except k) ≡ true → bit (at m c) d ≤ bit k d
-  lacking c k d hk hd t =
-      let none : bitAnd (at m c) (except k) ≡ 0 = eqb-true (bitAnd (at m c) (except k)) 0 t in
-      omega (arith, bit-and (at m c) (except k) d, ap (λ (x : ℕ). bit x d) none, bit-none d, bit-outside k d hk hd)
+  lacking : (c k d : ℕ) → d < 9 → lacks m c (minus 511 k) ≡ true → bit (at m c) d ≤ bit k d
+  lacking c k d hd t =
+      let none : bitAnd (at m c) (minus 511 k) ≡ 0 = eqb-true (bitAnd (at m c) (minus 511 k)) 0 t in
+      omega (arith, bit-and (at m c) (minus 511 k) d, ap (λ (x : ℕ). bit x d) none, bit-none d, bit-outside k d hd)
 
   -- ---- Pair
 
   -- the digits of the cells at places i and j
   abbrev pub pairDigits : ℕ → ℕ → ℕ → ℕ
-  pairDigits u i j = nine (union (at m (unitCell u i)) (at m (unitCell u j)))
+  pairDigits u i j = lowNine (union (at m (unitCell u i)) (at m (unitCell u j)))
 
   abbrev pub pairLoss : ℕ → ℕ → ℕ → ℕ → ℕ
   pairLoss c e x y = cond (eqb y c || eqb y e) 0 x
@@ -115,7 +115,7 @@ module _ (g m : List ℕ) where
       let rest = harmless (unit u) (pairLoss (unitCell u i) (unitCell u j) x) in
       overTwo (onesIn 9 x) rest
 
-  pair-idle-at : (u i j a b : ℕ) → a < 9 → b < 9 → pairTest u i j ≡ true → take (isOpen g) (pairStep u (unitCell u i) (unitCell u j) a b) m ≡ m
+  pair-idle-at : (u i j a b : ℕ) → a < 9 → b < 9 → pairTest u i j ≡ true → stepTaken (isOpen g) (pairStep u (unitCell u i) (unitCell u j) a b) m ≡ m
   pair-idle-at u i j a b ha hb t = step-idle (pairStep u c e a b) one
     where
       c : ℕ
@@ -129,8 +129,8 @@ module _ (g m : List ℕ) where
           let w = same-two a b (harmless (unit u) (pairLoss c e (pairDigits u i j))) ha hb (record { at = λ d. go d (decLt d 9) }) t in
           subst (λ (x : ℕ). harmless (unit u) (pairLoss c e x) ≡ true) (w .0) (w .1)
         where
-          of : (z : ℕ) → List·Memᴰ z (c ∷ e ∷ []) → lacks m z (except (both a b)) ≡ true
-          of z k = all-member (λ z. lacks m z (except (both a b))) (c ∷ e ∷ []) s z k
+          of : (z : ℕ) → List·Memᴰ z (c ∷ e ∷ []) → lacks m z (minus 511 (both a b)) ≡ true
+          of z k = all-member (λ z. lacks m z (minus 511 (both a b))) (c ∷ e ∷ []) s z k
 
           go : (d : ℕ) → Dec (d < 9) → bit (pairDigits u i j) d ≤ bit (both a b) d
           go d (yes h) =
@@ -138,8 +138,8 @@ module _ (g m : List ℕ) where
                 arith,
                 bit-nine (union (at m c) (at m e)) d h,
                 bit-union (at m c) (at m e) d,
-                lacking c (both a b) d (both-small a b ha hb) h (of c (List·Memᴰ·head refl)),
-                lacking e (both a b) d (both-small a b ha hb) h (of e (List·Memᴰ·tail (List·Memᴰ·head refl))),
+                lacking c (both a b) d h (of c (List·Memᴰ·head refl)),
+                lacking e (both a b) d h (of e (List·Memᴰ·tail (List·Memᴰ·head refl))),
               )
           go d (no h) = omega (arith, bit-high (pairDigits u i j) 9 d (omega arith) (omega arith))
 
@@ -171,7 +171,7 @@ module _ (g m : List ℕ) where
   crossPlaces d u v = union (spots [] m u d) (spots [] m v d)
 
   abbrev pub crossLoss : ℕ → ℕ → ℕ → ℕ → ℕ
-  crossLoss d u v e = cond (inUnit u e || inUnit v e) 0 (only d)
+  crossLoss d u v e = cond (inUnit u e || inUnit v e) 0 (single d)
 
   abbrev pub crossTest : (ℕ → ℕ) → ℕ → ℕ → ℕ → Bool
   crossTest across d u v =
@@ -185,7 +185,7 @@ module _ (g m : List ℕ) where
     Meets w = (i c : ℕ) → i < 9 → c < 9 → inUnit (across c) (unitCell w i) ≡ eqb i c
 
     abbrev outside : ℕ → ℕ
-    outside z = cond (inUnit (across a) z || inUnit (across b) z) 0 (only d)
+    outside z = cond (inUnit (across a) z || inUnit (across b) z) 0 (single d)
 
     place-in : (w : ℕ) → w < 27 → Meets w → ((z : ℕ) → List·Memᴰ z (unit w) → lacks m z (outside z) ≡ true) → (i : ℕ) → i < 9 → bit (spots [] m w d) i ≤ bit (both a b) i
     place-in w hw meets lack i h = go (ℕ-discrete (bit (spots [] m w d) i) 1) (ℕ-discrete a i) (ℕ-discrete b i)
@@ -205,7 +205,7 @@ module _ (g m : List ℕ) where
             let held : bit (at m z) d ≡ 1 = eqb-true (bit (at m z) d) 1 (sym (has-spots [] m w d i h) ∙ eq-eqb (bit (spots [] m w d) i) 1 t) in
             absurd (omega (arith, bit-and (at m z) (2 ^ d) d, ap (λ (x : ℕ). bit x d) apart, bit-none d, bit-power d))
 
-    cross-idle-at : (u v : ℕ) → u < 27 → v < 27 → Meets u → Meets v → crossTest across d u v ≡ true → take (isOpen g) (crossStep d u v (across a) (across b)) m ≡ m
+    cross-idle-at : (u v : ℕ) → u < 27 → v < 27 → Meets u → Meets v → crossTest across d u v ≡ true → stepTaken (isOpen g) (crossStep d u v (across a) (across b)) m ≡ m
     cross-idle-at u v hu hv mu mv t = step-idle (crossStep d u v (across a) (across b)) one
       where
         s : ℕ

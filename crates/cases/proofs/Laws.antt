@@ -5,7 +5,7 @@ use mathlib.Core.List.{List}
 use Prim.Native.Nat.{ℕ, suc, _+_}
 use lib.IntN.{ℤ}
 use Rattle.steps.specs.Boards.{givensOf, fresh, sameMasks}
-use Rattle.steps.specs.Calls.{Call, Outcome, nakedPairsCall, boxLineCall, xWingCall, advancedCall, chainCall, wide, eliminated, outcome}
+use Rattle.steps.specs.Calls.{Call, Outcome, nakedPairsCall, boxLineCall, xWingCall, advancedCall, chainCall, wide, eliminationOutcome, outcome}
 use Rattle.steps.specs.Chains.{chains}
 use Rattle.steps.specs.Loops.{each}
 use Rattle.steps.specs.Passes.{Kind, Lone, Place, Pair, Pointing, Cross, pass, sweep, settleIn, settle}
@@ -28,7 +28,7 @@ module _ {clues : List ℤ} {g m : List ℕ} (v : Values clues g m) where
 
   -- ---- passes that remove nothing
 
-  pub idle : (k : Call) → outcome k g m ≡ eliminated m m → Idle k clues
+  pub idle : (k : Call) → outcome k g m ≡ eliminationOutcome m m → Idle k clues
   idle k e =
       record {
         flag = ap (λ (o : Outcome). o .flag) (call-value k ∙ e) ∙ ap not (same-refl m);
@@ -39,11 +39,11 @@ module _ {clues : List ℤ} {g m : List ℕ} (v : Values clues g m) where
   unfolding outcome
   all-idle np bl xw ch w =
       record {
-        nakedPairs = idle nakedPairsCall (ap (eliminated m) np);
-        boxLine = idle boxLineCall (ap (eliminated m) bl);
-        xWing = idle xWingCall (ap (eliminated m) xw);
-        chain = idle chainCall (ap (eliminated m) ch);
-        wides = λ k. idle (wide k) (ap (eliminated m) (w k));
+        nakedPairs = idle nakedPairsCall (ap (eliminationOutcome m) np);
+        boxLine = idle boxLineCall (ap (eliminationOutcome m) bl);
+        xWing = idle xWingCall (ap (eliminationOutcome m) xw);
+        chain = idle chainCall (ap (eliminationOutcome m) ch);
+        wides = λ k. idle (wide k) (ap (eliminationOutcome m) (w k));
       }
 
 -- progress or not, on the fresh board `apply_advanced_techniques` leaves the fresh masks

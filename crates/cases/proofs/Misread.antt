@@ -9,7 +9,7 @@ use lib.Count.{onesIn, ones}
 use lib.Dec.{eqb, lit<}
 use lib.IntN.{ℤ, pos}
 use lib.ListN.{length, getD}
-use Rattle.candidates.specs.Masks.{gather}
+use Rattle.candidates.specs.Masks.{minus, single, gather}
 use Rattle.candidates.proofs.Order.{sub-le}
 use Rattle.grid.specs.Cells.{cells, peers}
 use Rattle.grid.specs.Fillings.{numberAt, verified}
@@ -17,15 +17,15 @@ use Rattle.grid.specs.Lists.{each, select}
 use Rattle.grid.specs.Units.{units, unit, unitCell}
 use Rattle.steps.specs.Boards.{at, givensOf, isOpen, fresh, taken, total}
 use Rattle.steps.specs.Calls.{wide, opened, run}
-use Rattle.steps.specs.Demand3.{Clues}
+use Rattle.steps.specs.Calls.{Clues}
 use Rattle.steps.specs.Fillings.{KeepsClues, InMasks}
-use Rattle.steps.specs.Instances.{only, except, stepOf, lones, places, pointings}
+use Rattle.steps.specs.Instances.{stepOf, lones, places, pointings}
 use Rattle.steps.specs.Loops.{for, upTo}
 use Rattle.steps.specs.Passes.{Lone, Place, Pointing, Cross, instances, instanceTaken, pass, settle}
 use Rattle.steps.specs.Ported.{spots, nakedPairAt, nakedPairs}
-use Rattle.steps.specs.Steps.{Step, take}
+use Rattle.steps.specs.Steps.{Step, stepTaken}
 use Rattle.steps.proofs.Check.{clues-by}
-use Rattle.steps.proofs.Lists.{demand3}
+use Rattle.steps.proofs.Lists.{list-theorem}
 use Rattle.cases.specs.Cases.{freshMasks}
 use Rattle.cases.specs.Grids.{gridOf, gridA, p5}
 use Rattle.cases.proofs.Conflict.{withFive, settled-below}
@@ -38,10 +38,10 @@ use Rattle.cases.proofs.P2to6.{p6-holds}
 -- Place as it would read open cells alone
 abbrev pub openPlaceStep : List ℕ → ℕ → ℕ → ℕ → Step
 openPlaceStep g u d c =
-    record { reads = select (isOpen g) (unit u); bars = λ e. cond (eqb e c) 0 (only d); hits = c ∷ []; loses = λ _. except (only d) }
+    record { reads = select (isOpen g) (unit u); bars = λ e. cond (eqb e c) 0 (single d); hits = c ∷ []; loses = λ _. minus 511 (single d) }
 
 unfoldable pub openPlaces : List ℕ → List ℕ → List ℕ
-openPlaces g m = each (λ u. each (λ d. each (λ i. take (isOpen g) (openPlaceStep g u d (unitCell u i))) (upTo 9)) (upTo 9)) (upTo 27) m
+openPlaces g m = each (λ u. each (λ d. each (λ i. stepTaken (isOpen g) (openPlaceStep g u d (unitCell u i))) (upTo 9)) (upTo 9)) (upTo 27) m
 
 -- a correct filling that keeps the clues: it is in the masks after Place, and not in those after the pass f
 pub record Costs (f : List ℕ → List ℕ → List ℕ) (clues filling : List ℤ) : Type 0 where
@@ -67,7 +67,7 @@ unfolding gridA gridOf for
 size = refl
 
 p5-lost : InMasks (openPlaces (givensOf p5) (freshMasks p5)) gridA → ⊥
-unfolding openPlaces p5 gridA gridOf for givensOf fresh taken each take cells peers unit units
+unfolding openPlaces p5 gridA gridOf for givensOf fresh taken each stepTaken cells peers unit units
 p5-lost h = false≢true (h .held 0 (lit< tt))
 
 -- In P5 the misread pass empties cell 0: no other open cell of row 0 holds 2, the clue of cell 1.
@@ -76,7 +76,7 @@ place-over-open-cells =
     record {
       correct = p6-holds .right;
       keeps = p5-kept;
-      after = demand3 .lists p5 p5-clues (wide Place ∷ []) [] refl refl .fillings gridA size (p6-holds .right) .1 p5-kept;
+      after = list-theorem .lists p5 p5-clues (wide Place ∷ []) [] refl refl .fillings gridA size (p6-holds .right) .1 p5-kept;
       lost = p5-lost;
     }
 
@@ -126,11 +126,11 @@ unfolding fives gridOf for givensOf g m fresh taken each cells peers
 values = record { givens = refl; masks = refl }
 
 lone : pass g Lone m ≡ m
-unfolding g m pass instances lones each take stepOf for peers cells
+unfolding g m pass instances lones each stepTaken stepOf for peers cells
 lone = refl
 
 place-pass : pass g Place m ≡ m
-unfolding g m pass instances places each take stepOf for unit units
+unfolding g m pass instances places each stepTaken stepOf for unit units
 place-pass = refl
 
 naked-pairs : nakedPairs g m ≡ m
@@ -138,7 +138,7 @@ unfolding g m nakedPairs nakedPairAt ones each unit units
 naked-pairs = refl
 
 pointing : pass g Pointing m ≡ m
-unfolding g m pass instances pointings each take stepOf for unit units
+unfolding g m pass instances pointings each stepTaken stepOf for unit units
 pointing = refl
 
 cross : pass g Cross m ≡ m
@@ -154,7 +154,7 @@ unfolding total ones m
 few = lit< tt
 
 pair-emptied : at (each (instanceTaken g) withFive m) 2 ≡ 0
-unfolding g m withFive each take stepOf unit units
+unfolding g m withFive each stepTaken stepOf unit units
 pair-emptied = refl
 
 settled-empty : at (settle g m .left) 2 ≡ 0

@@ -10,14 +10,14 @@ use Rattle.grid.specs.Cells.{cells, peers}
 use Rattle.grid.specs.Lists.{each}
 use Rattle.grid.specs.Units.{units, unit}
 use Rattle.steps.specs.Boards.{givensOf, fresh, taken, total}
-use Rattle.steps.specs.Calls.{Outcome, nakedSinglesCall, hiddenSinglesCall, advancedCall, settling, outcome, opened}
+use Rattle.steps.specs.Calls.{Outcome, nakedSinglesCall, hiddenSinglesCall, advancedCall, settlingCall, outcome, opened}
 use Rattle.steps.specs.Chains.{firstSome, weakLinks, strongLinks, enter, chainEnd, chainDigit, chains}
 use Rattle.steps.specs.Instances.{stepOf, lones, places, pointings}
 use Rattle.steps.specs.Loops.{for, first}
 use Rattle.steps.specs.Passes.{Kind, Lone, Place, Pair, Pointing, Cross, instances, pass, settle, Sweeps, removedBy}
 use Rattle.steps.specs.Ported.{spots, nakedPairAt, nakedPairs, boxLineAt, boxLines, xWingAt, xWingDigit, xWings}
 use Rattle.steps.specs.Singles.{nakedSingles, hiddenSingles}
-use Rattle.steps.specs.Steps.{take}
+use Rattle.steps.specs.Steps.{stepTaken}
 use Rattle.text.specs.Texts.{parseOf}
 use Rattle.record.specs.Records.{recordOf, clueSets, lacking}
 use Rattle.record.specs.Sections.{sectionBytes, candidates}
@@ -55,11 +55,11 @@ unfolding g m chains chainDigit chainEnd enter firstSome weakLinks strongLinks e
 chain-pass = refl
 
 lone : pass g Lone m ≡ m
-unfolding g m pass instances lones each take stepOf for peers cells
+unfolding g m pass instances lones each stepTaken stepOf for peers cells
 lone = refl
 
 place : pass g Place m ≡ m
-unfolding g m pass instances places each take stepOf for unit units
+unfolding g m pass instances places each stepTaken stepOf for unit units
 place = refl
 
 pair : pass g Pair m ≡ m
@@ -67,7 +67,7 @@ unfolding g m onesIn unit units
 pair = pair-idle g m tt
 
 pointing : pass g Pointing m ≡ m
-unfolding g m pass instances pointings each take stepOf for unit units
+unfolding g m pass instances pointings each stepTaken stepOf for unit units
 pointing = refl
 
 cross : pass g Cross m ≡ m
@@ -116,9 +116,9 @@ p1-holds =
       naked = ap (λ (o : Outcome). o .flag) (call-value values nakedSinglesCall) ∙ nothing-naked;
       hidden = ap (λ (o : Outcome). o .flag) (call-value values hiddenSinglesCall) ∙ nothing-hidden;
       advanced = ap (λ (o : Outcome). o .flag) (call-value values advancedCall) ∙ no-progress;
-      sweeps = ap (λ (o : Outcome). o .sweeps) (call-value values settling) ∙ ap (λ (s : Sweeps). s .sweeps) settles;
+      sweeps = ap (λ (o : Outcome). o .sweeps) (call-value values settlingCall) ∙ ap (λ (s : Sweeps). s .sweeps) settles;
       removed =
-          ap (λ (o : Outcome). o .removed) (call-value values settling)
+          ap (λ (o : Outcome). o .removed) (call-value values settlingCall)
           ∙ ap (λ (s : Sweeps). removedBy m (s .left)) settles ∙ none-removed;
       bytes = no-bytes;
     }

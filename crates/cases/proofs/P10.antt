@@ -6,25 +6,24 @@ use Prim.Native.Nat.{ℕ, _-_}
 use native.Mathlib.Omega.{arith}
 use lib.Count.{onesIn, ones}
 use lib.ListN.{length, getD}
-use Rattle.candidates.specs.Answer.{gives}
+use Rattle.stops.specs.Answer.{gives}
 use Rattle.candidates.specs.Masks.{firstPlace, gather}
 use Rattle.grid.specs.Cells.{cells, peers}
 use Rattle.grid.specs.Lists.{each}
 use Rattle.grid.specs.Units.{units, unit}
 use Rattle.steps.specs.Boards.{givensOf, fresh, taken, total, sameMasks}
-use Rattle.steps.specs.Calls.{Outcome, boxLineCall, advancedCall, settling, outcome}
+use Rattle.steps.specs.Calls.{Outcome, boxLineCall, advancedCall, settlingCall, outcome}
 use Rattle.steps.specs.Instances.{stepOf, lones, places, pointings}
 use Rattle.steps.specs.Loops.{for, first}
 use Rattle.steps.specs.Passes.{Lone, Place, Pair, Pointing, Cross, instances, pass, sweep, settle, removedBy}
 use Rattle.steps.specs.Ported.{spots, boxLineAt, boxLines}
 use Rattle.steps.specs.Singles.{nakedSingles, hiddenSingles}
-use Rattle.steps.specs.Steps.{take}
+use Rattle.steps.specs.Steps.{stepTaken}
 use Rattle.steps.proofs.Masks.{same-refl}
 use Rattle.board.specs.Boards.{clueCount, verdictOf}
-use Rattle.board.specs.Boards as B
 use Rattle.text.specs.Texts.{parseOf}
 use Rattle.card.specs.declared.layout.Card.{Card}
-use Rattle.card.specs.declared.layout.Verdict.the-variants as verdict
+use Rattle.board.specs.declared.Verdict.the-variants.{Open}
 use Rattle.card.specs.Cards.{cardFor, cardBytes}
 use Rattle.card.specs.Decimals.{digitsIn, decimal}
 use Rattle.card.specs.Layout.{lineOf, cellByte}
@@ -110,11 +109,11 @@ none-reported = refl
 -- ---- the two sweeps
 
 lone₁ : pass g Lone m ≡ m
-unfolding g m pass instances lones each take stepOf for peers cells
+unfolding g m pass instances lones each stepTaken stepOf for peers cells
 lone₁ = refl
 
 place₁ : pass g Place m ≡ m
-unfolding g m pass instances places each take stepOf for unit units
+unfolding g m pass instances places each stepTaken stepOf for unit units
 place₁ = refl
 
 pair₁ : pass g Pair m ≡ m
@@ -122,15 +121,15 @@ unfolding g m onesIn unit units
 pair₁ = pair-idle g m tt
 
 pointing₁ : pass g Pointing m ≡ n
-unfolding g m n pass instances pointings each take stepOf for unit units
+unfolding g m n pass instances pointings each stepTaken stepOf for unit units
 pointing₁ = refl
 
 lone₂ : pass g Lone n ≡ n
-unfolding g n pass instances lones each take stepOf for peers cells
+unfolding g n pass instances lones each stepTaken stepOf for peers cells
 lone₂ = refl
 
 place₂ : pass g Place n ≡ n
-unfolding g n pass instances places each take stepOf for unit units
+unfolding g n pass instances places each stepTaken stepOf for unit units
 place₂ = refl
 
 pair₂ : pass g Pair n ≡ n
@@ -138,7 +137,7 @@ unfolding g n onesIn unit units
 pair₂ = pair-idle g n tt
 
 pointing₂ : pass g Pointing n ≡ n
-unfolding g n pass instances pointings each take stepOf for unit units
+unfolding g n pass instances pointings each stepTaken stepOf for unit units
 pointing₂ = refl
 
 cross : pass g Cross n ≡ n
@@ -154,7 +153,7 @@ sweep₂ = sweep-by g n lone₂ place₂ pair₂ pointing₂ cross
 settles : settle g m ≡ record { sweeps = 2; left = n }
 settles = next-sweep g 729 m sweep₁ differ ∙ rw (last-sweep g 728 n sweep₂)
 
-settling-value : outcome settling g m ≡ record { flag = false; reports = []; sweeps = 2; removed = 18; masks = n }
+settling-value : outcome settlingCall g m ≡ record { flag = false; reports = []; sweeps = 2; removed = 18; masks = n }
 unfolding outcome
 settling-value = rw (settles, eighteen)
 
@@ -168,12 +167,12 @@ six : clueCount g cells ≡ 6
 unfolding g clueCount cells
 six = refl
 
-still-open : verdictOf n ≡ B.Open
+still-open : verdictOf n ≡ Open
 unfolding n verdictOf ones cells
 still-open = refl
 
 card : Card
-card = record { clues = 6; reported = 0; sweeps = 2; removed = 18; verdict = verdict.Open; masks = n }
+card = record { clues = 6; reported = 0; sweeps = 2; removed = 18; verdict = Open; masks = n }
 
 card-value : cardFor p10 ≡ card
 unfolding cardFor card
@@ -200,8 +199,8 @@ p10-holds =
       again = ap (λ (o : Outcome). o .flag) second-run ∙ ap (λ (l : List ℕ). not (sameMasks n l)) box-lines-again ∙ ap not (same-refl n);
       same = ap (λ (o : Outcome). o .masks) second-run ∙ box-lines-again ∙ sym first-run;
       reported = ap (λ (o : Outcome). o .reports) (call-value values advancedCall) ∙ none-reported;
-      sweeps = ap (λ (o : Outcome). o .sweeps) (call-value values settling ∙ settling-value);
-      settled = ap (λ (o : Outcome). o .removed) (call-value values settling ∙ settling-value);
+      sweeps = ap (λ (o : Outcome). o .sweeps) (call-value values settlingCall ∙ settling-value);
+      settled = ap (λ (o : Outcome). o .removed) (call-value values settlingCall ∙ settling-value);
       card = prints p10Text reads unended ∙ shows;
       cardEnded = prints-ended p10Text reads ∙ shows;
     }

@@ -2,12 +2,12 @@
 use mathlib.Core.Path.{_≡_, refl, ap, _∙_}
 use mathlib.Core.Bool.{false, not}
 use mathlib.Core.List.{List, [], _∷_}
-use mathlib.Core.Option.{none}
 use Prim.Native.Nat.{ℕ, _≤_, _<_}
 use native.Mathlib.Omega.{arith}
 use borrow.Author.Tests.{lt-ltb, not-true}
 use lib.Count.{ones}
 use lib.Dec.{eqb, ltb, lit<, eqb→eq}
+use Rattle.stops.specs.Answer.{gives}
 use Rattle.candidates.specs.Masks.{has}
 use Rattle.candidates.proofs.Tests.{below, implies, implied, T-true}
 use Rattle.candidates.proofs.Order.{sub-le}
@@ -15,11 +15,11 @@ use Rattle.grid.specs.Cells.{cells, peers}
 use Rattle.grid.specs.Lists.{each}
 use Rattle.grid.specs.Units.{units, unit}
 use Rattle.steps.specs.Boards.{givensOf, at, fresh, taken, total, Under}
-use Rattle.steps.specs.Calls.{Outcome, settling, outcome, refusal, opened}
+use Rattle.steps.specs.Calls.{Outcome, settlingCall, outcome, checkOf, opened}
 use Rattle.steps.specs.Instances.{stepOf}
 use Rattle.steps.specs.Loops.{for, first}
 use Rattle.steps.specs.Passes.{instanceTaken, settle}
-use Rattle.steps.specs.Steps.{take}
+use Rattle.steps.specs.Steps.{stepTaken}
 use Rattle.cases.specs.Cases.{Case11}
 use Rattle.cases.specs.Grids.{gridOf, p11}
 use Rattle.cases.proofs.Conflict.{withFive, settled-below}
@@ -67,7 +67,7 @@ n =
     495 ∷ 495 ∷ 511 ∷ 511 ∷ 511 ∷ 511 ∷ 511 ∷ 511 ∷ 511 ∷ []
 
 row-emptied : each (instanceTaken g) withFive m ≡ n
-unfolding g m n withFive each take stepOf unit units
+unfolding g m n withFive each stepTaken stepOf unit units
 row-emptied = refl
 
 few : total m < 730
@@ -89,8 +89,8 @@ settled-zero c e =
     let below : Under (settle g m .left) n = rw row-emptied at (settled-below g m few) in
     omega (arith, sub-le (below .at c))
 
-open-board : refusal (opened p11) ≡ none
-unfolding p11 gridOf for givensOf refusal opened first fresh taken each cells peers
+open-board : checkOf (opened p11) ≡ gives tt
+unfolding p11 gridOf for givensOf checkOf opened first fresh taken each cells peers
 open-board = refl
 
 pub p11-holds : Case11
@@ -99,5 +99,5 @@ p11-holds =
     record {
       taken = open-board;
       others = λ c h k. ap (λ (l : List ℕ). has (at l c) 4) (fresh-value values) ∙ no-five c h k;
-      emptied = λ c h k. ap (λ (o : Outcome). at (o .masks) c) (call-value values settling) ∙ settled-zero c (row-zero c h k);
+      emptied = λ c h k. ap (λ (o : Outcome). at (o .masks) c) (call-value values settlingCall) ∙ settled-zero c (row-zero c h k);
     }

@@ -6,14 +6,15 @@ use native.Mathlib.Omega.{arith}
 use lib.Count.{ones}
 use lib.IntN.{pos}
 use lib.ListN.{length}
-use Rattle.candidates.specs.Answer.{stop}
+use Rattle.stops.specs.Answer.{stop}
+use Rattle.stops.specs.declared.Stop.the-variants.{TextLength, OtherByte}
 use Rattle.candidates.specs.Masks.{firstPlace, gather}
 use Rattle.grid.specs.Cells.{cells, peers}
 use Rattle.grid.specs.Fillings.{verified}
 use Rattle.grid.specs.Lists.{each}
 use Rattle.grid.specs.Units.{units, unit}
 use Rattle.steps.specs.Boards.{givensOf, taken, fresh}
-use Rattle.steps.specs.Calls.{outcome, refusal}
+use Rattle.steps.specs.Calls.{outcome, checkOf}
 use Rattle.steps.specs.Loops.{for, first}
 use Rattle.steps.specs.Ported.{spots}
 use Rattle.steps.specs.Singles.{nakedSingles, hiddenSingles}
@@ -27,11 +28,11 @@ use Rattle.cases.specs.Grids.{gridOf, gridA, p1, p4Low, p4High, p5, exch
 use Rattle.cases.specs.Cases.{Case2, Case3, Case4, Case5, Case6}
 use Rattle.cases.proofs.Texts.{prints, prints-ended}
 
-short : (text : List ℕ) → length text ≡ 80 → parseOf text ≡ stop 1 (pos 80)
+short : (text : List ℕ) → length text ≡ 80 → parseOf text ≡ stop (TextLength (pos 80))
 unfolding parseOf
 short text e = rw e
 
-line1 : printed (stop 1 (pos 80)) ≡ p2Line
+line1 : printed (stop (TextLength (pos 80))) ≡ p2Line
 unfolding p2Line refusalBytes lineOf decimal digitsIn
 line1 = refl
 
@@ -39,24 +40,25 @@ pub p2-holds : Case2
 p2-holds =
     record {
       short = short;
+      row = refl;
       card = λ text e h. prints text (short text e) (rw e h) ∙ line1;
       cardEnded = λ text e. prints-ended text (short text e) ∙ line1;
     }
 
-last : parseOf p3Text ≡ stop 2 (pos 80)
+last : parseOf p3Text ≡ stop (OtherByte (pos 80))
 unfolding parseOf first cells
 last = refl
 
-line2 : printed (stop 2 (pos 80)) ≡ p3Line
+line2 : printed (stop (OtherByte (pos 80))) ≡ p3Line
 unfolding p3Line refusalBytes lineOf decimal digitsIn
 line2 = refl
 
 pub p3-holds : Case3
-p3-holds = record { last = last; card = prints p3Text last (λ e. omega arith) ∙ line2; cardEnded = prints-ended p3Text last ∙ line2 }
+p3-holds = record { last = last; row = refl; card = prints p3Text last (λ e. omega arith) ∙ line2; cardEnded = prints-ended p3Text last ∙ line2 }
 
 pub p4-holds : Case4
-unfolding p4Low p4High p1 gridOf for refusal openOf first cells
-p4-holds = record { opensLow = refl; opensHigh = refl; low = λ m. refl; high = λ m. refl }
+unfolding p4Low p4High p1 gridOf for checkOf openOf first cells
+p4-holds = record { opensLow = refl; opensHigh = refl; low = λ m. refl; high = λ m. refl; rowLow = refl; rowHigh = refl }
 
 pub p5-holds : Case5
 unfolding p5 gridA gridOf for givensOf fresh taken each cells peers outcome nakedSingles hiddenSingles spots gather firstPlace ones unit units

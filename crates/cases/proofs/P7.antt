@@ -13,7 +13,7 @@ use Rattle.steps.specs.Instances.{stepOf, lones, places, pointings}
 use Rattle.steps.specs.Loops.{for, first}
 use Rattle.steps.specs.Passes.{Kind, Lone, Place, Pair, Pointing, Cross, instances, pass}
 use Rattle.steps.specs.Ported.{spots, nakedPairAt, nakedPairs, boxLineAt, boxLines, xWingAt, xWingDigit, xWings}
-use Rattle.steps.specs.Steps.{take}
+use Rattle.steps.specs.Steps.{stepTaken}
 use Rattle.cases.specs.Cases.{Case7}
 use Rattle.cases.specs.Grids.{gridOf, p7}
 use Rattle.cases.proofs.Idle.{pair-idle, cross-idle}
@@ -64,11 +64,11 @@ unfolding g m chains chainDigit chainEnd enter firstSome weakLinks strongLinks e
 chain-pass = refl
 
 lone : pass g Lone m ≡ m
-unfolding g m pass instances lones each take stepOf for peers cells
+unfolding g m pass instances lones each stepTaken stepOf for peers cells
 lone = refl
 
 place : pass g Place m ≡ m
-unfolding g m pass instances places each take stepOf for unit units
+unfolding g m pass instances places each stepTaken stepOf for unit units
 place = refl
 
 pair : pass g Pair m ≡ m
@@ -76,7 +76,7 @@ unfolding g m onesIn unit units
 pair = pair-idle g m tt
 
 pointing : pass g Pointing m ≡ m
-unfolding g m pass instances pointings each take stepOf for unit units
+unfolding g m pass instances pointings each stepTaken stepOf for unit units
 pointing = refl
 
 cross : pass g Cross m ≡ m

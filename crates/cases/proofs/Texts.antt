@@ -8,10 +8,10 @@ use lib.Dec.{eqb}
 use lib.IntN.{ℤ}
 use lib.ListN.{length, getD, take, length-append}
 use lib.Seq.{getD-append-seam, take-append-seam, take-length}
-use Rattle.candidates.specs.Answer.{Answer}
+use Rattle.stops.specs.Answer.{Answer, map}
 use Rattle.candidates.proofs.Tests.{cond-true, cond-false}
 use Rattle.text.specs.Texts.{parseOf}
-use Rattle.card.specs.Cards.{textIn, cardRead, cardOf, printed}
+use Rattle.card.specs.Cards.{textIn, cardFor, cardOf, printed}
 use Rattle.cases.specs.Bytes.{ended}
 
 abbrev last : List ℕ → ℕ
@@ -33,10 +33,10 @@ module _ (text : List ℕ) where
       ap (λ (n : ℕ). take n (ended text)) (less ∙ past) ∙ take-append-seam text (10 ∷ [])
 
   module _ {a : Answer (List ℤ)} (e : parseOf text ≡ a) where
-    pub prints : (last text ≡ 10 → ⊥) → printed (cardOf text) ≡ printed (cardRead a)
+    pub prints : (last text ≡ 10 → ⊥) → printed (cardOf text) ≡ printed (map cardFor a)
     unfolding cardOf
-    prints h = ap (λ (t : List ℕ). printed (cardRead (parseOf t))) (text-unended h) ∙ ap (λ (b : Answer (List ℤ)). printed (cardRead b)) e
+    prints h = ap (λ (t : List ℕ). printed (map cardFor (parseOf t))) (text-unended h) ∙ ap (λ (b : Answer (List ℤ)). printed (map cardFor b)) e
 
-    pub prints-ended : printed (cardOf (ended text)) ≡ printed (cardRead a)
+    pub prints-ended : printed (cardOf (ended text)) ≡ printed (map cardFor a)
     unfolding cardOf
-    prints-ended = ap (λ (t : List ℕ). printed (cardRead (parseOf t))) text-ended ∙ ap (λ (b : Answer (List ℤ)). printed (cardRead b)) e
+    prints-ended = ap (λ (t : List ℕ). printed (map cardFor (parseOf t))) text-ended ∙ ap (λ (b : Answer (List ℤ)). printed (map cardFor b)) e

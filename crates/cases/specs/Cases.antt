@@ -2,15 +2,16 @@
 use mathlib.Core.Path.{_≡_}
 use mathlib.Core.Bool.{true, false}
 use mathlib.Core.List.{List, [], _∷_, map}
-use mathlib.Core.Option.{none, some}
 use Prim.Native.Nat.{ℕ, _≤_, _<_}
 use lib.IntN.{ℤ, pos, negsuc}
 use lib.ListN.{length, getD, replicate, set}
-use Rattle.candidates.specs.Answer.{gives, stop}
+use Rattle.stops.specs.Answer.{gives, stop}
+use Rattle.stops.specs.Stops.{rowOf}
+use Rattle.stops.specs.declared.Stop.the-variants.{TextLength, OtherByte, BadClue}
 use Rattle.candidates.specs.Masks.{has}
 use Rattle.grid.specs.Fillings.{verified}
 use Rattle.steps.specs.Boards.{at, givensOf, fresh}
-use Rattle.steps.specs.Calls.{Call, Outcome, nakedPairsCall, boxLineCall, xWingCall, nakedSinglesCall, hiddenSinglesCall, advancedCall, wide, settling, chainCall, outcome, refusal, opened}
+use Rattle.steps.specs.Calls.{Call, Outcome, nakedPairsCall, boxLineCall, xWingCall, nakedSinglesCall, hiddenSinglesCall, advancedCall, wide, settlingCall, chainCall, outcome, checkOf, opened}
 use Rattle.steps.specs.Passes.{Kind, removedBy}
 use Rattle.steps.specs.Singles.{Report}
 use Rattle.board.specs.Boards.{openOf}
@@ -49,28 +50,32 @@ pub record Case1 : Type 0 where
   pub naked : onFresh nakedSinglesCall p1 .flag ≡ false
   pub hidden : onFresh hiddenSinglesCall p1 .flag ≡ false
   pub advanced : onFresh advancedCall p1 .flag ≡ false
-  pub sweeps : onFresh settling p1 .sweeps ≡ 1
-  pub removed : onFresh settling p1 .removed ≡ 0
+  pub sweeps : onFresh settlingCall p1 .sweeps ≡ 1
+  pub removed : onFresh settlingCall p1 .removed ≡ 0
   pub bytes : recordOf (opened p1) ≡ 0 ∷ 0 ∷ 0 ∷ []
 
 -- "P2 80 bytes: 1, 80." And what `scorecard` prints for such a text, as it is or with a final newline.
 pub record Case2 : Type 0 where
-  pub short : (text : List ℕ) → length text ≡ 80 → parseOf text ≡ stop 1 (pos 80)
+  pub short : (text : List ℕ) → length text ≡ 80 → parseOf text ≡ stop (TextLength (pos 80))
+  pub row : rowOf (TextLength (pos 80)) ≡ record { number = 1; detail = pos 80 }
   pub card : (text : List ℕ) → length text ≡ 80 → (getD text 79 0 ≡ 10 → ⊥) → printed (cardOf text) ≡ p2Line
   pub cardEnded : (text : List ℕ) → length text ≡ 80 → printed (cardOf (ended text)) ≡ p2Line
 
 -- "P3 `a` as last of 81: 2, 80."
 pub record Case3 : Type 0 where
-  pub last : parseOf p3Text ≡ stop 2 (pos 80)
+  pub last : parseOf p3Text ≡ stop (OtherByte (pos 80))
+  pub row : rowOf (OtherByte (pos 80)) ≡ record { number = 2; detail = pos 80 }
   pub card : printed (cardOf p3Text) ≡ p3Line
   pub cardEnded : printed (cardOf (ended p3Text)) ≡ p3Line
 
 -- "P4 clue -1 at cell 0: 3, 0. Clue 10 at cell 80: 3, 80." The opener's, and of a board that is handed in, whatever its masks: the clues are checked first.
 pub record Case4 : Type 0 where
-  pub opensLow : openOf p4Low ≡ stop 3 (pos 0)
-  pub opensHigh : openOf p4High ≡ stop 3 (pos 80)
-  pub low : (m : List ℕ) → refusal (record { clues = p4Low; masks = m }) ≡ some (3, 0)
-  pub high : (m : List ℕ) → refusal (record { clues = p4High; masks = m }) ≡ some (3, 80)
+  pub opensLow : openOf p4Low ≡ stop (BadClue (pos 0))
+  pub opensHigh : openOf p4High ≡ stop (BadClue (pos 80))
+  pub low : (m : List ℕ) → checkOf (record { clues = p4Low; masks = m }) ≡ stop (BadClue (pos 0))
+  pub high : (m : List ℕ) → checkOf (record { clues = p4High; masks = m }) ≡ stop (BadClue (pos 80))
+  pub rowLow : rowOf (BadClue (pos 0)) ≡ record { number = 3; detail = pos 0 }
+  pub rowHigh : rowOf (BadClue (pos 80)) ≡ record { number = 3; detail = pos 80 }
 
 -- the report of digit 1 in cell 0
 abbrev pub one : Report
@@ -115,16 +120,16 @@ pub record Case10 : Type 0 where
   pub again : outcome boxLineCall (givensOf p10) (onFresh boxLineCall p10 .masks) .flag ≡ false
   pub same : outcome boxLineCall (givensOf p10) (onFresh boxLineCall p10 .masks) .masks ≡ onFresh boxLineCall p10 .masks
   pub reported : onFresh advancedCall p10 .reports ≡ []
-  pub sweeps : onFresh settling p10 .sweeps ≡ 2
-  pub settled : onFresh settling p10 .removed ≡ 18
+  pub sweeps : onFresh settlingCall p10 .sweeps ≡ 2
+  pub settled : onFresh settlingCall p10 .removed ≡ 18
   pub card : printed (cardOf p10Text) ≡ p10Card
   pub cardEnded : printed (cardOf (ended p10Text)) ≡ p10Card
 
 -- "P11 clue 5 at cells 0 and 1: opened; no other cell of row 0 holds 5." And of Pair: "in P11 the two clues 5 are a Pair with every other digit, so settling empties the open cells of row 0." Digit 5 is place 4.
 pub record Case11 : Type 0 where
-  pub taken : refusal (opened p11) ≡ none
+  pub taken : checkOf (opened p11) ≡ gives tt
   pub others : (c : ℕ) → 2 ≤ c → c < 9 → has (at (opened p11 .masks) c) 4 ≡ false
-  pub emptied : (c : ℕ) → 2 ≤ c → c < 9 → at (onFresh settling p11 .masks) c ≡ 0
+  pub emptied : (c : ℕ) → 2 ≤ c → c < 9 → at (onFresh settlingCall p11 .masks) c ≡ 0
 
 -- The cases as a group.
 pub record Cases : Type 0 where

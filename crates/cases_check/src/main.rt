@@ -2,47 +2,50 @@
 // a text or clue numbers with the stop and what stands beside it, `step NUMBER FLAG REMOVED` by step numbers, a mask by its cell.
 use board::Board;
 use board::CellMask;
-use board::Opening;
 use calls::Stepping;
 use calls::step;
-use libc::STDOUT_FILENO;
-use record::RecordWriting;
+use printing::number;
+use printing::refusal;
+use printing::word;
 use record::write_record;
-use text::Parsing;
-
-fn number(n: u64) {
-    io::write_all(STDOUT_FILENO, b" ");
-    io::print_decimal(STDOUT_FILENO, n);
-}
+use stops::Check;
+use stops::Stop;
+use stops::Writing;
 
 fn end() {
-    io::write_all(STDOUT_FILENO, b"\n");
+    word(b"\n");
 }
 
 fn line(name: &[u8], a: u64, b: u64) {
-    io::write_all(STDOUT_FILENO, name);
+    word(name);
     number(a);
     number(b);
     end();
 }
 
+fn refused(name: &[u8], stop: Stop) {
+    word(name);
+    refusal(stop);
+    end();
+}
+
+fn checked(name: &[u8], answer: Check) {
+    match answer {
+        Check::Passed => line(name, 0, 0),
+        Check::Refused(stop) => refused(name, stop),
+    }
+}
+
 fn read(name: &[u8], bytes: &[u8]) {
     let parsed = text::parse_string(bytes);
     let answer = parsed.answer;
-    match answer {
-        Parsing::Read => line(name, 0, 0),
-        Parsing::WrongLength(length) => line(name, 1, length as u64),
-        Parsing::BadByte(index) => line(name, 2, index as u64),
-    }
+    checked(name, answer);
 }
 
 fn open(name: &[u8], clues: [i32; 81]) {
     let opened = Board::new(clues);
     let answer = opened.answer;
-    match answer {
-        Opening::Opened => line(name, 0, 0),
-        Opening::BadClue(cell) => line(name, 3, cell as u64),
-    }
+    checked(name, answer);
 }
 
 fn clues_of(bytes: &[u8]) -> [i32; 81] {
@@ -66,9 +69,7 @@ fn with_clue(clues: [i32; 81], cell: usize, clue: i32) -> [i32; 81] {
 fn mask(name: &[u8], board: Board, cell: u32) {
     match board.cell_mask(cell) {
         CellMask::Mask(mask) => line(name, cell as u64, mask as u64),
-        CellMask::BadClue(bad) => line(name, 3, bad as u64),
-        CellMask::BadMask(bad) => line(name, 9, bad as u64),
-        CellMask::NoCell(bad) => line(name, 5, bad as u64),
+        CellMask::Refused(stop) => refused(name, stop),
     }
 }
 
@@ -105,9 +106,8 @@ fn flag(made: bool) -> u64 {
 fn progress(answer: Stepping) -> u64 {
     match answer {
         Stepping::Made(made) => flag(made),
-        Stepping::BadClue(_) => 3,
-        Stepping::BadMask(_) => 9,
-        Stepping::NoStep(_) => 20,
+        Stepping::Refused(stop) => stops::number(stop) as u64,
+        Stepping::NoStep => 20,
     }
 }
 
@@ -116,7 +116,7 @@ fn take(name: &[u8], which: u8, board: Board) -> Board {
     let done = step(which, board);
     let answer = done.answer;
     let after = done.board;
-    io::write_all(STDOUT_FILENO, name);
+    word(name);
     number(which as u64);
     number(progress(answer));
     number(fewer(board, after));
@@ -153,7 +153,7 @@ fn report(cell: u8, digit: u8) {
 fn reports(name: &[u8], which: u8, board: Board) {
     let done = step(which, board);
     let found = done.reports;
-    io::write_all(STDOUT_FILENO, name);
+    word(name);
     number(found.count as u64);
     let cells = found.cells;
     let digits = found.digits;
@@ -164,11 +164,11 @@ fn reports(name: &[u8], which: u8, board: Board) {
 }
 
 fn verify(name: &[u8], grid: [i32; 81]) {
-    io::write_all(STDOUT_FILENO, name);
+    word(name);
     if grid::verify_solution(&grid) {
-        io::write_all(STDOUT_FILENO, b" yes\n");
+        word(b" yes\n");
     } else {
-        io::write_all(STDOUT_FILENO, b" no\n");
+        word(b" no\n");
     }
 }
 
@@ -176,12 +176,10 @@ fn verify(name: &[u8], grid: [i32; 81]) {
 fn record(name: &[u8], board: Board) {
     let mut bytes = [255u8; 8];
     match write_record(board, &mut bytes) {
-        RecordWriting::Written(length) => line(name, 0, length as u64),
-        RecordWriting::BadClue(cell) => line(name, 3, cell as u64),
-        RecordWriting::BadMask(cell) => line(name, 9, cell as u64),
-        RecordWriting::TooShort(lent) => line(name, 6, lent as u64),
+        Writing::Written(length) => line(name, 0, length as u64),
+        Writing::Refused(stop) => refused(name, stop),
     }
-    io::write_all(STDOUT_FILENO, name);
+    word(name);
     report(bytes[0], bytes[1]);
     report(bytes[2], bytes[3]);
     end();

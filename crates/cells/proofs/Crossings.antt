@@ -6,17 +6,16 @@ use Prim.Native.Nat.{ℕ, _+_, _<_}
 use native.Mathlib.Nat.{zero-add}
 use native.Mathlib.Omega.{arith}
 use lib.Dec.{eqb, eqb→eq}
-use Rattle.candidates.specs.Masks.{has, single}
+use Rattle.candidates.specs.Masks.{has, single, placeMask}
 use Rattle.candidates.proofs.Tests.{below-both}
 use Rattle.grid.specs.Cells.{col}
 use Rattle.grid.specs.Units.{units, unit, unitCell, inUnit}
 use Rattle.grid.proofs.Units.{in-row, in-col, col-place, row-place}
 use Rattle.steps.specs.Boards.{isOpen}
-use Rattle.steps.specs.Instances.{only}
 use Rattle.steps.specs.Steps.{loseAt, loseAll}
 use Rattle.steps.proofs.Loops.{each-append}
-use Rattle.cells.specs.Places.{losePlaces, allBut}
-use Rattle.cells.proofs.NineBits.{single-is}
+use Rattle.cells.specs.code.Places.{losePlaces, allBut}
+use Rattle.cells.proofs.NineBits.{place-is}
 use Rattle.cells.proofs.UnitPlaces.{has-allBut, spared-lose}
 
 -- nine lines from f and nine from h: the i-th cell of a line lies in the i-th line that crosses it
@@ -48,20 +47,20 @@ columns = record {
 module _ (g : List ℕ) (f h d i j : ℕ) (back : Crossing h f) (hd : d < 9) (hi : i < 9) (hj : j < 9) where
   -- what a cell loses
   abbrev but : ℕ → ℕ
-  but e = cond (inUnit (f + i) e || inUnit (f + j) e) 0 (only d)
+  but e = cond (inUnit (f + i) e || inUnit (f + j) e) 0 (single d)
 
-  across-lose : (c : ℕ) (m : List ℕ) → c < 9 → losePlaces (isOpen g) (h + c) (allBut i j) (single d) m ≡ loseAll (isOpen g) (unit (h + c)) but m
+  across-lose : (c : ℕ) (m : List ℕ) → c < 9 → losePlaces (isOpen g) (h + c) (allBut i j) (placeMask d) m ≡ loseAll (isOpen g) (unit (h + c)) but m
   across-lose c m n =
-      spared-lose (h + c) (back .below c n) (isOpen g) (allBut i j) (single d) (λ e. inUnit (f + i) e || inUnit (f + j) e) says m
-      ∙ ap (λ (k : ℕ). loseAll (isOpen g) (unit (h + c)) (λ e. cond (inUnit (f + i) e || inUnit (f + j) e) 0 k) m) (single-is d hd)
+      spared-lose (h + c) (back .below c n) (isOpen g) (allBut i j) (placeMask d) (λ e. inUnit (f + i) e || inUnit (f + j) e) says m
+      ∙ ap (λ (k : ℕ). loseAll (isOpen g) (unit (h + c)) (λ e. cond (inUnit (f + i) e || inUnit (f + j) e) 0 k) m) (place-is d hd)
     where
       says : (l : ℕ) → l < 9 → has (allBut i j) l ≡ not (inUnit (f + i) (unitCell (h + c) l) || inUnit (f + j) (unitCell (h + c) l))
       says l o =
-          has-allBut i j l hi hj o
+          has-allBut i j l o
           ∙ sym (ap not (ap (λ (t : Bool). t || inUnit (f + j) (unitCell (h + c) l)) (back .inside c i l n hi o) ∙ ap (λ (t : Bool). eqb l i || t) (back .inside c j l n hj o)))
 
   pub two-across : (a b : ℕ) → a < 9 → b < 9 → (m : List ℕ)
-      → losePlaces (isOpen g) (h + b) (allBut i j) (single d) (losePlaces (isOpen g) (h + a) (allBut i j) (single d) m) ≡ loseAll (isOpen g) (unit (h + a) ++ unit (h + b)) but m
+      → losePlaces (isOpen g) (h + b) (allBut i j) (placeMask d) (losePlaces (isOpen g) (h + a) (allBut i j) (placeMask d) m) ≡ loseAll (isOpen g) (unit (h + a) ++ unit (h + b)) but m
   two-across a b ha hb m =
       across-lose b _ hb ∙ ap (loseAll (isOpen g) (unit (h + b)) but) (across-lose a m ha)
       ∙ sym (each-append (λ e. loseAt (isOpen g) e (but e)) (unit (h + a)) (unit (h + b)) m)

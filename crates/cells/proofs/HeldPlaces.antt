@@ -8,7 +8,7 @@ use borrow.Author.Tests.{eq-eqb, ne-eqb, eqb-true}
 use lib.Bits.{bitAnd, and-zero-r}
 use lib.Dec.{eqb}
 use lib.ListN.{getD, replicate}
-use Rattle.candidates.specs.Masks.{bit, has, minus, gather}
+use Rattle.candidates.specs.Masks.{bit, has, minus, single, gather}
 use Rattle.candidates.proofs.Held.{Held, has-none, none-held, held-ext, held-sub, held-below, held-minus, has-gather}
 use Rattle.candidates.proofs.Membership.{bit-and, bit-power, bit-none, gather-lt}
 use Rattle.candidates.proofs.Order.{sub-of-minus}
@@ -17,11 +17,10 @@ use Rattle.grid.specs.Units.{unit, unitCell, Member}
 use Rattle.grid.proofs.Lists.{map-same, all-same}
 use Rattle.grid.proofs.Units.{mem-member, member-mem, at-place, past-table}
 use Rattle.steps.specs.Boards.{at}
-use Rattle.steps.specs.Instances.{only}
 use Rattle.steps.specs.Loops.{all, upTo}
 use Rattle.steps.specs.Steps.{lacks}
 use Rattle.steps.proofs.Loops.{all-member, member-all}
-use Rattle.cells.specs.Places.{openMask, unitMasks, allMasks, placesOf, heldPlaces, lineSpots}
+use Rattle.cells.specs.code.Places.{openMask, unitMasks, allMasks, spotsIn, heldPlaces, lineSpots}
 use Rattle.cells.proofs.Places.{gather-same, unit-mask, all-mask}
 use Rattle.cells.proofs.NineBits.{not-held}
 
@@ -29,12 +28,12 @@ use Rattle.cells.proofs.NineBits.{not-held}
 
 module _ (m : List ℕ) (u d : ℕ) where
   pub held-small : heldPlaces m u d < 2 ^ 9
-  unfolding heldPlaces placesOf
+  unfolding heldPlaces spotsIn
   held-small = gather-lt (λ i. has (at (allMasks m u) i) d) 9
 
   module _ (h : u < 27) where
     held-are : heldPlaces m u d ≡ gather (λ i. has (at m (unitCell u i)) d) 9
-    unfolding heldPlaces placesOf
+    unfolding heldPlaces spotsIn
     held-are =
         gather-same (λ i. has (at (allMasks m u) i) d) (λ i. has (at m (unitCell u i)) d) 9
         (λ i l. ap (λ (x : ℕ). has x d) (all-mask m u i h l))
@@ -49,9 +48,9 @@ held-same m n u d h same =
 
 -- past the units there are no cells
 pub spots-past : (g m : List ℕ) (f d : ℕ) → 27 ≤ f → replicate 9 0 ≡ lineSpots g m f d
-unfolding lineSpots placesOf gather
+unfolding lineSpots spotsIn gather
 spots-past g m f d h =
-    map-same (λ i. 0) (λ i. placesOf (unitMasks g m (f + i)) d) (upTo 9)
+    map-same (λ i. 0) (λ i. spotsIn (unitMasks g m (f + i)) d) (upTo 9)
     (λ i k. sym (gather-same (λ j. has (at (unitMasks g m (f + i)) j) d) (λ j. false) 9 (λ j l. ap (λ (x : ℕ). has x d) (none i j l) ∙ has-none d)))
   where
     none : (i j : ℕ) → j < 9 → at (unitMasks g m (f + i)) j ≡ 0
@@ -92,7 +91,7 @@ module _ (u ok : ℕ) (h : u < 27) (p f : ℕ → Bool) (says : (i : ℕ) → i 
       up t = member-all passes (unit u) (λ e k. one t e (mem-member h k) (p e) refl)
 
 -- the same for the cells that hold d, as a step's condition has it
-lacks-unless : (m : List ℕ) (e d : ℕ) (t : Bool) → lacks m e (cond t 0 (only d)) ≡ (not (has (at m e) d) || t)
+lacks-unless : (m : List ℕ) (e d : ℕ) (t : Bool) → lacks m e (cond t 0 (single d)) ≡ (not (has (at m e) d) || t)
 lacks-unless m e d true = eq-eqb (bitAnd (at m e) 0) 0 (and-zero-r (at m e)) ∙ sym (or-true (not (has (at m e) d)))
   where
     or-true : (s : Bool) → (s || true) ≡ true
@@ -100,14 +99,14 @@ lacks-unless m e d true = eq-eqb (bitAnd (at m e) 0) 0 (and-zero-r (at m e)) ∙
     or-true false = refl
 lacks-unless m e d false = go (has (at m e) d) refl
   where
-    go : (s : Bool) → has (at m e) d ≡ s → lacks m e (only d) ≡ (not s || false)
+    go : (s : Bool) → has (at m e) d ≡ s → lacks m e (single d) ≡ (not s || false)
     go true s =
         ne-eqb (bitAnd (at m e) (2 ^ d)) 0
         (λ z. omega (arith, bit-and (at m e) (2 ^ d) d, ap (λ (x : ℕ). bit x d) z, bit-none d, bit-power d, eqb-true (bit (at m e) d) 1 s))
     go false s = eq-eqb (bitAnd (at m e) (2 ^ d)) 0 (not-held (at m e) d (λ h. true≢false (sym h ∙ s)))
 
 pub confined : (m : List ℕ) (u d : ℕ) (f : ℕ → Bool) (ok : ℕ) → u < 27 → ((i : ℕ) → i < 9 → has ok i ≡ f (unitCell u i))
-    → all (λ e. lacks m e (cond (f e) 0 (only d))) (unit u) ≡ eqb (minus (heldPlaces m u d) ok) 0
+    → all (λ e. lacks m e (cond (f e) 0 (single d))) (unit u) ≡ eqb (minus (heldPlaces m u d) ok) 0
 confined m u d f ok h says =
-    all-same (λ e. lacks m e (cond (f e) 0 (only d))) (λ e. not (has (at m e) d) || f e) (unit u) (λ e k. lacks-unless m e d (f e))
+    all-same (λ e. lacks m e (cond (f e) 0 (single d))) (λ e. not (has (at m e) d) || f e) (unit u) (λ e k. lacks-unless m e d (f e))
     ∙ within u ok h (λ e. has (at m e) d) f says ∙ ap (λ (x : ℕ). eqb (minus x ok) 0) (sym (held-are m u d h))

@@ -2,21 +2,20 @@
 use mathlib.Core.Path.{_≡_, refl, sym, ap, _∙_, subst}
 use mathlib.Core.Logic.{_≢_, _↔_, inl, inr, ⊎-elim}
 use mathlib.Core.Bool.{Bool, true, false, not, _&&_, _||_, true≢false}
-use Prim.Native.Nat.{ℕ, _-_, _^_, _<_}
+use Prim.Native.Nat.{ℕ, _^_, _<_}
 use native.Mathlib.Omega.{arith}
 use borrow.Author.Tests.{eq-eqb, eqb-true, eqb-false}
 use lib.Bits.{bitAnd, and-mask}
 use lib.Dec.{eqb, ltb, ltb→lt}
-use Rattle.candidates.specs.Masks.{bit, has, minus, union, count, single, Sub}
-use Rattle.candidates.proofs.Counts.{sub-and, bit-except}
+use Rattle.candidates.specs.Masks.{bit, has, minus, union, count, single, placeMask, Sub}
 use Rattle.candidates.proofs.FewDigits.{two-count}
 use Rattle.candidates.proofs.Held.{Held, none-held, held-ext, held-sub, has-power, has-minus, has-union, held-power, held-union, held-both}
-use Rattle.candidates.proofs.Membership.{bit-all, bit-and, bit-union, bit-minus, ext, single-power}
+use Rattle.candidates.proofs.Membership.{bit-all, bit-and, bit-union, bit-minus, ext, place-single}
 use Rattle.candidates.proofs.Order.{sub-le, sub-all, and-sub, and-only, sub-of-minus, minus-of-sub, union-sub}
 use Rattle.candidates.proofs.Tests.{below, bool-iff, both, both-left, both-right}
 
-pub single-is : (d : ℕ) → d < 9 → single d ≡ 2 ^ d
-single-is d h = single-power d (omega arith)
+pub place-is : (d : ℕ) → d < 9 → placeMask d ≡ single d
+place-is d h = place-single d (omega arith)
 
 pub only-sub : (d : ℕ) → d < 9 → Sub (2 ^ d) 511
 only-sub d h = sub-all (2 ^ d) (ltb→lt (2 ^ d) 512 (below 9 (λ d. ltb (2 ^ d) 512) tt d h))
@@ -51,16 +50,10 @@ only-none {x} d p lacks =
 pub has-except : (k d : ℕ) → d < 9 → has (minus 511 k) d ≡ not (has k d)
 has-except k d h = has-minus 511 k d ∙ ap (λ (t : Bool). t && not (has k d)) (eq-eqb _ 1 (bit-all d h))
 
-except-is : {k : ℕ} → Sub k 511 → minus 511 k ≡ 511 - k
-except-is p = ap (λ (x : ℕ). 511 - x) (sub-and p)
-
-pub except-single : (d : ℕ) → d < 9 → minus 511 (single d) ≡ 511 - 2 ^ d
-except-single d h = ap (minus 511) (single-is d h) ∙ except-is (only-sub d h)
-
 -- ---- two digits
 
-pub both-is : (a b : ℕ) → a < 9 → b < 9 → union (single a) (single b) ≡ union (2 ^ a) (2 ^ b)
-both-is a b h l = ap (λ (x : ℕ). union x (single b)) (single-is a h) ∙ ap (union (2 ^ a)) (single-is b l)
+pub both-is : (a b : ℕ) → a < 9 → b < 9 → union (placeMask a) (placeMask b) ≡ union (single a) (single b)
+both-is a b h l = ap (λ (x : ℕ). union x (placeMask b)) (place-is a h) ∙ ap (union (single a)) (place-is b l)
 
 pub both-sub : (a b : ℕ) → a < 9 → b < 9 → Sub (union (2 ^ a) (2 ^ b)) 511
 both-sub a b h l = union-sub (only-sub a h) (only-sub b l)
@@ -77,15 +70,15 @@ pub nine-lt : (x : ℕ) → bitAnd x 511 < 2 ^ 16
 nine-lt x = omega (arith, sub-le (and-sub x 511))
 
 -- no digit of x outside k, as a step has it and as code has it
-pub outside-test : (x : ℕ) {k : ℕ} → Sub k 511 → eqb (bitAnd x (511 - k)) 0 ≡ eqb (minus (bitAnd x 511) k) 0
-outside-test x {k} p =
+pub outside-test : (x k : ℕ) → eqb (bitAnd x (minus 511 k)) 0 ≡ eqb (minus (bitAnd x 511) k) 0
+outside-test x k =
     ap (λ (y : ℕ). eqb y 0)
-    (ext (bitAnd x (511 - k)) (minus (bitAnd x 511) k) (λ d. omega (arith, bit-and x (511 - k) d, bit-except d p, bit-minus (bitAnd x 511) k d, bit-and x 511 d)))
+    (ext (bitAnd x (minus 511 k)) (minus (bitAnd x 511) k) (λ d. omega (arith, bit-and x (minus 511 k) d, bit-minus 511 k d, bit-minus (bitAnd x 511) k d, bit-and x 511 d)))
 
 -- a mask that has no digit but d, as a step has it
-pub within-only : (x d : ℕ) → d < 9 → eqb (bitAnd x (511 - 2 ^ d)) 0 ≡ true → Sub (bitAnd x 511) (2 ^ d)
-within-only x d l t =
-    sub-of-minus (bitAnd x 511) (2 ^ d) (eqb-true (minus (bitAnd x 511) (2 ^ d)) 0 (sym (outside-test x (only-sub d l)) ∙ t))
+pub within-only : (x d : ℕ) → eqb (bitAnd x (minus 511 (single d))) 0 ≡ true → Sub (bitAnd x 511) (single d)
+within-only x d t =
+    sub-of-minus (bitAnd x 511) (single d) (eqb-true (minus (bitAnd x 511) (single d)) 0 (sym (outside-test x (single d)) ∙ t))
 
 -- nor of y
 pub outside-both : (x y k : ℕ) → (eqb (minus (bitAnd x 511) k) 0 && eqb (minus (bitAnd y 511) k) 0) ≡ eqb (minus (bitAnd (union x y) 511) k) 0

@@ -22,7 +22,7 @@ use Rattle.steps.specs.Ported.{holds, spots}
 use Rattle.steps.specs.Steps.{loseAt, loseAll}
 use Rattle.steps.proofs.Loops.{in-upTo, each-keeps}
 use Rattle.steps.proofs.Steps.{lose-none, lose-other}
-use Rattle.cells.specs.Places.{maskAt, loseIn, losePlaces, openMask, unitMasks, allMasks, placesOf}
+use Rattle.cells.specs.code.Places.{maskAt, loseIn, losePlaces, openMask, unitMasks, allMasks, spotsIn}
 
 -- ---- a loop over a unit, by places
 
@@ -119,8 +119,8 @@ open-holds g m d c h = ap (λ (x : ℕ). has x d) (open-mask g m c h) ∙ go (is
     go true = refl
     go false = has-none d
 
-pub spots-are : (g m : List ℕ) (u d : ℕ) → u < 27 → placesOf (unitMasks g m u) d ≡ spots g m u d
-unfolding placesOf spots
+pub spots-are : (g m : List ℕ) (u d : ℕ) → u < 27 → spotsIn (unitMasks g m u) d ≡ spots g m u d
+unfolding spotsIn spots
 spots-are g m u d h =
     gather-same (λ i. has (at (unitMasks g m u) i) d) (λ i. holds g m d (unitCell u i)) 9
     (λ i k. ap (λ (x : ℕ). has x d) (unit-mask g m u i k) ∙ open-holds g m d (unitCell u i) (cell-below u i h k))

@@ -18,7 +18,7 @@ use Rattle.grid.proofs.Unions.{held-gathered}
 use Rattle.steps.specs.Boards.{at}
 use Rattle.steps.specs.Loops.{each, range, upTo}
 use Rattle.steps.proofs.Loops.{in-upTo, upTo-in}
-use Rattle.cells.specs.Unions.{joined, joinedAt, sharedFrom, sharedOf, crowd, crowdedOf}
+use Rattle.cells.specs.code.Unions.{joined, joinedAt, sharedFrom, sharedOf, severalIn, severalOf}
 use Rattle.cells.proofs.NineBits.{held-meet}
 
 -- ---- a union of what f gives at the numbers of a range
@@ -35,15 +35,15 @@ module _ (nine : List ℕ) (d : ℕ) where
   unfolding joined
   joined-held t = union-held (at nine) 9 d t
 
-  -- a mask that holds what no crowded one holds has one digit
-  pub crowded-not : (Held (crowdedOf nine) d → ⊥) → (i : ℕ) → i < 9 → Held (at nine i) d → count (at nine i) ≡ 1
-  unfolding crowdedOf
-  crowded-not none i h t = go (eqb (count (at nine i)) 1) refl
+  -- a mask that holds what no several one holds has one digit
+  pub several-not : (Held (severalOf nine) d → ⊥) → (i : ℕ) → i < 9 → Held (at nine i) d → count (at nine i) ≡ 1
+  unfolding severalOf
+  several-not none i h t = go (eqb (count (at nine i)) 1) refl
     where
       go : (b : Bool) → eqb (count (at nine i)) 1 ≡ b → count (at nine i) ≡ 1
       go true e = eqb-true (count (at nine i)) 1 e
       go false e =
-          absurd (none (held-sub d (union-at (λ j. crowd (at nine j)) 9 i h)
+          absurd (none (held-sub d (union-at (λ j. severalIn (at nine j)) 9 i h)
           (subst (λ (x : ℕ). Held x d) (sym (cond-false (eqb (count (at nine i)) 1) 0 (at nine i) e)) t)))
 
 -- ---- what two of the masks hold

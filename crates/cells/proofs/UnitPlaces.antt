@@ -3,15 +3,14 @@ use mathlib.Core.Path.{_≡_, refl, sym, ap, _∙_}
 use mathlib.Core.Bool.{Bool, true, false, cond, not, _&&_, _||_}
 use mathlib.Core.List.{List}
 use Prim.Native.Nat.{ℕ, _<_}
-use native.Mathlib.Omega.{arith}
 use lib.Dec.{T, eqb}
 use Rattle.candidates.specs.Masks.{has, minus, single}
-use Rattle.candidates.proofs.Held.{has-single, has-minus}
+use Rattle.candidates.proofs.Held.{has-power, has-minus}
 use Rattle.candidates.proofs.Tests.{eqb-iff}
 use Rattle.grid.specs.Units.{unit, unitCell}
 use Rattle.grid.proofs.Units.{same-place}
 use Rattle.steps.specs.Steps.{loseAll}
-use Rattle.cells.specs.Places.{losePlaces, allBut}
+use Rattle.cells.specs.code.Places.{losePlaces, allBut}
 use Rattle.cells.proofs.NineBits.{has-except}
 use Rattle.cells.proofs.Places.{places-lose}
 
@@ -29,11 +28,11 @@ agreed false false a = refl
 
 -- ---- one place, and all but two
 
-pub has-allBut : (i j l : ℕ) → i < 9 → j < 9 → l < 9 → has (allBut i j) l ≡ not (eqb l i || eqb l j)
-has-allBut i j l h k b =
+pub has-allBut : (i j l : ℕ) → l < 9 → has (allBut i j) l ≡ not (eqb l i || eqb l j)
+has-allBut i j l b =
     has-minus (minus 511 (single i)) (single j) l
-    ∙ ap (λ (t : Bool). t && not (has (single j) l)) (has-except (single i) l b ∙ ap not (has-single i l (omega arith)))
-    ∙ ap (λ (t : Bool). not (eqb l i) && not t) (has-single j l (omega arith))
+    ∙ ap (λ (t : Bool). t && not (has (single j) l)) (has-except (single i) l b ∙ ap not (has-power i l))
+    ∙ ap (λ (t : Bool). not (eqb l i) && not t) (has-power j l)
     ∙ neither (eqb l i) (eqb l j)
   where
     neither : (p q : Bool) → (not p && not q) ≡ not (p || q)
@@ -46,7 +45,7 @@ module _ (u : ℕ) (h : u < 27) where
 
   -- a place, by its cell
   pub has-place : (i j : ℕ) → i < 9 → j < 9 → has (single i) j ≡ eqb (unitCell u j) (unitCell u i)
-  has-place i j l n = has-single i j (omega arith) ∙ sym (same-cell i j l n)
+  has-place i j l n = has-power i j ∙ sym (same-cell i j l n)
 
   -- the cells at two places, and no others
   two-cells : (i j l : ℕ) → i < 9 → j < 9 → l < 9 → (eqb (unitCell u l) (unitCell u i) || eqb (unitCell u l) (unitCell u j)) ≡ (eqb l i || eqb l j)
@@ -66,4 +65,4 @@ module _ (u : ℕ) (h : u < 27) where
   pub two-spared : (free : ℕ → Bool) (i j k : ℕ) → i < 9 → j < 9 → (m : List ℕ)
       → losePlaces free u (allBut i j) k m ≡ loseAll free (unit u) (λ e. cond (eqb e (unitCell u i) || eqb e (unitCell u j)) 0 k) m
   two-spared free i j k hi hj m =
-      spared-lose free (allBut i j) k (λ e. eqb e (unitCell u i) || eqb e (unitCell u j)) (λ l n. has-allBut i j l hi hj n ∙ ap not (sym (two-cells i j l hi hj n))) m
+      spared-lose free (allBut i j) k (λ e. eqb e (unitCell u i) || eqb e (unitCell u j)) (λ l n. has-allBut i j l n ∙ ap not (sym (two-cells i j l hi hj n))) m

@@ -1,3 +1,1 @@
-pub mod Places
-pub mod Unions
-pub mod Lines
+pub mod code

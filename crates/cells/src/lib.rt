@@ -3,7 +3,7 @@
 ghost use mathlib.Core.Path.{_≡_};
 ghost use Rattle.steps.specs.Boards.{isOpen, total};
 ghost use Rattle.steps.specs.Passes.{changed};
-ghost use Rattle.cells.specs.Places.{maskAt, openAt, loseIn, losePlaces, openMask, unitMasks, allMasks, placesOf, heldPlaces, lineSpots, allBut};
+ghost use Rattle.cells.specs.code.Places.{maskAt, openAt, loseIn, losePlaces, openMask, unitMasks, allMasks, spotsIn, heldPlaces, lineSpots, allBut};
 use candidates::masks;
 use grid::unit_cell;
 
@@ -90,7 +90,7 @@ pub fn all_masks(masks: &[u16; 81], unit: usize) -> [u16; 9]
 
 // The places that hold the digit.
 pub fn places_of(nine: &[u16; 9], digit: usize) -> u16
-    ensures { λ r. ⌜ r ≡ placesOf (now (nine .entry)) digit ⌝ }
+    ensures { λ r. ⌜ r ≡ spotsIn (now (nine .entry)) digit ⌝ }
 {
     let mut found: u16 = 0;
     let mut place: usize = 0;

@@ -1,7 +1,7 @@
 // The six lines that meet a box, three rows and then three columns. A digit that the box holds on one of them alone is lost by the line's other cells.
 // A box is called `block` here, since `box` is a word of the language.
 ghost use mathlib.Core.Path.{_≡_};
-ghost use Rattle.cells.specs.Lines.{linePlaces, otherThirds, outsideBox, lineUnit, lineTurn, lineTurns};
+ghost use Rattle.cells.specs.code.Lines.{linePlaces, otherThirds, outsideBox, lineUnit, lineTurn, lineTurns};
 use crate::lose_places;
 use candidates::masks;
 

@@ -2,7 +2,7 @@
 ghost use mathlib.Core.Path.{_≡_};
 ghost use mathlib.Core.Bool.{cond};
 ghost use Rattle.candidates.specs.Masks.{has};
-ghost use Rattle.cells.specs.Unions.{joined, joinedAt, sharedOf, sharedSets, crowd, crowdedOf};
+ghost use Rattle.cells.specs.code.Unions.{joined, joinedAt, sharedOf, sharedSets, severalIn, severalOf};
 use crate::all_masks;
 use candidates::masks;
 
@@ -72,7 +72,7 @@ pub fn shared_sets(masks: &[u16; 81]) -> [u16; 27]
 
 // A mask, or none if it has one digit.
 fn unless_one(mask: u16) -> u16
-    ensures { λ r. ⌜ r ≡ crowd mask ⌝ }
+    ensures { λ r. ⌜ r ≡ severalIn mask ⌝ }
 {
     if masks::is_one(mask) {
         return 0;
@@ -81,8 +81,8 @@ fn unless_one(mask: u16) -> u16
 }
 
 // What the masks hold that have more than one digit.
-pub fn crowded(nine: &[u16; 9]) -> u16
-    ensures { λ r. ⌜ r ≡ crowdedOf (now (nine .entry)) ⌝ }
+pub fn several(nine: &[u16; 9]) -> u16
+    ensures { λ r. ⌜ r ≡ severalOf (now (nine .entry)) ⌝ }
 {
     let mut mask: u16 = 0;
     let mut place: usize = 0;

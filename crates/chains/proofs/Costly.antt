@@ -10,21 +10,21 @@ use borrow.Author.Tests.{ne-eqb}
 use lib.Dec.{lit<}
 use lib.IntN.{ℤ, pos}
 use lib.ListN.{length, getD}
-use Rattle.candidates.specs.Masks.{bit, has}
+use Rattle.candidates.specs.Masks.{bit, has, single}
 use Rattle.candidates.proofs.Tests.{below, T-true, either}
 use Rattle.grid.specs.Cells.{cells, peers}
 use Rattle.grid.specs.Fillings.{numberAt, sameNumber, verified}
 use Rattle.grid.specs.Units.{units, unit}
 use Rattle.grid.proofs.Lists.{same-eq}
 use Rattle.steps.specs.Boards.{at, givensOf, isOpen, taken, fresh}
-use Rattle.steps.specs.Calls.{refusal, checked, outcome, answer, left, opened, run, chainCall}
+use Rattle.stops.specs.Answer.{Answer, gives, passing}
+use Rattle.steps.specs.Calls.{checkOf, outcome, answer, left, opened, run, chainCall}
 use Rattle.steps.specs.Chains.{firstSome, weakLinks, strongLinks, elimination, enter, chainEnd, loseFound, chainDigit, chains}
-use Rattle.steps.specs.Demand3.{Clues}
+use Rattle.steps.specs.Calls.{Clues}
 use Rattle.steps.specs.Fillings.{KeepsClues, InMasks}
-use Rattle.steps.specs.Instances.{only}
 use Rattle.steps.specs.Loops.{each, for, first, range}
 use Rattle.steps.proofs.Check.{clues-by}
-use Rattle.steps.proofs.Lists.{demand3}
+use Rattle.steps.proofs.Lists.{list-theorem}
 use Rattle.steps.proofs.Loops.{each-keeps}
 use Rattle.steps.proofs.Steps.{lose-under}
 use Rattle.chains.specs.Costly.{Lost, threeClues}
@@ -95,7 +95,7 @@ keeps d n p = go (chainEnd g n d)
   where
     go : (o : Option ℕ) → bit (at (loseFound g d n o) 28) 0 ≡ 0
     go none = p
-    go (some e) = omega (arith, lose-under (isOpen g) e (only d) n .at 28 .at 0)
+    go (some e) = omega (arith, lose-under (isOpen g) e (single d) n .at 28 .at 0)
 
 gone : bit (at (chains g m) 28) 0 ≡ 0
 unfolding chains each
@@ -129,14 +129,14 @@ correct = refl
 
 -- ---- the board after the pass
 
-untouched : refusal (opened threeClues) ≡ none
+untouched : checkOf (opened threeClues) ≡ gives tt
 unfolding run
-untouched = demand3 .taken threeClues good []
+untouched = list-theorem .taken threeClues good []
 
 passed : run (chainCall ∷ []) (opened threeClues) .masks ≡ chains g m
 unfolding run answer outcome opened
 passed =
-    ap (λ (o : Option (ℕ × ℕ)). left (opened threeClues) (checked o (outcome chainCall (givensOf threeClues) (fresh (givensOf threeClues)))) .masks) untouched
+    ap (λ (o : Answer (Unit {0})). left (opened threeClues) (passing o (outcome chainCall (givensOf threeClues) (fresh (givensOf threeClues)))) .masks) untouched
     ∙ ap₂ chains givens-are (ap fresh givens-are ∙ fresh-are)
 
 lost : InMasks (run (chainCall ∷ []) (opened threeClues) .masks) filling → ⊥
@@ -149,6 +149,6 @@ costs-a-filling =
     record {
       correct = correct;
       keeps = kept;
-      before = demand3 .lists threeClues good [] [] refl refl .fillings filling size correct .1 kept;
+      before = list-theorem .lists threeClues good [] [] refl refl .fillings filling size correct .1 kept;
       after = lost;
     }

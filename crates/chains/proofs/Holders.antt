@@ -15,12 +15,13 @@ use Rattle.grid.specs.Units.{unit, inUnit}
 use Rattle.grid.proofs.Lists.{at-upTo, select-none}
 use Rattle.grid.proofs.Units.{unit-is, past-table}
 use Rattle.steps.specs.Boards.{at}
-use Rattle.steps.specs.Chains.{orElse, firstSome, onPath, weakLinks, twoHolders, strongLinks, links, elimination, enter, chainEnd}
+use Rattle.steps.specs.Chains.{orElse, firstSome, onPath, weakLinks, strongLinks, links, elimination, enter, chainEnd}
 use Rattle.steps.specs.Loops.{for, first, select}
 use Rattle.steps.specs.Ported.{holds}
 use Rattle.steps.proofs.Loops.{in-upTo, first-by}
 use Rattle.chains.proofs.Searching.{or-found, or-nothing}
-use Rattle.chains.specs.Links.{isSome, others, twoOf, unitCounts, weakIn, strongIn, linksIn, betweenAt, eliminationIn, enterIn}
+use Rattle.steps.specs.Chains.{twoOf}
+use Rattle.chains.specs.code.Links.{isSome, others, unitCounts, weakIn, strongIn, linksIn, betweenAt, eliminationIn, enterIn}
 
 -- ---- selections and searches
 
@@ -146,7 +147,7 @@ module _ (g m : List ℕ) (d : ℕ) where
   unfolding strongIn strongLinks for
   strong-is c = ap₂ _++_ (one (row c)) (ap₂ _++_ (one (9 + col c)) (ap (λ (l : List ℕ). l ++ []) (one (18 + box c))))
     where
-      one : (u : ℕ) → others c (twoOf (select (inUnit u) open-holders)) ≡ others c (twoHolders g m d (select (holds g m d) (unit u)))
+      one : (u : ℕ) → others c (twoOf (select (inUnit u) open-holders)) ≡ others c (twoOf (select (holds g m d) (unit u)))
       one u = ap (λ (l : List ℕ). others c (twoOf l)) (select-both (inUnit u) (holds g m d) cells ∙ sym (ap (select (holds g m d)) (any-unit u)))
 
   links-are : (weak : Bool) (c : ℕ) → linksIn open-holders weak c ≡ links g m d weak c

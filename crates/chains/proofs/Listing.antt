@@ -14,8 +14,9 @@ use Rattle.candidates.proofs.Tests.{cond-true, cond-false}
 use Rattle.grid.proofs.Lists.{range-length, range-on, range-end}
 use Rattle.steps.specs.Boards.{at}
 use Rattle.steps.specs.Loops.{range, select}
-use Rattle.chains.specs.Lists.{listed, Lists}
-use Rattle.chains.specs.Links.{others, twoOf}
+use Rattle.chains.specs.code.Lists.{listed, Lists}
+use Rattle.steps.specs.Chains.{twoOf}
+use Rattle.chains.specs.code.Links.{others}
 
 -- ---- reading: what is left of the first n entries at i
 

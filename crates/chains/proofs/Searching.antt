@@ -6,7 +6,7 @@ use mathlib.Core.Option.{Option, none, some}
 use Prim.Native.Nat.{ℕ, _+_, _≤_, _<_}
 use Rattle.steps.specs.Boards.{at}
 use Rattle.steps.specs.Chains.{orElse, firstSome}
-use Rattle.chains.specs.Links.{isSome}
+use Rattle.chains.specs.code.Links.{isSome}
 use Rattle.chains.proofs.Listing.{rest, rest-on, rest-end}
 
 pub or-found : (o p : Option ℕ) → isSome o ≡ true → orElse o p ≡ o

@@ -10,7 +10,7 @@ use lib.ListN.{length, set}
 use lib.Seq.{getD-set-same, getD-set-other}
 use Rattle.steps.specs.Boards.{at}
 use Rattle.steps.specs.Chains.{onPath}
-use Rattle.chains.specs.Lists.{trail}
+use Rattle.chains.specs.code.Lists.{trail}
 
 pub trail-length : (cs : List ℕ) (k : ℕ) → length (trail cs k) ≡ k
 unfolding trail

@@ -1,3 +1,2 @@
-pub mod Lists
-pub mod Links
 pub mod Costly
+pub mod code

@@ -1,19 +1,10 @@
-// The chain pass (module 11), ported as it is, with the original's names. It begins with a weak link, so it can cost a filling.
+// The chain pass (module 11) over lent givens and masks, ported as it is, with the original's names. It begins with a weak link, so it can cost a filling.
 ghost use mathlib.Core.Path.{_≡_};
 ghost use Prim.Native.Nat.{_<_};
-ghost use Rattle.steps.specs.Calls.{chainCall};
 ghost use Rattle.steps.specs.Chains.{chainDigit, chains};
-ghost use Rattle.board.specs.Boards.{boardOf};
-ghost use Rattle.progress.specs.Answers.{Eliminates};
-use board::Board;
 use board::Found;
-use board::check;
-use board::clues::givens_of;
-use board::is_good;
 use candidates::masks;
 use cells::lose_at;
-use progress::Eliminated;
-use progress::taken_to;
 
 mod links;
 mod lists;
@@ -40,17 +31,4 @@ pub fn chains(givens: &[u8; 81], masks: &mut [u16; 81])
         build_aic_chains_for_digit(givens, masks, digit);
         digit += 1;
     }
-}
-
-pub fn apply_alternating_inference_chains(board: Board) -> Eliminated
-    ensures { λ r. ⌜ Eliminates chainCall (boardOf board) r ⌝ }
-{
-    let clues = board.clues;
-    let before = board.masks;
-    let mut masks = board.masks;
-    let answer = check(&clues, &before);
-    if is_good(answer) {
-        chains(&givens_of(&clues), &mut masks);
-    }
-    taken_to(answer, clues, before, masks)
 }

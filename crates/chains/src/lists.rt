@@ -2,7 +2,7 @@
 ghost use Rattle.grid.specs.Cells.{cells};
 ghost use Rattle.steps.specs.Loops.{select};
 ghost use Rattle.steps.specs.Ported.{holds};
-ghost use Rattle.chains.specs.Lists.{Lists};
+ghost use Rattle.chains.specs.code.Lists.{Lists};
 use candidates::masks;
 use cells::open_mask;
 

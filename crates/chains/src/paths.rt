@@ -3,7 +3,7 @@ ghost use mathlib.Core.Path.{_≡_};
 ghost use mathlib.Core.List.{_∷_};
 ghost use Prim.Native.Nat.{_+_, _≤_, _<_};
 ghost use Rattle.steps.specs.Chains.{onPath};
-ghost use Rattle.chains.specs.Lists.{trail};
+ghost use Rattle.chains.specs.code.Lists.{trail};
 
 pub struct Path {
     pub cells: [u8; 7],

@@ -12,7 +12,7 @@ use borrow.Author.Tests.{eqb-true, eq-eqb}
 use lib.IntN.{ℤ, pos, negsuc}
 use lib.ListN.{length, getD}
 use Rattle.grid.specs.Lists.{range, select, all, each}
-use Rattle.grid.specs.Fillings.{sameNumber, holds, distinct}
+use Rattle.grid.specs.Fillings.{sameNumber, among, distinct}
 use Rattle.candidates.proofs.Tests.{cond-false, both, both-left, both-right}
 
 -- ---- a membership and a place
@@ -182,31 +182,31 @@ same-eq (negsuc a) (pos b) e = absurd (false≢true e)
 same-eq (negsuc a) (negsuc b) e = ap negsuc (eqb-true a b e)
 
 -- a number that the list does not hold stands at no place of it
-not-held : (z : ℤ) (l : List ℤ) (d : ℤ) → not (holds z l) ≡ true → (i : ℕ) → i < length l → z ≢ getD l i d
+not-held : (z : ℤ) (l : List ℤ) (d : ℤ) → not (among z l) ≡ true → (i : ℕ) → i < length l → z ≢ getD l i d
 not-held z [] d e i h p = absurd (not-suc-le-zero h)
 not-held z (x ∷ xs) d e i h p = go (sameNumber z x) refl i h p e (λ f k l. not-held z xs d f k l)
   where
-    go : (t : Bool) → sameNumber z x ≡ t → (i : ℕ) → i < suc (length xs) → z ≡ getD (x ∷ xs) i d → not (t || holds z xs) ≡ true → (not (holds z xs) ≡ true → (k : ℕ) → k < length xs → z ≢ getD xs k d) → ⊥
+    go : (t : Bool) → sameNumber z x ≡ t → (i : ℕ) → i < suc (length xs) → z ≡ getD (x ∷ xs) i d → not (t || among z xs) ≡ true → (not (among z xs) ≡ true → (k : ℕ) → k < length xs → z ≢ getD xs k d) → ⊥
     go true s i h p e more = false≢true e
     go false s zero h p e more = false≢true (sym s ∙ ap (sameNumber z) (sym p) ∙ same-refl z)
     go false s (suc i) h p e more = more e i (le-of-suc-le-suc h) p
 
-held-not : (z : ℤ) (l : List ℤ) (d : ℤ) → ((i : ℕ) → i < length l → z ≢ getD l i d) → not (holds z l) ≡ true
+held-not : (z : ℤ) (l : List ℤ) (d : ℤ) → ((i : ℕ) → i < length l → z ≢ getD l i d) → not (among z l) ≡ true
 held-not z [] d h = refl
 held-not z (x ∷ xs) d h = go (sameNumber z x) refl (held-not z xs d (λ i k. h (suc i) (omega arith)))
   where
-    go : (t : Bool) → sameNumber z x ≡ t → not (holds z xs) ≡ true → not (t || holds z xs) ≡ true
+    go : (t : Bool) → sameNumber z x ≡ t → not (among z xs) ≡ true → not (t || among z xs) ≡ true
     go true s more = absurd (h 0 (omega arith) (same-eq z x s))
     go false s more = more
 
 pub distinct-at : (l : List ℤ) (d : ℤ) → distinct l ≡ true → (i j : ℕ) → i < length l → j < length l → i ≢ j → getD l i d ≢ getD l j d
 distinct-at [] d e i j h k n = absurd (not-suc-le-zero h)
 distinct-at (x ∷ xs) d e zero zero h k n = absurd (n refl)
-distinct-at (x ∷ xs) d e zero (suc j) h k n = not-held x xs d (both-left (not (holds x xs)) (distinct xs) e) j (le-of-suc-le-suc k)
+distinct-at (x ∷ xs) d e zero (suc j) h k n = not-held x xs d (both-left (not (among x xs)) (distinct xs) e) j (le-of-suc-le-suc k)
 distinct-at (x ∷ xs) d e (suc i) zero h k n =
-    λ p. not-held x xs d (both-left (not (holds x xs)) (distinct xs) e) i (le-of-suc-le-suc h) (sym p)
+    λ p. not-held x xs d (both-left (not (among x xs)) (distinct xs) e) i (le-of-suc-le-suc h) (sym p)
 distinct-at (x ∷ xs) d e (suc i) (suc j) h k n =
-    distinct-at xs d (both-right (not (holds x xs)) (distinct xs) e) i j (le-of-suc-le-suc h) (le-of-suc-le-suc k) (λ p. n (ap suc p))
+    distinct-at xs d (both-right (not (among x xs)) (distinct xs) e) i j (le-of-suc-le-suc h) (le-of-suc-le-suc k) (λ p. n (ap suc p))
 
 pub at-distinct : (l : List ℤ) (d : ℤ) → ((i j : ℕ) → i < length l → j < length l → i ≢ j → getD l i d ≢ getD l j d) → distinct l ≡ true
 at-distinct [] d h = refl

@@ -9,10 +9,10 @@ use native.Mathlib.Decide.{decLt}
 use native.Mathlib.Omega.{arith}
 use borrow.Author.Tests.{lt-ltb, le-ltb, eqb-true}
 use lib.Dec.{eqb, ltb, eqb→eq, ltb→lt}
-use lib.ListN.{length, getD, replicate, getD-replicate, List·getD-eq-default}
+use lib.ListN.{length, getD, List·getD-eq-default}
 use Rattle.grid.specs.Lists.{range, select}
 use Rattle.grid.specs.Cells.{row, col, box, cells}
-use Rattle.grid.specs.Units.{units, unit, unitCell, unitCells, inUnit, Member}
+use Rattle.grid.specs.Units.{units, unit, unitCell, inUnit, Member}
 use Rattle.grid.proofs.Lists.{getD-any, at-upTo, mem-place, place-mem}
 use Rattle.candidates.proofs.Tests.{allBelow, below, below-both, implies, implied, T-true, cond-true, cond-false}
 
@@ -33,9 +33,6 @@ unit-is u h =
 pub unit-length : (u : ℕ) → u < 27 → length (unit u) ≡ 9
 unfolding unit units
 unit-length u h = eqb→eq (length (unit u)) 9 (below 27 (λ u. eqb (length (unit u)) 9) tt u h)
-
-pub cells-unit : (u : ℕ) → u < 27 → unitCells u ≡ unit u
-cells-unit u h = cond-true (ltb u 27) (unit u) (replicate 9 81) (lt-ltb u 27 h)
 
 pub past-table : (u : ℕ) → 27 ≤ u → unit u ≡ []
 unfolding unit units
@@ -69,15 +66,9 @@ module _ (u i : ℕ) (l : i < 9) where
 pub past-cell : (u i : ℕ) → 27 ≤ u → 81 ≡ unitCell u i
 past-cell u i h = sym (ap (λ (l : List ℕ). getD l i 81) (past-table u h))
 
-pub array-cell : (cs : List ℕ) (u i : ℕ) → cs ≡ unitCells u → i < 9 → getD cs i 0 ≡ unitCell u i
-array-cell cs u i e h = ap (λ (l : List ℕ). getD l i 0) e ∙ go (decLt u 27)
-  where
-    go : Dec (u < 27) → getD (unitCells u) i 0 ≡ unitCell u i
-    go (yes k) =
-        ap (λ (l : List ℕ). getD l i 0) (cells-unit u k) ∙ getD-any (unit u) i 0 81 (omega (arith, unit-length u k))
-    go (no k) =
-        ap (λ (l : List ℕ). getD l i 0) (cond-false (ltb u 27) (unit u) (replicate 9 81) (le-ltb u 27 (omega arith)))
-        ∙ getD-replicate 9 i 81 0 h ∙ sym (ap (λ (l : List ℕ). getD l i 81) (past-table u (omega arith)))
+-- a row of the table, as an array holds it
+pub table-cell : (u i : ℕ) → u < 27 → i < 9 → getD (unit u) i 0 ≡ unitCell u i
+table-cell u i h k = getD-any (unit u) i 0 81 (omega (arith, unit-length u h))
 
 -- ---- places: where in a unit a cell of it stands
 

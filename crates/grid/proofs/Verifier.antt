@@ -1,23 +1,21 @@
 -- The mask that the verifier gathers from a unit is full exactly if the unit holds each digit once. Assumes nothing.
 use mathlib.Core.Path.{_≡_, sym, ap, _∙_, subst}
 use mathlib.Core.Logic.{_⊎_, _↔_, inr, ⊎-elim}
-use mathlib.Core.Bool.{Bool, true, false, _&&_}
+use mathlib.Core.Bool.{true}
 use mathlib.Core.List.{List, List·Memᴰ}
-use Prim.Native.Nat.{ℕ, zero, suc, _-_, _≤_, _<_}
+use Prim.Native.Nat.{ℕ, _≤_, _<_}
 use native.Mathlib.Omega.{arith}
-use borrow.Author.Tests.{eqb-true, eq-eqb, lt-ltb, le-ltb}
-use lib.Dec.{eqb, ltb, lit<}
-use lib.IntN.{ℤ, pos, negsuc}
+use borrow.Author.Tests.{eqb-true, eq-eqb}
+use lib.Dec.{eqb, lit<}
+use lib.IntN.{ℤ}
 use lib.ListN.{getD}
 use Rattle.candidates.specs.Masks.{has, union, single}
-use Rattle.candidates.specs.Sets.{place}
 use Rattle.candidates.proofs.Held.{Held, held-ext, none-held, held-below, held-all, held-power}
-use Rattle.candidates.proofs.Membership.{single-power}
-use Rattle.candidates.proofs.Tests.{both, both-right, bool-iff}
+use Rattle.candidates.proofs.Tests.{bool-iff}
 use Rattle.grid.specs.Lists.{range, all, each}
 use Rattle.grid.specs.Units.{unitCell}
 use Rattle.grid.specs.Fillings.{numberAt, verified}
-use Rattle.grid.specs.Seen.{numberMask, numberMasks, gathered, complete}
+use Rattle.grid.specs.code.Seen.{numberMask, numberMasks, gathered, complete}
 use Rattle.grid.proofs.Cells.{at-cells}
 use Rattle.grid.proofs.Lists.{mem-range, range-mem, each-same, all-range, range-all}
 use Rattle.grid.proofs.Unions.{held-gathered}
@@ -25,25 +23,17 @@ use Rattle.grid.proofs.Units.{cell-below}
 use Rattle.grid.proofs.Pigeonhole.{Injects, onto, onto-injects}
 use Rattle.grid.proofs.Fillings.{placeAt, verified-complete, complete-verified}
 
-place-le : (z : ℤ) → place z ≤ 9
-place-le (pos zero) = omega arith
-place-le (pos (suc n)) = omega arith
-place-le (negsuc n) = omega arith
-
 -- ---- a mask that gathers the places that f gives
 
-module _ (f : ℕ → ℕ) (small : (i : ℕ) → f i < 16) where
+module _ (f : ℕ → ℕ) where
   gather : ℕ
   gather = each (λ i m. union m (single (f i))) (range 9 0) 0
-
-  held-own : (i d : ℕ) → Held (single (f i)) d ↔ (d ≡ f i)
-  held-own i d = rw (single-power (f i) (small i)) (held-power (f i) d)
 
   held-place : (d : ℕ) → Held gather d ↔ ((i : ℕ) × (i < 9) × (f i ≡ d))
   unfolding gather
   held-place d = (
-    λ t. ⊎-elim (λ z. absurd (none-held d z)) (λ w. (w .0, omega (arith, mem-range 9 0 (w .0) (w .1)), sym (held-own (w .0) d .0 (w .2)))) (all .0 t),
-    λ w. all .1 (inr (w .0, range-mem 9 0 (w .0) (omega arith) (omega (arith, w .1)), held-own (w .0) d .1 (sym (w .2)))),
+    λ t. ⊎-elim (λ z. absurd (none-held d z)) (λ w. (w .0, omega (arith, mem-range 9 0 (w .0) (w .1)), sym (held-power (f (w .0)) d .0 (w .2)))) (all .0 t),
+    λ w. all .1 (inr (w .0, range-mem 9 0 (w .0) (omega arith) (omega (arith, w .1)), held-power (f (w .0)) d .1 (sym (w .2)))),
   )
     where
       all : Held gather d ↔ (Held 0 d ⊎ ((i : ℕ) × List·Memᴰ i (range 9 0) × Held (single (f i)) d))
@@ -65,10 +55,7 @@ unfolding numberMasks
 mask-at g c h = at-cells 0 (λ c. numberMask (numberAt g c)) c h
 
 module _ (g : List ℤ) where
-  small : (u i : ℕ) → placeAt g u i < 16
-  small u i = omega (arith, place-le (numberAt g (unitCell u i)))
-
-  gathers-digits : (u : ℕ) → u < 27 → gathered (numberMasks g) u (range 9 0) 0 ≡ gather (placeAt g u) (small u)
+  gathers-digits : (u : ℕ) → u < 27 → gathered (numberMasks g) u (range 9 0) 0 ≡ gather (placeAt g u)
   unfolding gathered gather
   gathers-digits u h =
       each-same (λ i m. union m (getD (numberMasks g) (unitCell u i) 0)) (λ i m. union m (single (placeAt g u i))) (range 9 0)
@@ -77,22 +64,13 @@ module _ (g : List ℤ) where
   complete-injects : (u : ℕ) → u < 27 → complete (numberMasks g) u ≡ true → Injects 9 9 (placeAt g u)
   unfolding complete
   complete-injects u h e =
-      full-injects (placeAt g u) (small u)
-      (sym (gathers-digits u h) ∙ eqb-true (gathered (numberMasks g) u (range 9 0) 0) 511 (both-right (ltb u 27) _ e))
+      full-injects (placeAt g u)
+      (sym (gathers-digits u h) ∙ eqb-true (gathered (numberMasks g) u (range 9 0) 0) 511 e)
 
   injects-complete : (u : ℕ) → u < 27 → Injects 9 9 (placeAt g u) → complete (numberMasks g) u ≡ true
   unfolding complete
   injects-complete u h r =
-      both (lt-ltb u 27 h)
-      (eq-eqb (gathered (numberMasks g) u (range 9 0) 0) 511 (gathers-digits u h ∙ injects-full (placeAt g u) (small u) r))
-
-pub complete-past : (ms : List ℕ) (u : ℕ) → 27 ≤ u → complete ms u ≡ false
-unfolding complete
-complete-past ms u h = ap (λ (t : Bool). t && eqb (gathered ms u (range 9 0) 0) 511) (le-ltb u 27 h)
-
-pub complete-in : (ms : List ℕ) (u : ℕ) → u < 27 → complete ms u ≡ eqb (gathered ms u (range 9 0) 0) 511
-unfolding complete
-complete-in ms u h = ap (λ (t : Bool). t && eqb (gathered ms u (range 9 0) 0) 511) (lt-ltb u 27 h)
+      eq-eqb (gathered (numberMasks g) u (range 9 0) 0) 511 (gathers-digits u h ∙ injects-full (placeAt g u) r)
 
 -- ---- the whole
 

@@ -44,14 +44,14 @@ sameNumber (negsuc a) (pos b) = false
 sameNumber (negsuc a) (negsuc b) = eqb a b
 
 -- the number stands in the list
-abbrev pub holds : ℤ → List ℤ → Bool
-holds z [] = false
-holds z (x ∷ xs) = sameNumber z x || holds z xs
+abbrev pub among : ℤ → List ℤ → Bool
+among z [] = false
+among z (x ∷ xs) = sameNumber z x || among z xs
 
 -- no number comes twice
 abbrev pub distinct : List ℤ → Bool
 distinct [] = true
-distinct (x ∷ xs) = not (holds x xs) && distinct xs
+distinct (x ∷ xs) = not (among x xs) && distinct xs
 
 -- "yes exactly if all 81 signed 32-bit numbers are 1 to 9 and no unit repeats one"
 unfoldable pub verified : List ℤ → Bool

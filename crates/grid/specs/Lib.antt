@@ -2,4 +2,4 @@ pub mod Lists
 pub mod Cells
 pub mod Units
 pub mod Fillings
-pub mod Seen
+pub mod code

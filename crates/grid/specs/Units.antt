@@ -5,7 +5,7 @@ use mathlib.Core.Bool.{Bool, false, cond}
 use mathlib.Core.List.{List, [], _∷_}
 use Prim.Native.Nat.{ℕ, _-_, _<_}
 use lib.Dec.{eqb, ltb}
-use lib.ListN.{getD, replicate}
+use lib.ListN.{getD}
 use Rattle.grid.specs.Cells.{row, col, box}
 
 -- "a fixed table of 27 rows of nine cell numbers, rising"
@@ -47,10 +47,6 @@ unit u = getD units u []
 -- the cell at a place 0 to 8 of a unit; 81, which is no cell, past the table
 abbrev pub unitCell : ℕ → ℕ → ℕ
 unitCell u i = getD (unit u) i 81
-
--- the nine cells of a unit as an array holds them; past the table nine times 81
-abbrev pub unitCells : ℕ → List ℕ
-unitCells u = cond (ltb u 27) (unit u) (replicate 9 81)
 
 -- the rule of the table: whether a cell lies in a unit
 abbrev pub inUnit : ℕ → ℕ → Bool

@@ -1,10 +1,12 @@
 // The grid: rows, columns and boxes, who sees whom, and the verifier of filled grids (module 10).
 // A cell is its number, 0 to 80; a unit its number, 0 to 8 for rows, 9 to 17 for columns, 18 to 26 for boxes.
 ghost use mathlib.Core.Path.{_≡_};
+ghost use Prim.Native.Nat.{_<_};
 ghost use Rattle.grid.specs.Cells.{row, col, box, aligned, sees};
-ghost use Rattle.grid.specs.Units.{unitCell, unitCells};
+ghost use Rattle.grid.specs.Units as definitions;
+ghost use Rattle.grid.specs.Units.{unitCell};
 ghost use Rattle.grid.specs.Fillings.{verified};
-ghost use Rattle.grid.specs.Seen.{numberMask, numberMasks, complete};
+ghost use Rattle.grid.specs.code.Seen.{numberMask, numberMasks, complete};
 use candidates::digits;
 use candidates::masks;
 
@@ -38,17 +40,7 @@ pub const UNITS: [[u8; 9]; 27] = [
     [60, 61, 62, 69, 70, 71, 78, 79, 80],
 ];
 
-// The cells of a unit, rising; nine times 81 past the table.
-pub fn unit_cells(unit: usize) -> [u8; 9]
-    ensures { λ r. ⌜ r ≡ unitCells unit ⌝ }
-{
-    if unit < 27 {
-        return UNITS[unit];
-    }
-    [81; 9]
-}
-
-// The cell at a place 0 to 8 of a unit; 81 past the table. It is worked out, which is quicker than a copy of the table.
+// The cell at a place 0 to 8 of a unit; 81 past the table. It is worked out: an index into a constant copies it.
 pub fn unit_cell(unit: usize, place: usize) -> usize
     ensures { λ r. ⌜ r ≡ unitCell unit place ⌝ }
 {
@@ -129,13 +121,11 @@ fn number_masks(grid: &[i32; 81]) -> [u16; 81]
 }
 
 // Whether the masks of a unit's cells are the nine digits, and so each once.
-fn unit_complete(masks: &[u16; 81], unit: usize) -> bool
+fn unit_complete(units: &[[u8; 9]; 27], masks: &[u16; 81], unit: usize) -> bool
+    requires { ⌜ (now units ≡ definitions.units) × (unit < 27) ⌝ }
     ensures { λ r. ⌜ r ≡ complete (now (masks .entry)) unit ⌝ }
 {
-    if 27 <= unit {
-        return false;
-    }
-    let cells = unit_cells(unit);
+    let cells = units[unit];
     let mut mask: u16 = 0;
     let mut place: usize = 0;
     while place < 9 {
@@ -149,10 +139,11 @@ fn unit_complete(masks: &[u16; 81], unit: usize) -> bool
 pub fn verify_solution(grid: &[i32; 81]) -> bool
     ensures { λ r. ⌜ r ≡ verified (now (grid .entry)) ⌝ }
 {
+    let units = UNITS;
     let masks = number_masks(grid);
     let mut unit: usize = 0;
     while unit < 27 {
-        if !unit_complete(&masks, unit) {
+        if !unit_complete(&units, &masks, unit) {
             return false;
         }
         unit += 1;

@@ -1,25 +1,23 @@
--- An arm that knows which case an enum is: its code is that case's, and its numbers fit where the enum's do.
-use mathlib.Core.Path.{_≡_, refl, sym, ap, ap₂, subst, _∙_}
-use mathlib.Core.Option.{Option, none, some}
-use Prim.Native.Nat.{ℕ}
+-- What a call that is checked hands out: its value as a number, and the arrays that are written.
+use mathlib.Core.Path.{_≡_, refl, sym, ap, ap₂, _∙_}
 use lib.IntN.{ℤ}
-use Rattle.candidates.specs.Answer.{Answer}
-use Rattle.steps.specs.Calls.{checked}
-use Rattle.board.specs.Answers.{beside}
-use Rattle.host.specs.Boards.{keptCheck}
-use Rattle.host.specs.Codes.{Fitting, coded}
+use Rattle.stops.specs.Answer.{Answer, gives, stop, map, passing, valueOr}
+use Rattle.stops.proofs.Answers.{map-map}
+use Rattle.host.specs.Codes.{coded}
 
-module _ {E A : Type 0} (number : A → ℤ) (answer : E → Answer A) {x y : E} (is : x ≡ y) where
-  pub case-code : coded number (answer y) 0 ≡ coded number (answer x) 0
-  case-code = sym (ap (λ (e : E). coded number (answer e) 0) is)
+-- x stands beside the check k of an answer a
+module _ {A : Type 0} (k : Answer (Unit {0})) (x : A) {a : Answer A} (is : passing k x ≡ a) where
+  pub coded-value : (number : A → ℤ) {v : ℤ} → v ≡ number x → coded (passing k v) 0 ≡ coded (map number a) 0
+  coded-value number e =
+      ap (λ (v : ℤ). coded (passing k v) 0) e ∙ ap (λ (a : Answer ℤ). coded a 0) (sym (map-map number (λ _. x) k)) ∙ ap (λ (a : Answer A). coded (map number a) 0) is
 
-  pub case-fits : Fitting number (answer x) → Fitting number (answer y)
-  case-fits fits = subst (λ (e : E). Fitting number (answer e)) is fits
+  pub kept-part : {B : Type 0} (part : A → B) (lent : B) → valueOr lent (passing k (part x)) ≡ valueOr lent (map part a)
+  kept-part part lent = ap (valueOr lent) (sym (map-map part (λ _. x) k) ∙ ap (map part) is)
 
--- an array that a checked call hands out: what it hands back beside a stop is not written
-pub handed-out : {A : Type 0} (a z lent : A) {p o : Option (ℕ × ℕ)} {q got : A} → p ≡ o → got ≡ beside (checked o a) z → q ≡ keptCheck p got lent → q ≡ keptCheck o a lent
-handed-out {A} a z lent {p} {o} is found written = written ∙ ap₂ (λ (o : Option (ℕ × ℕ)) (x : A). keptCheck o x lent) is found ∙ go o
+-- what a call hands back beside a stop is not written
+pub handed-out : {A : Type 0} (a z lent : A) {p k : Answer (Unit {0})} {q got : A} → p ≡ k → got ≡ valueOr z (passing k a) → q ≡ valueOr lent (passing p got) → q ≡ valueOr lent (passing k a)
+handed-out {A} a z lent {p} {k} is found written = written ∙ ap₂ (λ (k : Answer (Unit {0})) (x : A). valueOr lent (passing k x)) is found ∙ go k
   where
-    go : (o : Option (ℕ × ℕ)) → keptCheck o (beside (checked o a) z) lent ≡ keptCheck o a lent
-    go none = refl
-    go (some r) = refl
+    go : (k : Answer (Unit {0})) → valueOr lent (passing k (valueOr z (passing k a))) ≡ valueOr lent (passing k a)
+    go (gives u) = refl
+    go (stop s) = refl

@@ -1,6 +1,5 @@
 mod Calls
-mod Numbers
-mod Fitting
-mod RecordOffsets
 mod Cases
+mod Fitting
+mod Numbers
 mod StepNumbers

@@ -5,7 +5,9 @@ use Prim.Native.Nat.{ℕ}
 use lib.IntN.{ℤ, pos, negsuc}
 use mir.Syntax.{w64}
 use mir.Val.{SFits}
-use Rattle.candidates.specs.Answer.{Answer, gives, stop}
+use Rattle.stops.specs.Answer.{Answer, gives, stop}
+use Rattle.stops.specs.Stops.{rowOf}
+use Rattle.stops.specs.declared.Stop.{Stop}
 
 abbrev pub four : ℤ → ℤ → ℤ → ℤ → List ℤ
 four stopped beside value mask = stopped ∷ beside ∷ value ∷ mask ∷ []
@@ -14,13 +16,13 @@ four stopped beside value mask = stopped ∷ beside ∷ value ∷ mask ∷ []
 abbrev pub given : ℤ → ℕ → List ℤ
 given value mask = four (pos 0) (pos 0) value (pos mask)
 
-abbrev pub refused : ℕ → ℤ → ℕ → List ℤ
-refused n beside mask = four (pos n) beside (pos 0) (pos mask)
+abbrev pub refused : Stop → ℕ → List ℤ
+refused s mask = four (pos (rowOf s .number)) (rowOf s .detail) (pos 0) (pos mask)
 
--- an answer, by the number of its value, and the mask that the call leaves
-abbrev pub coded : {A : Type 0} → (A → ℤ) → Answer A → ℕ → List ℤ
-coded number (gives a) mask = given (number a) mask
-coded number (stop n z) mask = refused n z mask
+-- an answer's value as a number, and the mask that the call leaves
+abbrev pub coded : Answer ℤ → ℕ → List ℤ
+coded (gives z) mask = given z mask
+coded (stop s) mask = refused s mask
 
 abbrev pub testNumber : Bool → ℤ
 testNumber t = cond t (pos 1) (pos 0)
@@ -32,8 +34,3 @@ noNumber a = pos 0
 -- a call number that stands for nothing: -1 and the number
 abbrev pub unknown : ℕ → List ℤ
 unknown k = four (negsuc 0) (pos k) (pos 0) (pos 0)
-
--- what stands beside a stop, and the number of a value, fit an `i64`
-abbrev pub Fitting : {A : Type 0} → (A → ℤ) → Answer A → Type 0
-Fitting number (gives a) = SFits w64 (number a)
-Fitting number (stop n z) = SFits w64 z

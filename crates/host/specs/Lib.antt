@@ -4,3 +4,4 @@ pub mod Boards
 pub mod Steps
 pub mod Texts
 pub mod Records
+pub mod code

@@ -5,15 +5,15 @@ use Prim.Native.Nat.{ℕ}
 use lib.Dec.{eqb}
 use lib.IntN.{ℤ, pos}
 use lib.ListN.{getD}
-use Rattle.candidates.specs.Answer.{Answer, gives, stop}
-use Rattle.candidates.specs.Masks.{nine, count}
+use Rattle.stops.specs.Answer.{Answer, gives, stop, map}
+use Rattle.candidates.specs.Masks.{lowNine, count}
 use Rattle.candidates.specs.Sets.{singleOf, containsOf, insertOf, inserted, removed, onlyOf, digitOr0, nextOf}
 use Rattle.host.specs.Codes.{four, given, refused, coded, testNumber, noNumber, unknown}
 
 -- a new set: its mask, or the stop with no mask
 abbrev pub newSet : Answer ℕ → List ℤ
 newSet (gives m) = given (pos 0) m
-newSet (stop n z) = refused n z 0
+newSet (stop s) = refused s 0
 
 -- 0 new, 1 full, 2 single, 3 contains, 4 insert, 5 remove, 6 clear, 7 len, 8 is_empty, 9 single_candidate, 10 iter
 abbrev pub setCalls : ℕ → ℤ → List (List ℤ)
@@ -21,14 +21,14 @@ setCalls m z =
     given (pos 0) 0 ∷
     given (pos 0) 511 ∷
     newSet (singleOf z) ∷
-    coded testNumber (containsOf m z) m ∷
-    coded noNumber (insertOf z) (inserted m z) ∷
-    coded testNumber (containsOf m z) (removed m z) ∷
+    coded (map testNumber (containsOf m z)) m ∷
+    coded (map noNumber (insertOf z)) (inserted m z) ∷
+    coded (map testNumber (containsOf m z)) (removed m z) ∷
     given (pos 0) 0 ∷
-    given (pos (count (nine m))) m ∷
-    given (testNumber (eqb (count (nine m)) 0)) m ∷
+    given (pos (count (lowNine m))) m ∷
+    given (testNumber (eqb (count (lowNine m)) 0)) m ∷
     given (digitOr0 (onlyOf m)) m ∷
-    given (pos 0) (nine m) ∷
+    given (pos 0) (lowNine m) ∷
     []
 
 unfoldable pub setCall : ℕ → ℕ → ℤ → List ℤ

@@ -1,20 +1,20 @@
 -- The board calls by step number on arrays: the four numbers, the masks, and the reports as bytes.
 use mathlib.Core.Bool.{Bool, cond}
 use mathlib.Core.List.{List}
+use mathlib.Core.Option.{Option, none, some}
 use Prim.Native.Nat.{ℕ, _+_, _*_}
 use lib.Dec.{eqb, ltb}
 use lib.IntN.{ℤ, pos}
 use lib.ListN.{length, getD, set, replicate}
-use Rattle.candidates.specs.Answer.{Answer, gives, stop}
+use Rattle.stops.specs.Answer.{Answer, gives, stop}
 use Rattle.steps.specs.Boards.{Board}
-use Rattle.steps.specs.Calls.{Outcome, left}
+use Rattle.steps.specs.Calls.{Outcome}
 use Rattle.steps.specs.Loops.{each, upTo}
 use Rattle.techniques.specs.Reports.{reportsOf}
 use Rattle.techniques.specs.declared.singles.Reports.{Reports}
-use Rattle.calls.specs.Replays.{replayOf}
-use Rattle.calls.specs.StepNumbers.{stepAnswer}
-use Rattle.host.specs.Boards.{kept}
-use Rattle.host.specs.Codes.{coded, four, noNumber, refused, testNumber, unknown}
+use Rattle.calls.specs.Replays.{Run, ran, noStep, replayOf}
+use Rattle.calls.specs.StepNumbers.{stepAnswer, stepLeft, outcomeOr}
+use Rattle.host.specs.Codes.{four, given, refused, testNumber, unknown}
 
 -- ---- a step
 
@@ -23,19 +23,17 @@ abbrev pub valuesCode : ℕ → Bool → ℕ → ℕ → ℕ → List ℤ
 valuesCode n flag reports sweeps removed =
     cond (eqb n 12) (four (pos 0) (pos 0) (pos sweeps) (pos removed)) (four (pos 0) (pos 0) (testNumber flag) (pos reports))
 
--- `calls::step` has 20 for a number that is no step's; here that is -1, as for every call number
-abbrev pub stopCode : ℕ → ℕ → ℤ → List ℤ
-stopCode n m z = cond (eqb m 20) (unknown n) (refused m z 0)
-
-abbrev pub answerCode : ℕ → Answer Outcome → List ℤ
-answerCode n (gives o) = valuesCode n (o .flag) (length (o .reports)) (o .sweeps) (o .removed)
-answerCode n (stop m z) = stopCode n m z
+-- a number that is no step's is -1, as for every call number
+abbrev pub answerCode : ℕ → Option (Answer Outcome) → List ℤ
+answerCode n none = unknown n
+answerCode n (some (gives o)) = valuesCode n (o .flag) (length (o .reports)) (o .sweeps) (o .removed)
+answerCode n (some (stop s)) = refused s 0
 
 abbrev pub stepCode : ℕ → Board → List ℤ
 stepCode n b = answerCode n (stepAnswer n b)
 
 abbrev pub stepMasks : ℕ → Board → List ℕ
-stepMasks n b = left b (stepAnswer n b) .masks
+stepMasks n b = stepLeft b (stepAnswer n b) .masks
 
 -- report i is the bytes 2i, its cell, and 2i + 1, its digit
 abbrev pub putReport : List ℕ → List ℕ → ℕ → List ℕ → List ℕ
@@ -53,19 +51,23 @@ abbrev pub outcomeBytes : Outcome → List ℕ
 outcomeBytes o = reportBytes (reportsOf (o .reports))
 
 abbrev pub stepReports : ℕ → Board → List ℕ → List ℕ
-stepReports n b lent = kept outcomeBytes (stepAnswer n b) lent
+stepReports n b lent = outcomeOr lent outcomeBytes (stepAnswer n b)
 
 -- ---- a list of steps from the fresh board
 
+-- 20, which is no stop of the paper, with the index of the first number that is no step's
+abbrev pub ranCode : Answer Run → List ℤ
+ranCode (gives (ran b)) = given (pos 0) 0
+ranCode (gives (noStep i)) = four (pos 20) (pos i) (pos 0) (pos 0)
+ranCode (stop s) = refused s 0
+
+abbrev pub ranMasks : Answer Run → List ℕ → List ℕ
+ranMasks (gives (ran b)) lent = b .masks
+ranMasks (gives (noStep i)) lent = lent
+ranMasks (stop s) lent = lent
+
 abbrev pub runCode : List ℤ → List ℕ → List ℤ
-runCode clues steps = coded noNumber (replayOf clues steps) 0
+runCode clues steps = ranCode (replayOf clues steps)
 
 abbrev pub runMasks : List ℤ → List ℕ → List ℕ → List ℕ
-runMasks clues steps lent = kept (λ b. b .masks) (replayOf clues steps) lent
-
--- ---- what the code makes of each part
-
--- the four numbers from the flag or stop, the number of reports and what was counted
-abbrev pub partsCode : ℕ → Answer Bool → ℕ → ℕ → ℕ → List ℤ
-partsCode n (gives flag) reports sweeps removed = valuesCode n flag reports sweeps removed
-partsCode n (stop m z) reports sweeps removed = stopCode n m z
+runMasks clues steps lent = ranMasks (replayOf clues steps) lent

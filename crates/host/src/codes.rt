@@ -3,15 +3,19 @@ ghost use mathlib.Core.Path.{_≡_};
 ghost use lib.IntN.{pos};
 ghost use mir.Syntax.{w64};
 ghost use mir.Val.{SFits};
-ghost use Rattle.candidates.specs.Sets.{newAnswer, presenceAnswer, insertionAnswer, onlyAnswer, digitOr0};
-ghost use Rattle.host.specs.Codes.{four, given, refused, coded, testNumber, noNumber, unknown};
+ghost use Rattle.stops.specs.Answer.{checkAnswer, map, passing, writingAnswer};
+ghost use Rattle.candidates.specs.Sets.{newAnswer, presenceAnswer, onlyAnswer, digitOr0};
+ghost use Rattle.host.specs.Codes.{four, given, refused, coded, testNumber, unknown};
 ghost use Rattle.host.specs.Sets.{newSet};
-use candidates::Insertion;
+ghost use Rattle.host.specs.code.Fitting.{Fitting};
 use candidates::NewSet;
 use candidates::Presence;
 use candidates::SingleCandidate;
+use stops::Check;
+use stops::Stop;
+use stops::Writing;
 
-pub fn wide(number: i32) -> i64
+pub fn widened(number: i32) -> i64
     ensures { λ r. ⌜ r ≡ number ⌝ }
 {
     number as i64
@@ -40,19 +44,16 @@ pub fn of_count(count: usize) -> [i64; 4]
     [0, 0, count as i64, 0]
 }
 
-// Stop 4, the one stop of the set.
-pub fn of_bad_digit(digit: i32, mask: u16) -> [i64; 4]
-    ensures { λ r. ⌜ r ≡ refused 4 digit mask ⌝ }
+// Any stop, by its number and what stands beside it.
+pub fn of_stop(stop: Stop, mask: u16) -> [i64; 4]
+    ensures { λ r. ⌜ r ≡ refused stop mask ⌝ }
 {
-    [4, wide(digit), 0, mask as i64]
-}
-
-// A stop beside which a place stands.
-pub fn of_stop(stop: i64, place: usize) -> [i64; 4]
-    requires { ⌜ SFits w64 (pos place) ⌝ }
-    ensures { λ r. ⌜ r ≡ four stop (pos place) (pos 0) (pos 0) ⌝ }
-{
-    [stop, place as i64, 0, 0]
+    [
+        stops::number(stop) as i64,
+        stops::detail(stop),
+        0,
+        mask as i64,
+    ]
 }
 
 pub fn of_unknown(call: u8) -> [i64; 4]
@@ -61,31 +62,43 @@ pub fn of_unknown(call: u8) -> [i64; 4]
     [-1, call as i64, 0, 0]
 }
 
+// The value of a call that was checked.
+pub fn of_check(check: Check, value: i64, mask: u16) -> [i64; 4]
+    ensures { λ r. ⌜ r ≡ coded (passing (checkAnswer check) value) mask ⌝ }
+{
+    match check {
+        Check::Refused(stop) => of_stop(stop, mask),
+        Check::Passed => of_given(value, mask),
+    }
+}
+
+// The bytes that a writer wrote.
+pub fn of_writing(writing: Writing) -> [i64; 4]
+    requires { ⌜ Fitting (map pos (writingAnswer writing)) ⌝ }
+    ensures { λ r. ⌜ r ≡ coded (map pos (writingAnswer writing)) 0 ⌝ }
+{
+    match writing {
+        Writing::Refused(stop) => of_stop(stop, 0),
+        Writing::Written(count) => of_count(count),
+    }
+}
+
 pub fn of_new(new: NewSet) -> [i64; 4]
     ensures { λ r. ⌜ r ≡ newSet (newAnswer new) ⌝ }
 {
     match new {
+        NewSet::Refused(stop) => of_stop(stop, 0),
         NewSet::Set(set) => of_given(0, set.mask),
-        NewSet::BadDigit(digit) => of_bad_digit(digit, 0),
     }
 }
 
 pub fn of_presence(presence: Presence, mask: u16) -> [i64; 4]
-    ensures { λ r. ⌜ r ≡ coded testNumber (presenceAnswer presence) mask ⌝ }
+    ensures { λ r. ⌜ r ≡ coded (map testNumber (presenceAnswer presence)) mask ⌝ }
 {
     match presence {
+        Presence::Refused(stop) => of_stop(stop, mask),
         Presence::Present => of_given(1, mask),
         Presence::Absent => of_given(0, mask),
-        Presence::BadDigit(digit) => of_bad_digit(digit, mask),
-    }
-}
-
-pub fn of_insertion(insertion: Insertion, mask: u16) -> [i64; 4]
-    ensures { λ r. ⌜ r ≡ coded noNumber (insertionAnswer insertion) mask ⌝ }
-{
-    match insertion {
-        Insertion::Done => of_given(0, mask),
-        Insertion::BadDigit(digit) => of_bad_digit(digit, mask),
     }
 }
 
@@ -93,7 +106,7 @@ pub fn of_only(only: SingleCandidate) -> i64
     ensures { λ r. ⌜ r ≡ digitOr0 (onlyAnswer only) ⌝ }
 {
     match only {
-        SingleCandidate::Digit(digit) => wide(digit),
+        SingleCandidate::Digit(digit) => widened(digit),
         SingleCandidate::Nothing => 0,
     }
 }
@@ -102,5 +115,5 @@ pub fn of_only(only: SingleCandidate) -> i64
 pub fn of_step(digit: i32, place: u8, mask: u16) -> [i64; 4]
     ensures { λ r. ⌜ r ≡ four (pos 0) (pos place) digit (pos mask) ⌝ }
 {
-    [0, place as i64, wide(digit), mask as i64]
+    [0, place as i64, widened(digit), mask as i64]
 }

@@ -2,7 +2,6 @@
 // Nothing is owed by a caller beyond the lengths of what it lends, and each answer fixes all that was lent.
 ghost use mathlib.Core.Path.{_≡_};
 ghost use Rattle.grid.specs.Fillings.{verified};
-ghost use Rattle.steps.specs.Calls.{refusal};
 ghost use Rattle.board.specs.Boards.{handed};
 ghost use Rattle.host.specs.Boards.{asked, checkCode, keptCheck, openCode, openMasks, readClues, readCode};
 ghost use Rattle.host.specs.Records.{recordClues, recordCode, recordMasks, recordReadCode, writtenRecord};
@@ -12,12 +11,10 @@ ghost use Rattle.host.specs.Texts.{cardCode, textCode, writtenCard, writ
 use board::Board;
 
 mod accessors;
-mod boards;
+mod arrays;
 mod codes;
-mod records;
 mod sets;
 mod step_calls;
-mod texts;
 
 // Whether 81 numbers are a correct filling.
 #[no_mangle]
@@ -51,8 +48,8 @@ pub extern "C" fn sudoku_read(text: &[u8], clues: &mut [i32; 81], answer: &mut [
     let parsed = text::parse_string(text);
     let parsing = parsed.answer;
     let read = parsed.clues;
-    *answer = boards::of_parsing(parsing, read);
-    *clues = boards::read_into(parsing, read, *clues);
+    *answer = codes::of_check(parsing, arrays::clue_number(&read), 0);
+    *clues = arrays::clues_kept(parsing, read, *clues);
 }
 
 // The text of 81 clues.
@@ -61,7 +58,7 @@ pub extern "C" fn sudoku_write_text(clues: &[i32; 81], text: &mut [u8], answer: 
     ensures { λ _. ⌜ (now (answer .exit) ≡ textCode (now (clues .entry)) (now (text .entry))) × (now (text .exit) ≡ writtenText (now (clues .entry)) (now (text .entry))) ⌝ }
 {
     let writing = text::write_text(clues, text);
-    *answer = texts::of_writing(writing);
+    *answer = codes::of_writing(writing);
 }
 
 // The fresh masks of 81 clues.
@@ -71,9 +68,10 @@ pub extern "C" fn sudoku_open(clues: &[i32; 81], masks: &mut [u16; 81], answer: 
 {
     let opened = Board::new(*clues);
     let opening = opened.answer;
-    let board = opened.board;
-    *answer = boards::of_opening(opening, board);
-    *masks = boards::open_into(opening, board, *masks);
+    let grid = opened.board.clues;
+    let fresh = opened.board.masks;
+    *answer = codes::of_check(opening, arrays::clue_number(&grid), 0);
+    *masks = arrays::masks_kept(opening, fresh, *masks);
 }
 
 // A question to a board by its number; `cell` is the cell whose mask is asked for.
@@ -102,7 +100,7 @@ pub extern "C" fn sudoku_original_puzzle(
     puzzle: &mut [i32; 81],
     answer: &mut [i64; 4],
 )
-    ensures { λ _. ⌜ (now (answer .exit) ≡ checkCode (refusal (handed (now (clues .entry)) (now (masks .entry))))) × (now (puzzle .exit) ≡ keptCheck (refusal (handed (now (clues .entry)) (now (masks .entry)))) (now (clues .entry)) (now (puzzle .entry))) ⌝ }
+    ensures { λ _. ⌜ (now (answer .exit) ≡ checkCode (handed (now (clues .entry)) (now (masks .entry)))) × (now (puzzle .exit) ≡ keptCheck (handed (now (clues .entry)) (now (masks .entry))) (now (clues .entry)) (now (puzzle .entry))) ⌝ }
 {
     let board = Board {
         clues: *clues,
@@ -111,8 +109,8 @@ pub extern "C" fn sudoku_original_puzzle(
     let found = board.original_puzzle();
     let check = found.answer;
     let grid = found.clues;
-    *answer = accessors::of_check(check);
-    *puzzle = accessors::puzzle_into(check, grid, *puzzle);
+    *answer = codes::of_check(check, 0, 0);
+    *puzzle = arrays::clues_kept(check, grid, *puzzle);
 }
 
 // The masks of a board.
@@ -123,7 +121,7 @@ pub extern "C" fn sudoku_get_candidates(
     candidates: &mut [u16; 81],
     answer: &mut [i64; 4],
 )
-    ensures { λ _. ⌜ (now (answer .exit) ≡ checkCode (refusal (handed (now (clues .entry)) (now (masks .entry))))) × (now (candidates .exit) ≡ keptCheck (refusal (handed (now (clues .entry)) (now (masks .entry)))) (now (masks .entry)) (now (candidates .entry))) ⌝ }
+    ensures { λ _. ⌜ (now (answer .exit) ≡ checkCode (handed (now (clues .entry)) (now (masks .entry)))) × (now (candidates .exit) ≡ keptCheck (handed (now (clues .entry)) (now (masks .entry))) (now (masks .entry)) (now (candidates .entry))) ⌝ }
 {
     let board = Board {
         clues: *clues,
@@ -132,8 +130,8 @@ pub extern "C" fn sudoku_get_candidates(
     let found = board.get_candidates();
     let check = found.answer;
     let sets = found.masks;
-    *answer = accessors::of_check(check);
-    *candidates = accessors::candidates_into(check, sets, *candidates);
+    *answer = codes::of_check(check, 0, 0);
+    *candidates = arrays::masks_kept(check, sets, *candidates);
 }
 
 // A board call by its step number.
@@ -188,7 +186,7 @@ pub extern "C" fn sudoku_write_record(
         masks: *masks,
     };
     let writing = record::write_record(board, bytes);
-    *answer = records::of_writing(writing);
+    *answer = codes::of_writing(writing);
 }
 
 // The clues and the masks of a record.
@@ -203,10 +201,11 @@ pub extern "C" fn sudoku_read_record(
 {
     let read = record::read_record(bytes);
     let reading = read.answer;
-    let board = read.board;
-    *answer = records::of_reading(reading, board);
-    *clues = records::clues_into(reading, board, *clues);
-    *masks = records::masks_into(reading, board, *masks);
+    let grid = read.board.clues;
+    let sets = read.board.masks;
+    *answer = codes::of_check(reading, arrays::clue_number(&grid), 0);
+    *clues = arrays::clues_kept(reading, grid, *clues);
+    *masks = arrays::masks_kept(reading, sets, *masks);
 }
 
 // The card of a text.
@@ -214,6 +213,6 @@ pub extern "C" fn sudoku_read_record(
 pub extern "C" fn sudoku_card(input: &[u8], card: &mut [u8; 256], answer: &mut [i64; 4])
     ensures { λ _. ⌜ (now (answer .exit) ≡ cardCode (now (input .entry))) × (now (card .exit) ≡ writtenCard (now (input .entry)) (now (card .entry))) ⌝ }
 {
-    let carding = card::write_card(input, card);
-    *answer = texts::of_carding(carding);
+    let writing = card::write_card(input, card);
+    *answer = codes::of_writing(writing);
 }

@@ -1,6 +1,7 @@
 // The calls of the candidate set by number, and one step of an iterator.
 ghost use mathlib.Core.Path.{_≡_};
 ghost use Rattle.candidates.specs.Sets.{insertOf, containsOf, inserted, removed};
+ghost use Rattle.stops.specs.Answer.{map};
 ghost use Rattle.host.specs.Codes.{coded, testNumber, noNumber};
 ghost use Rattle.host.specs.Sets.{setCall, nextCall};
 use crate::codes;
@@ -10,15 +11,15 @@ use candidates::SudokuCandidateSet;
 use candidates::lent;
 
 fn insert_call(mask: u16, digit: i32) -> [i64; 4]
-    ensures { λ r. ⌜ r ≡ coded noNumber (insertOf digit) (inserted mask digit) ⌝ }
+    ensures { λ r. ⌜ r ≡ coded (map noNumber (insertOf digit)) (inserted mask digit) ⌝ }
 {
     let after = lent::insert(mask, digit);
     let answer = after.answer;
-    codes::of_insertion(answer, after.mask)
+    codes::of_check(answer, 0, after.mask)
 }
 
 fn remove_call(mask: u16, digit: i32) -> [i64; 4]
-    ensures { λ r. ⌜ r ≡ coded testNumber (containsOf mask digit) (removed mask digit) ⌝ }
+    ensures { λ r. ⌜ r ≡ coded (map testNumber (containsOf mask digit)) (removed mask digit) ⌝ }
 {
     let after = lent::remove(mask, digit);
     let answer = after.answer;

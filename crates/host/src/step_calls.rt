@@ -6,9 +6,8 @@ ghost use mir.Val.{SFits};
 ghost use Rattle.board.specs.Boards.{boardOf, handed};
 ghost use Rattle.calls.specs.Replays.{replayingAnswer};
 ghost use Rattle.calls.specs.StepNumbers.{steppingAnswer};
-ghost use Rattle.host.specs.Boards.{kept};
-ghost use Rattle.host.specs.Codes.{Fitting, coded, noNumber};
-ghost use Rattle.host.specs.Steps.{partsCode, reportBytes, stepCode, stepMasks, stepReports, used, valuesCode};
+ghost use Rattle.host.specs.Steps.{ranCode, ranMasks, reportBytes, stepCode, stepMasks, stepReports, used, valuesCode};
+ghost use Rattle.host.specs.code.Parts.{RunFits, partsCode, partsKept};
 use crate::codes;
 use board::Board;
 use calls::Replaying;
@@ -35,45 +34,46 @@ pub fn of_stepping(
     sweeps: usize,
     removed: usize,
 ) -> [i64; 4]
-    requires { ⌜ Fitting noNumber (steppingAnswer stepping) × SFits w64 (pos reports) × SFits w64 (pos sweeps) × SFits w64 (pos removed) ⌝ }
+    requires { ⌜ SFits w64 (pos reports) × SFits w64 (pos sweeps) × SFits w64 (pos removed) ⌝ }
     ensures { λ r. ⌜ r ≡ partsCode number (steppingAnswer stepping) reports sweeps removed ⌝ }
 {
     match stepping {
+        Stepping::Refused(stop) => codes::of_stop(stop, 0),
         Stepping::Made(made) => of_values(number, made, reports, sweeps, removed),
-        Stepping::BadClue(cell) => codes::of_stop(3, cell),
-        Stepping::BadMask(cell) => codes::of_stop(9, cell),
-        Stepping::NoStep(_) => codes::of_unknown(number),
+        Stepping::NoStep => codes::of_unknown(number),
     }
 }
 
 pub fn reports_into(stepping: Stepping, found: [u8; 648], lent: [u8; 648]) -> [u8; 648]
-    ensures { λ r. ⌜ r ≡ kept (λ flag. found) (steppingAnswer stepping) lent ⌝ }
+    ensures { λ r. ⌜ r ≡ partsKept (steppingAnswer stepping) found lent ⌝ }
 {
     match stepping {
+        Stepping::Refused(_) => lent,
         Stepping::Made(_) => found,
-        Stepping::BadClue(_) => lent,
-        Stepping::BadMask(_) => lent,
-        Stepping::NoStep(_) => lent,
+        Stepping::NoStep => lent,
     }
 }
 
+// The number of a list that holds a byte that is no step number; it is no stop of the paper.
+const NO_STEP: i64 = 20;
+
 pub fn of_replaying(replaying: Replaying, board: Board) -> [i64; 4]
-    requires { ⌜ Fitting noNumber (replayingAnswer replaying (boardOf board)) ⌝ }
-    ensures { λ r. ⌜ r ≡ coded noNumber (replayingAnswer replaying (boardOf board)) 0 ⌝ }
+    requires { ⌜ RunFits (replayingAnswer replaying (boardOf board)) ⌝ }
+    ensures { λ r. ⌜ r ≡ ranCode (replayingAnswer replaying (boardOf board)) ⌝ }
 {
     match replaying {
+        Replaying::Refused(stop) => codes::of_stop(stop, 0),
         Replaying::Done => codes::of_given(0, 0),
-        Replaying::BadClue(cell) => codes::of_stop(3, cell),
-        Replaying::NoStep(index) => codes::of_stop(20, index),
+        Replaying::NoStep(index) => [NO_STEP, index as i64, 0, 0],
     }
 }
 
 pub fn run_into(replaying: Replaying, board: Board, lent: [u16; 81]) -> [u16; 81]
-    ensures { λ r. ⌜ r ≡ kept (λ b. b .masks) (replayingAnswer replaying (boardOf board)) lent ⌝ }
+    ensures { λ r. ⌜ r ≡ ranMasks (replayingAnswer replaying (boardOf board)) lent ⌝ }
 {
     match replaying {
+        Replaying::Refused(_) => lent,
         Replaying::Done => board.masks,
-        Replaying::BadClue(_) => lent,
         Replaying::NoStep(_) => lent,
     }
 }

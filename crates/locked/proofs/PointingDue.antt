@@ -7,7 +7,7 @@ use native.Mathlib.Omega.{arith}
 use borrow.Author.Tests.{eqb-true}
 use lib.Bits.{bitAnd}
 use lib.Dec.{eqb}
-use Rattle.candidates.specs.Masks.{has, minus, single}
+use Rattle.candidates.specs.Masks.{has, minus, placeMask}
 use Rattle.candidates.proofs.Held.{Held, held-minus, held-sub}
 use Rattle.candidates.proofs.Order.{sub-of-minus}
 use Rattle.candidates.proofs.Tests.{by-test}
@@ -17,15 +17,15 @@ use Rattle.steps.specs.Boards.{at, isOpen}
 use Rattle.steps.specs.Loops.{upTo}
 use Rattle.steps.proofs.Loops.{in-upTo, each-idle}
 use Rattle.steps.proofs.Steps.{lose-none}
-use Rattle.cells.specs.Places.{allMasks, loseIn, losePlaces, heldPlaces}
-use Rattle.cells.specs.Lines.{linePlaces, outsideBox, lineUnit, lineTurn, lineTurns}
-use Rattle.cells.specs.Unions.{joinedAt}
+use Rattle.cells.specs.code.Places.{allMasks, loseIn, losePlaces, heldPlaces}
+use Rattle.cells.specs.code.Lines.{linePlaces, outsideBox, lineUnit, lineTurn, lineTurns}
+use Rattle.cells.specs.code.Unions.{joinedAt}
 use Rattle.cells.proofs.Places.{lose-cell, all-mask}
 use Rattle.cells.proofs.HeldPlaces.{has-held}
 use Rattle.cells.proofs.LineTurns.{unit-below}
-use Rattle.cells.proofs.NineBits.{single-is, not-held}
+use Rattle.cells.proofs.NineBits.{place-is, not-held}
 use Rattle.cells.proofs.Shared.{union-at, joined-at, at-joined}
-use Rattle.locked.specs.Pointing.{pointingDigit, lineDue, boxDue}
+use Rattle.locked.specs.code.Pointing.{pointingDigit, lineDue, boxDue}
 use Rattle.locked.proofs.PointingTurns.{pointing-digit}
 
 -- places whose cells hold none of the digits lose nothing
@@ -55,9 +55,9 @@ module _ (g m : List ℕ) (b d : ℕ) (h : b < 9) (l : d < 9) (free : has (boxDu
   unfolding lineTurn
   turn-idle k n =
       by-test (λ (x : List ℕ). x ≡ m) (eqb (minus (heldPlaces m (18 + b) d) (linePlaces k)) 0)
-      (losePlaces (isOpen g) (lineUnit b k) (outsideBox b k) (single d) m) m
-      (λ t. places-idle g (lineUnit b k) (outsideBox b k) (single d) m (unit-below b k h n)
-      (λ i o p. subst (λ (x : ℕ). bitAnd (at m (unitCell (lineUnit b k) i)) x ≡ 0) (sym (single-is d l))
+      (losePlaces (isOpen g) (lineUnit b k) (outsideBox b k) (placeMask d) m) m
+      (λ t. places-idle g (lineUnit b k) (outsideBox b k) (placeMask d) m (unit-below b k h n)
+      (λ i o p. subst (λ (x : ℕ). bitAnd (at m (unitCell (lineUnit b k) i)) x ≡ 0) (sym (place-is d l))
       (not-held (at m (unitCell (lineUnit b k) i)) d (λ q. not-on k n (due i o p (eqb-true (minus (heldPlaces m (18 + b) d) (linePlaces k)) 0 t) q))))) (λ t. refl)
     where
       due : (i : ℕ) → i < 9 → Held (outsideBox b k) i → minus (heldPlaces m (18 + b) d) (linePlaces k) ≡ 0 → Held (at m (unitCell (lineUnit b k) i)) d → Held (lineDue m (allMasks m (18 + b)) b k) d

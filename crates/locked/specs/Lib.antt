@@ -1,1 +1,1 @@
-pub mod Pointing
+pub mod code

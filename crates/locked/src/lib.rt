@@ -3,7 +3,7 @@
 ghost use mathlib.Core.Path.{_≡_};
 ghost use Prim.Native.Nat.{_<_};
 ghost use Rattle.steps.specs.Passes.{pass, Pointing};
-ghost use Rattle.locked.specs.Pointing.{pointingDigit, pointingBox, lineDue, boxDue};
+ghost use Rattle.locked.specs.code.Pointing.{pointingDigit, pointingBox, lineDue, boxDue};
 use candidates::masks;
 use cells::all_masks;
 use cells::held_places;

@@ -8,7 +8,7 @@ use native.Mathlib.Omega.{arith}
 use borrow.Author.Tests.{eqb-true, eqb-false}
 use lib.Bits.{bitAnd}
 use lib.Dec.{eqb}
-use Rattle.candidates.specs.Masks.{has, union, count, Sub}
+use Rattle.candidates.specs.Masks.{has, minus, union, count, single, Sub}
 use Rattle.candidates.proofs.Counts.{count-none, count-zero, count-sub, count-power}
 use Rattle.candidates.proofs.Held.{Held, none-held, held-sub}
 use Rattle.candidates.proofs.Order.{sub-trans, union-left, union-right}
@@ -19,20 +19,20 @@ use Rattle.grid.proofs.Cells.{peer-sees, sees-shared}
 use Rattle.grid.proofs.Lists.{at-upTo}
 use Rattle.grid.proofs.Units.{Kind, kind, by-unit, member-in}
 use Rattle.steps.specs.Boards.{at, isOpen, Under}
-use Rattle.steps.specs.Instances.{only, except, lone, loneStep, stepOf}
+use Rattle.steps.specs.Instances.{lone, loneStep, stepOf}
 use Rattle.steps.specs.Loops.{upTo}
 use Rattle.steps.specs.Passes.{instanceTaken}
-use Rattle.steps.specs.Steps.{applies, lacks, loseAll, take}
+use Rattle.steps.specs.Steps.{applies, lacks, loseAll, stepTaken}
 use Rattle.steps.proofs.Loops.{in-upTo, each-idle}
 use Rattle.steps.proofs.Steps.{all-none}
 use Rattle.steps.proofs.Taking.{takes-under}
-use Rattle.cells.specs.Places.{maskAt, allMasks}
-use Rattle.cells.specs.Unions.{sharedOf, sharedSets}
+use Rattle.cells.specs.code.Places.{maskAt, allMasks}
+use Rattle.cells.specs.code.Unions.{sharedOf, sharedSets}
 use Rattle.cells.proofs.Places.{mask-at, all-mask}
 use Rattle.cells.proofs.NineBits.{held-meet, not-held, only-none, within-only}
 use Rattle.cells.proofs.Shared.{twice-shared}
-use Rattle.lone_place.specs.Turns.{loneCell}
-use Rattle.lone_place.specs.Due.{Covers, sharedNear, loneDue}
+use Rattle.lone_place.specs.code.Turns.{loneCell}
+use Rattle.lone_place.specs.code.Due.{Covers, sharedNear, loneDue}
 
 -- ---- the sets of the masks, and of masks that have shrunk
 
@@ -112,13 +112,13 @@ module _ (g m s : List ℕ) (c : ℕ) (h : c < 81) (covers : Covers s m) (w : Id
         )))
 
   none-lost : (d : ℕ) → d < 9 → instanceTaken g (lone c d) m ≡ m
-  unfolding stepOf take
+  unfolding stepOf stepTaken
   none-lost d l =
-      by-test (λ (n : List ℕ). n ≡ m) (applies (loneStep c d) m) (loseAll (isOpen g) (peers c) (λ _. only d) m) m
-      (λ t. all-none (isOpen g) (peers c) (λ _. only d) m (λ e k f. not-held (at m e) d (peer d l (whole t) e k))) (λ t. refl)
+      by-test (λ (n : List ℕ). n ≡ m) (applies (loneStep c d) m) (loseAll (isOpen g) (peers c) (λ _. single d) m) m
+      (λ t. all-none (isOpen g) (peers c) (λ _. single d) m (λ e k f. not-held (at m e) d (peer d l (whole t) e k))) (λ t. refl)
     where
       whole : applies (loneStep c d) m ≡ true → Sub (bitAnd (at m c) 511) (2 ^ d)
-      whole t = within-only (at m c) d l (sym (and-true (lacks m c (except (only d)))) ∙ t)
+      whole t = within-only (at m c) d (sym (and-true (lacks m c (minus 511 (single d)))) ∙ t)
 
 pub not-due : (g m s : List ℕ) (c : ℕ) → c < 81 → Covers s m → loneDue (bitAnd (maskAt m c) 511) (sharedNear s c) ≡ false → loneCell g c m ≡ m
 unfolding loneCell

@@ -19,10 +19,10 @@ use Rattle.steps.specs.Loops.{each}
 use Rattle.steps.specs.Steps.{loseAt, loseAll}
 use Rattle.steps.proofs.Loops.{each-append}
 use Rattle.steps.proofs.Losses.{Lost, held-unless, lost-when, without-same}
-use Rattle.cells.specs.Places.{losePlaces}
+use Rattle.cells.specs.code.Places.{losePlaces}
 use Rattle.cells.proofs.NineBits.{has-except}
 use Rattle.cells.proofs.UnitPlaces.{has-place, spared-lose}
-use Rattle.lone_place.specs.Turns.{othersLose, peersLose}
+use Rattle.lone_place.specs.code.Turns.{othersLose, peersLose}
 
 -- ---- the others of a unit
 

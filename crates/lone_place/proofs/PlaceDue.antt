@@ -3,12 +3,12 @@ use mathlib.Core.Path.{_≡_, refl, sym, ap, _∙_, subst}
 use mathlib.Core.Logic.{_⊎_, inl, inr, ⊎-elim}
 use mathlib.Core.Bool.{Bool, true, false, not, _&&_, true≢false}
 use mathlib.Core.List.{List}
-use Prim.Native.Nat.{ℕ, _^_, _<_}
+use Prim.Native.Nat.{ℕ, _<_}
 use native.Mathlib.Omega.{arith}
 use borrow.Author.Tests.{eqb-true, ne-eqb}
 use lib.Bits.{bitAnd}
 use lib.Dec.{eqb}
-use Rattle.candidates.specs.Masks.{has, minus, count, single, Sub}
+use Rattle.candidates.specs.Masks.{has, minus, count, single}
 use Rattle.candidates.proofs.Counts.{count-zero, and-except}
 use Rattle.candidates.proofs.FewDigits.{count-without}
 use Rattle.candidates.proofs.Held.{Held, has-minus, held-power, held-sub}
@@ -16,36 +16,35 @@ use Rattle.candidates.proofs.Order.{apart-sub, sub-of-minus}
 use Rattle.candidates.proofs.Tests.{by-test, cond-false}
 use Rattle.grid.specs.Units.{unitCell}
 use Rattle.steps.specs.Boards.{at, isOpen}
-use Rattle.steps.specs.Instances.{only, except}
 use Rattle.steps.specs.Loops.{upTo}
 use Rattle.steps.specs.Steps.{loseAt}
 use Rattle.steps.proofs.Loops.{in-upTo, each-idle}
 use Rattle.steps.proofs.Steps.{lose-none}
-use Rattle.cells.specs.Places.{allMasks, heldPlaces}
-use Rattle.cells.specs.Unions.{joined, sharedOf, crowdedOf}
+use Rattle.cells.specs.code.Places.{allMasks, heldPlaces}
+use Rattle.cells.specs.code.Unions.{joined, sharedOf, severalOf}
 use Rattle.cells.proofs.Places.{all-mask}
 use Rattle.cells.proofs.HeldPlaces.{has-held}
-use Rattle.cells.proofs.NineBits.{single-is, only-sub, has-except}
-use Rattle.cells.proofs.Shared.{Twice, shared-twice, joined-held, crowded-not}
-use Rattle.lone_place.specs.Turns.{placeTurn, placeDigit}
-use Rattle.lone_place.specs.Due.{dueOf}
+use Rattle.cells.proofs.NineBits.{has-except}
+use Rattle.cells.proofs.Shared.{Twice, shared-twice, joined-held, several-not}
+use Rattle.lone_place.specs.code.Turns.{placeTurn, placeDigit}
+use Rattle.lone_place.specs.code.Due.{dueOf}
 use Rattle.lone_place.proofs.PlaceTurns.{place-digit}
 
 -- ---- what is not due
 
 module _ (nine : List ℕ) (d : ℕ) (l : d < 9) where
-  cases : has (dueOf nine) d ≡ false → Held (sharedOf nine) d ⊎ (Held (joined nine) d × (Held (crowdedOf nine) d → ⊥))
+  cases : has (dueOf nine) d ≡ false → Held (sharedOf nine) d ⊎ (Held (joined nine) d × (Held (severalOf nine) d → ⊥))
   unfolding dueOf
-  cases t = go (has (sharedOf nine) d) (has (joined nine) d) (has (crowdedOf nine) d) refl refl refl (sym says ∙ t)
+  cases t = go (has (sharedOf nine) d) (has (joined nine) d) (has (severalOf nine) d) refl refl refl (sym says ∙ t)
     where
-      says : has (dueOf nine) d ≡ (not (has (sharedOf nine) d) && not (has (joined nine) d && not (has (crowdedOf nine) d)))
+      says : has (dueOf nine) d ≡ (not (has (sharedOf nine) d) && not (has (joined nine) d && not (has (severalOf nine) d)))
       says =
-          has-minus (minus 511 (sharedOf nine)) (minus (joined nine) (crowdedOf nine)) d
-          ∙ ap (λ (b : Bool). b && not (has (minus (joined nine) (crowdedOf nine)) d)) (has-except (sharedOf nine) d l)
-          ∙ ap (λ (b : Bool). not (has (sharedOf nine) d) && not b) (has-minus (joined nine) (crowdedOf nine) d)
+          has-minus (minus 511 (sharedOf nine)) (minus (joined nine) (severalOf nine)) d
+          ∙ ap (λ (b : Bool). b && not (has (minus (joined nine) (severalOf nine)) d)) (has-except (sharedOf nine) d l)
+          ∙ ap (λ (b : Bool). not (has (sharedOf nine) d) && not b) (has-minus (joined nine) (severalOf nine) d)
 
-      go : (s j c : Bool) → has (sharedOf nine) d ≡ s → has (joined nine) d ≡ j → has (crowdedOf nine) d ≡ c
-          → (not (has (sharedOf nine) d) && not (has (joined nine) d && not (has (crowdedOf nine) d))) ≡ false → Held (sharedOf nine) d ⊎ (Held (joined nine) d × (Held (crowdedOf nine) d → ⊥))
+      go : (s j c : Bool) → has (sharedOf nine) d ≡ s → has (joined nine) d ≡ j → has (severalOf nine) d ≡ c
+          → (not (has (sharedOf nine) d) && not (has (joined nine) d && not (has (severalOf nine) d))) ≡ false → Held (sharedOf nine) d ⊎ (Held (joined nine) d × (Held (severalOf nine) d → ⊥))
       go true j c p q r e = inl p
       go false true false p q r e = inr (q, λ h. true≢false (sym h ∙ r))
       go false true true p q r e = absurd (true≢false (rw (p, q, r) at e))
@@ -58,15 +57,14 @@ module _ (g m : List ℕ) (u d : ℕ) (h : u < 27) (l : d < 9) where
 
   alone : (k i : ℕ) → k < 9 → i < 9 → minus (heldPlaces m u d) (single k) ≡ 0 → Held (at (allMasks m u) i) d → i ≡ k
   alone k i n o e t =
-      held-power k i .0
-      (held-sub i (subst (λ (x : ℕ). Sub (heldPlaces m u d) x) (single-is k n) (sub-of-minus (heldPlaces m u d) (single k) e)) (held i o t))
+      held-power k i .0 (held-sub i (sub-of-minus (heldPlaces m u d) (single k) e) (held i o t))
 
   twice-idle : Twice (allMasks m u) d → placeDigit g u d m ≡ m
   twice-idle w =
       place-digit g u d h l m
       ∙ each-idle (placeTurn g u d (heldPlaces m u d)) (upTo 9) m
       (λ k o. unfold placeTurn in
-      cond-false (eqb (minus (heldPlaces m u d) (single k)) 0) (loseAt (isOpen g) (unitCell u k) (except (only d)) m) m
+      cond-false (eqb (minus (heldPlaces m u d) (single k)) 0) (loseAt (isOpen g) (unitCell u k) (minus 511 (single d)) m) m
       (ne-eqb (minus (heldPlaces m u d) (single k)) 0 (λ e. clash k (in-upTo 9 k o) e)))
     where
       clash : (k : ℕ) → k < 9 → minus (heldPlaces m u d) (single k) ≡ 0 → ⊥
@@ -78,27 +76,27 @@ module _ (g m : List ℕ) (u d : ℕ) (h : u < 27) (l : d < 9) where
           omega arith
 
   -- a mask that holds d and nothing else loses nothing
-  only-digit : (x : ℕ) → Held x d → count x ≡ 1 → bitAnd x (except (only d)) ≡ 0
+  only-digit : (x : ℕ) → Held x d → count x ≡ 1 → bitAnd x (minus 511 (single d)) ≡ 0
   only-digit x t e =
-      apart-sub (except (only d))
-      (sub-of-minus x (2 ^ d) (count-zero (minus x (2 ^ d)) (omega (arith, count-without x d t))))
-      (and-except (only-sub d l))
+      apart-sub (minus 511 (single d))
+      (sub-of-minus x (single d) (count-zero (minus x (single d)) (omega (arith, count-without x d t))))
+      (and-except (single d))
 
   alone-idle : (i : ℕ) → i < 9 → Held (at (allMasks m u) i) d → ((j : ℕ) → j < 9 → Held (at (allMasks m u) j) d → count (at (allMasks m u) j) ≡ 1) → placeDigit g u d m ≡ m
   alone-idle i o t one =
       place-digit g u d h l m
       ∙ each-idle (placeTurn g u d (heldPlaces m u d)) (upTo 9) m
       (λ k n. unfold placeTurn in
-      by-test (λ (x : List ℕ). x ≡ m) (eqb (minus (heldPlaces m u d) (single k)) 0) (loseAt (isOpen g) (unitCell u k) (except (only d)) m) m
-      (λ s. lose-none (isOpen g) (unitCell u k) (except (only d)) m (λ _. none k (in-upTo 9 k n) (eqb-true (minus (heldPlaces m u d) (single k)) 0 s))) (λ s. refl))
+      by-test (λ (x : List ℕ). x ≡ m) (eqb (minus (heldPlaces m u d) (single k)) 0) (loseAt (isOpen g) (unitCell u k) (minus 511 (single d)) m) m
+      (λ s. lose-none (isOpen g) (unitCell u k) (minus 511 (single d)) m (λ _. none k (in-upTo 9 k n) (eqb-true (minus (heldPlaces m u d) (single k)) 0 s))) (λ s. refl))
     where
-      none : (k : ℕ) → k < 9 → minus (heldPlaces m u d) (single k) ≡ 0 → bitAnd (at m (unitCell u k)) (except (only d)) ≡ 0
+      none : (k : ℕ) → k < 9 → minus (heldPlaces m u d) (single k) ≡ 0 → bitAnd (at m (unitCell u k)) (minus 511 (single d)) ≡ 0
       none k n e =
           let q : Held (at (allMasks m u) k) d = subst (λ (j : ℕ). Held (at (allMasks m u) j) d) (alone k i n o e t) t in
-          subst (λ (x : ℕ). bitAnd x (except (only d)) ≡ 0) (all-mask m u k h n) (only-digit (at (allMasks m u) k) q (one k n q))
+          subst (λ (x : ℕ). bitAnd x (minus 511 (single d)) ≡ 0) (all-mask m u k h n) (only-digit (at (allMasks m u) k) q (one k n q))
 
   pub not-due : has (dueOf (allMasks m u)) d ≡ false → placeDigit g u d m ≡ m
   not-due t =
       ⊎-elim (λ s. twice-idle (shared-twice (allMasks m u) d s))
-      (λ p. let w = joined-held (allMasks m u) d (p .0) in alone-idle (w .0) (w .1) (w .2) (crowded-not (allMasks m u) d (p .1)))
+      (λ p. let w = joined-held (allMasks m u) d (p .0) in alone-idle (w .0) (w .1) (w .2) (several-not (allMasks m u) d (p .1)))
       (cases (allMasks m u) d l t)

@@ -1,24 +1,27 @@
 -- Place: an instance by the places that hold its digit, which none of the unit's instances of that digit change. Assumes nothing.
 use mathlib.Core.Path.{_≡_, refl, sym, ap, _∙_}
-use mathlib.Core.Bool.{Bool, false, cond, true≢false}
+use mathlib.Core.Bool.{Bool, false, cond, not, true≢false}
 use mathlib.Core.List.{List, [], _∷_}
 use Prim.Native.Nat.{ℕ, _<_}
-use lib.Dec.{eqb, eqb→eq}
-use Rattle.candidates.specs.Masks.{bit, has, minus, single}
-use Rattle.candidates.proofs.Tests.{below, by-test, bool-iff}
+use borrow.Author.Tests.{eq-eqb}
+use lib.Dec.{eqb}
+use Rattle.candidates.specs.Masks.{has, minus, single}
+use Rattle.candidates.proofs.Held.{has-power}
+use Rattle.candidates.proofs.Tests.{by-test, bool-iff}
 use Rattle.grid.specs.Units.{unitCell}
 use Rattle.steps.specs.Boards.{at, isOpen}
-use Rattle.steps.specs.Instances.{only, except, place, stepOf, places}
+use Rattle.steps.specs.Instances.{place, stepOf, places}
 use Rattle.steps.specs.Loops.{each, for, upTo}
 use Rattle.steps.specs.Passes.{Place, instances, instanceTaken, pass}
-use Rattle.steps.specs.Steps.{loseAt, loseAll, take}
+use Rattle.steps.specs.Steps.{loseAt, loseAll, stepTaken}
 use Rattle.steps.proofs.Loops.{in-upTo}
 use Rattle.steps.proofs.Losses.{lost-digits}
 use Rattle.steps.proofs.Turns.{each-alike, each-one, each-in}
-use Rattle.cells.specs.Places.{heldPlaces}
+use Rattle.cells.specs.code.Places.{heldPlaces}
+use Rattle.cells.proofs.NineBits.{has-except}
 use Rattle.cells.proofs.UnitPlaces.{has-place}
 use Rattle.cells.proofs.HeldPlaces.{held-same, confined}
-use Rattle.lone_place.specs.Turns.{placeTurn, placeDigit, placeUnit}
+use Rattle.lone_place.specs.code.Turns.{placeTurn, placeDigit, placeUnit}
 
 -- a digit that the cell does not lose
 kept-digit : (free : ℕ → Bool) (cs : List ℕ) (k : ℕ → ℕ) (m : List ℕ) (e d : ℕ) → has (k e) d ≡ false → has (at (loseAll free cs k m) e) d ≡ has (at m e) d
@@ -27,22 +30,22 @@ kept-digit free cs k m e d h =
     (λ t. lost-digits free k cs m e d .1 (t, λ l. true≢false (sym (l .digit) ∙ h)))
 
 -- all but d leaves d
-spares-digit : (d : ℕ) → d < 9 → has (except (only d)) d ≡ false
-spares-digit d h = ap (λ (b : ℕ). eqb b 1) (eqb→eq (bit (except (only d)) d) 0 (below 9 (λ d. eqb (bit (except (only d)) d) 0) tt d h))
+spares-digit : (d : ℕ) → d < 9 → has (minus 511 (single d)) d ≡ false
+spares-digit d h = has-except (single d) d h ∙ ap not (has-power d d ∙ eq-eqb d d refl)
 
 module _ (g : List ℕ) (u d : ℕ) (h : u < 27) (l : d < 9) where
   taken : (m : List ℕ) (i : ℕ) → i < 9 → instanceTaken g (place u d i) m ≡ placeTurn g u d (heldPlaces m u d) i m
-  unfolding stepOf take placeTurn each
+  unfolding stepOf stepTaken placeTurn each
   taken m i n =
-      ap (λ (t : Bool). cond t (loseAt (isOpen g) (unitCell u i) (except (only d)) m) m)
+      ap (λ (t : Bool). cond t (loseAt (isOpen g) (unitCell u i) (minus 511 (single d)) m) m)
       (confined m u d (λ e. eqb e (unitCell u i)) (single i) h (λ j k. has-place u h i j n k))
 
   keeps : (held i : ℕ) (m : List ℕ) → heldPlaces (placeTurn g u d held i m) u d ≡ heldPlaces m u d
   unfolding placeTurn each
   keeps held i m =
-      by-test (λ (n : List ℕ). heldPlaces n u d ≡ heldPlaces m u d) (eqb (minus held (single i)) 0) (loseAt (isOpen g) (unitCell u i) (except (only d)) m) m
-      (λ t. held-same (loseAt (isOpen g) (unitCell u i) (except (only d)) m) m u d h
-      (λ j k. kept-digit (isOpen g) (unitCell u i ∷ []) (λ _. except (only d)) m (unitCell u j) d (spares-digit d l)))
+      by-test (λ (n : List ℕ). heldPlaces n u d ≡ heldPlaces m u d) (eqb (minus held (single i)) 0) (loseAt (isOpen g) (unitCell u i) (minus 511 (single d)) m) m
+      (λ t. held-same (loseAt (isOpen g) (unitCell u i) (minus 511 (single d)) m) m u d h
+      (λ j k. kept-digit (isOpen g) (unitCell u i ∷ []) (λ _. minus 511 (single d)) m (unitCell u j) d (spares-digit d l)))
       (λ t. refl)
 
   pub place-digit : (m : List ℕ) → placeDigit g u d m ≡ each (placeTurn g u d (heldPlaces m u d)) (upTo 9) m

@@ -7,37 +7,35 @@ use lib.Bits.{bitAnd}
 use lib.Dec.{eqb}
 use Rattle.candidates.specs.Masks.{minus, count, single}
 use Rattle.candidates.proofs.Counts.{test-none}
-use Rattle.steps.specs.Boards.{at, isOpen}
-use Rattle.steps.specs.Instances.{only, except, lone, loneStep, stepOf, lones}
+use Rattle.steps.specs.Boards.{isOpen}
+use Rattle.steps.specs.Instances.{lone, loneStep, stepOf, lones}
 use Rattle.steps.specs.Loops.{each, for, upTo}
 use Rattle.steps.specs.Passes.{Lone, instances, instanceTaken, pass}
 use Rattle.steps.specs.Steps.{lacks, applies}
 use Rattle.steps.proofs.Taking.{taken, left-alone}
 use Rattle.steps.proofs.Turns.{each-one, each-in}
-use Rattle.cells.specs.Places.{maskAt}
+use Rattle.cells.specs.code.Places.{maskAt}
 use Rattle.cells.proofs.Places.{mask-at}
-use Rattle.cells.proofs.NineBits.{single-is, except-single}
-use Rattle.lone_place.specs.Turns.{peersLose, loneCell}
+use Rattle.lone_place.specs.code.Turns.{peersLose, loneCell}
 
 -- the test of an instance, as code makes it
 abbrev pub loneTest : List ℕ → ℕ → ℕ → Bool
 loneTest m c d = eqb (count (bitAnd (maskAt m c) (minus 511 (single d)))) 0
 
-lone-applies : (m : List ℕ) (c d : ℕ) → c < 81 → d < 9 → loneTest m c d ≡ applies (loneStep c d) m
-lone-applies m c d h l =
+lone-applies : (m : List ℕ) (c d : ℕ) → c < 81 → loneTest m c d ≡ applies (loneStep c d) m
+lone-applies m c d h =
     sym (test-none (bitAnd (maskAt m c) (minus 511 (single d))))
     ∙ ap (λ (x : ℕ). eqb (bitAnd x (minus 511 (single d))) 0) (mask-at m c h)
-    ∙ ap (λ (k : ℕ). eqb (bitAnd (at m c) k) 0) (except-single d l)
-    ∙ sym (and-true (lacks m c (except (only d))))
+    ∙ sym (and-true (lacks m c (minus 511 (single d))))
 
-module _ (g m : List ℕ) (c d : ℕ) (h : c < 81) (l : d < 9) where
+module _ (g m : List ℕ) (c d : ℕ) (h : c < 81) where
   pub lone-taken : loneTest m c d ≡ true → peersLose g c (single d) m ≡ instanceTaken g (lone c d) m
   unfolding stepOf peersLose
-  lone-taken t = ap (λ (k : ℕ). peersLose g c k m) (single-is d l) ∙ taken (isOpen g) (loneStep c d) m (sym (lone-applies m c d h l) ∙ t)
+  lone-taken t = taken (isOpen g) (loneStep c d) m (sym (lone-applies m c d h) ∙ t)
 
   pub lone-left : loneTest m c d ≡ false → m ≡ instanceTaken g (lone c d) m
   unfolding stepOf
-  lone-left t = left-alone (isOpen g) (loneStep c d) m (sym (lone-applies m c d h l) ∙ t)
+  lone-left t = left-alone (isOpen g) (loneStep c d) m (sym (lone-applies m c d h) ∙ t)
 
 pub lone-pass : (g m : List ℕ) → pass g Lone m ≡ each (loneCell g) (upTo 81) m
 unfolding pass instances lones loneCell

@@ -1,15 +1,15 @@
 // Place, by units, digits and instances.
 ghost use mathlib.Core.Path.{_≡_};
 ghost use Prim.Native.Nat.{_<_};
-ghost use Rattle.cells.specs.Places.{allMasks};
-ghost use Rattle.lone_place.specs.Turns.{placeTurn, placeDigit, placeUnit};
-ghost use Rattle.lone_place.specs.Due.{dueOf};
+ghost use Rattle.cells.specs.code.Places.{allMasks};
+ghost use Rattle.lone_place.specs.code.Turns.{placeTurn, placeDigit, placeUnit};
+ghost use Rattle.lone_place.specs.code.Due.{dueOf};
 use candidates::masks;
 use cells::all_masks;
 use cells::held_places;
 use cells::lose_at;
-use cells::unions::crowded;
 use cells::unions::join_all;
+use cells::unions::several;
 use cells::unions::shared;
 use grid::unit_cell;
 
@@ -49,7 +49,7 @@ fn due_digits(masks: &[u16; 81], unit: usize) -> u16
     ensures { λ r. ⌜ r ≡ dueOf (allMasks (now (masks .entry)) unit) ⌝ }
 {
     let nine = all_masks(masks, unit);
-    let single = masks::lose(join_all(&nine), crowded(&nine));
+    let single = masks::lose(join_all(&nine), several(&nine));
     masks::lose(masks::lose(511, shared(&nine)), single)
 }
 

@@ -5,38 +5,19 @@
 // Its answer is the grid, then `refused STOP PLACE`, or `open`, the clues and a checksum of the fresh masks; then for each step its
 // number, its flag, a checksum of the masks after it, and each report, its cell and its digit.
 use board::Board;
-use board::Opening;
 use calls::Stepping;
 use libc::STDIN_FILENO;
 use libc::STDOUT_FILENO;
+use printing::mask_sum;
+use printing::number;
+use printing::refusal;
+use printing::word;
+use stops::Check;
+use stops::Stop;
 use techniques::singles::Reports;
-use text::Parsing;
 
-const PRIME: u64 = 72057594037927931;
-
-fn word(bytes: &[u8]) {
-    io::write_all(STDOUT_FILENO, bytes);
-}
-
-fn number(n: u64) {
-    word(b" ");
-    io::print_decimal(STDOUT_FILENO, n);
-}
-
-fn wide(byte: u8) -> u64 {
+fn widened(byte: u8) -> u64 {
     byte as u64
-}
-
-fn folded(sum: u64, mask: u16) -> u64 {
-    (sum % PRIME * 31 + mask as u64) % PRIME
-}
-
-fn checksum(masks: &[u16; 81]) -> u64 {
-    let mut sum: u64 = 0;
-    for cell in 0..81 {
-        sum = folded(sum, masks[cell]);
-    }
-    sum
 }
 
 fn print_reports(reports: Reports) {
@@ -44,8 +25,8 @@ fn print_reports(reports: Reports) {
     let digits = reports.digits;
     for report in 0..324 {
         if report < reports.count {
-            number(wide(cells[report]));
-            number(wide(digits[report]));
+            number(widened(cells[report]));
+            number(widened(digits[report]));
         }
     }
 }
@@ -59,11 +40,10 @@ fn print_step(step: u8, board: Board) -> Board {
     io::print_decimal(STDOUT_FILENO, step as u64);
     match stepping {
         Stepping::Made(made) => number(made as u64),
-        Stepping::BadClue(_) => word(b" refused"),
-        Stepping::BadMask(_) => word(b" refused"),
-        Stepping::NoStep(_) => word(b" no step"),
+        Stepping::Refused(_) => word(b" refused"),
+        Stepping::NoStep => word(b" no step"),
     }
-    number(checksum(&masks));
+    number(mask_sum(&masks));
     print_reports(done.reports);
     word(b"\n");
     next
@@ -84,10 +64,9 @@ fn print_list(line: &[u8; 94], opened: Board) {
     }
 }
 
-fn refused(stop: u64, place: u64) {
+fn refused(stop: Stop) {
     word(b"refused");
-    number(stop);
-    number(place);
+    refusal(stop);
     word(b"\n");
 }
 
@@ -97,11 +76,11 @@ fn print_opened(line: &[u8; 94], clues: [i32; 81]) {
     let board = opened.board;
     let masks = board.masks;
     match opening {
-        Opening::BadClue(cell) => refused(3, cell as u64),
-        Opening::Opened => {
+        Check::Refused(stop) => refused(stop),
+        Check::Passed => {
             word(b"open");
             number(board::count_clues(&board::clues::givens_of(&clues)) as u64);
-            number(checksum(&masks));
+            number(mask_sum(&masks));
             word(b"\n");
             print_list(line, board);
         }
@@ -115,9 +94,8 @@ fn print_case(line: [u8; 94]) {
     let parsing = parsed.answer;
     let clues = parsed.clues;
     match parsing {
-        Parsing::WrongLength(length) => refused(1, length as u64),
-        Parsing::BadByte(index) => refused(2, index as u64),
-        Parsing::Read => print_opened(&line, clues),
+        Check::Refused(stop) => refused(stop),
+        Check::Passed => print_opened(&line, clues),
     }
 }
 

@@ -8,10 +8,10 @@ use Rattle.steps.specs.Boards.{isOpen}
 use Rattle.steps.specs.Instances.{Instance, pair, cross, exchanged, stepOf, pairs, crosses}
 use Rattle.steps.specs.Loops.{each, for, upTo, above}
 use Rattle.steps.specs.Passes.{Pair, Cross, instances, instanceTaken, pass}
-use Rattle.steps.specs.Steps.{Step, take}
+use Rattle.steps.specs.Steps.{Step, stepTaken}
 use Rattle.steps.proofs.Loops.{each-append}
 use Rattle.steps.proofs.Turns.{each-one, each-in}
-use Rattle.pair_cross.specs.Twos.{firstOf, secondOf, frameStep, linesTaken, frameTaken, crossLines}
+use Rattle.pair_cross.specs.code.Twos.{firstOf, secondOf, frameStep, linesTaken, frameTaken, crossLines}
 use Rattle.pair_cross.specs.declared.twos.Frame.{Frame}
 use Rattle.pair_cross.specs.declared.twos.Frame.the-variants.{Unit, Lines}
 use Rattle.pair_cross.proofs.TwoNumbers.{each-two}
@@ -28,12 +28,12 @@ frame-taken g F h same m =
     (λ i. each-in (instanceTaken g) (above i 9) (λ j. for (upTo 9) λ a. for (above a 9) λ b. h i j a b ∷ []) (linesTaken g F i) (λ j. lines i j)) m
     ∙ each-two (linesTaken g F) m
   where
-    lines : (i j : ℕ) (n : List ℕ) → each (instanceTaken g) (for (upTo 9) λ a. for (above a 9) λ b. h i j a b ∷ []) n ≡ each (λ q. take (isOpen g) (frameStep F i j (firstOf q) (secondOf q))) (upTo 36) n
+    lines : (i j : ℕ) (n : List ℕ) → each (instanceTaken g) (for (upTo 9) λ a. for (above a 9) λ b. h i j a b ∷ []) n ≡ each (λ q. stepTaken (isOpen g) (frameStep F i j (firstOf q) (secondOf q))) (upTo 36) n
     lines i j n =
-        each-in (instanceTaken g) (upTo 9) (λ a. for (above a 9) λ b. h i j a b ∷ []) (λ a. each (λ b. take (isOpen g) (frameStep F i j a b)) (above a 9))
+        each-in (instanceTaken g) (upTo 9) (λ a. for (above a 9) λ b. h i j a b ∷ []) (λ a. each (λ b. stepTaken (isOpen g) (frameStep F i j a b)) (above a 9))
         (λ a s. each-one (instanceTaken g) (above a 9) (h i j a) s
-        ∙ each-same (λ b. instanceTaken g (h i j a b)) (λ b. take (isOpen g) (frameStep F i j a b)) (above a 9) (λ b k o. ap (λ (t : Step). take (isOpen g) t o) (same i j a b)) s) n
-        ∙ each-two (λ a b. take (isOpen g) (frameStep F i j a b)) n
+        ∙ each-same (λ b. instanceTaken g (h i j a b)) (λ b. stepTaken (isOpen g) (frameStep F i j a b)) (above a 9) (λ b k o. ap (λ (t : Step). stepTaken (isOpen g) t o) (same i j a b)) s) n
+        ∙ each-two (λ a b. stepTaken (isOpen g) (frameStep F i j a b)) n
 
 pub pair-pass : (g m : List ℕ) → pass g Pair m ≡ each (λ u. frameTaken g (Unit u)) (upTo 27) m
 unfolding pass instances pairs twice stepOf

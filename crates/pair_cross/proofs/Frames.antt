@@ -13,18 +13,18 @@ use Rattle.candidates.proofs.Tests.{by-test}
 use Rattle.grid.specs.Units.{unit, unitCell, inUnit}
 use Rattle.grid.proofs.Units.{cell-in}
 use Rattle.steps.specs.Boards.{at, isOpen}
-use Rattle.steps.specs.Instances.{only, both, except, pairStep, crossStep}
+use Rattle.steps.specs.Instances.{both, pairStep, crossStep}
 use Rattle.steps.specs.Loops.{all, upTo}
-use Rattle.steps.specs.Steps.{lacks, applies, loseAll, take}
+use Rattle.steps.specs.Steps.{lacks, applies, stepTaken}
 use Rattle.steps.proofs.Loops.{in-upTo}
 use Rattle.steps.proofs.Turns.{each-alike}
-use Rattle.cells.specs.Places.{losePlaces, heldPlaces, allBut}
+use Rattle.cells.specs.code.Places.{losePlaces, heldPlaces, allBut}
 use Rattle.cells.proofs.Places.{all-kept}
 use Rattle.cells.proofs.HeldPlaces.{held-small, held-same, confined}
-use Rattle.cells.proofs.NineBits.{has-both, both-is, both-sub, nine-small, outside-test, outside-both}
+use Rattle.cells.proofs.NineBits.{has-both, nine-small, outside-test, outside-both}
 use Rattle.cells.proofs.UnitPlaces.{two-spared}
 use Rattle.cells.proofs.Crossings.{Crossing, rows, columns}
-use Rattle.pair_cross.specs.Twos.{firstOf, secondOf, FirstLine, Framed, frameStep, lineHeld, twoHeld, twoLose, twoTurn, linesTurned, linesTaken}
+use Rattle.pair_cross.specs.code.Twos.{firstOf, secondOf, FirstLine, Framed, frameStep, lineHeld, twoHeld, twoLose, twoTurn, linesTurned, linesTaken}
 use Rattle.pair_cross.specs.declared.twos.Frame.{Frame}
 use Rattle.pair_cross.specs.declared.twos.Frame.the-variants.{Unit, Lines}
 use Rattle.pair_cross.proofs.TwoNumbers.{first-below, second-below}
@@ -59,22 +59,20 @@ module _ (g : List ℕ) (i j a b : ℕ) (hi : i < 9) (hj : j < 9) (ha : a < 9) (
   module _ (u : ℕ) (h : u < 27) where
     pair-applies : (m : List ℕ) → applies (pairStep u (unitCell u i) (unitCell u j) a b) m ≡ eqb (minus (bitAnd (union (at m (unitCell u i)) (at m (unitCell u j))) 511) (both a b)) 0
     pair-applies m =
-        ap (λ (t : Bool). lacks m (unitCell u i) (except (both a b)) && t) (and-true (lacks m (unitCell u j) (except (both a b))))
-        ∙ ap (λ (t : Bool). t && lacks m (unitCell u j) (except (both a b))) (outside-test (at m (unitCell u i)) (both-sub a b ha hb))
-        ∙ ap (λ (t : Bool). eqb (minus (bitAnd (at m (unitCell u i)) 511) (both a b)) 0 && t) (outside-test (at m (unitCell u j)) (both-sub a b ha hb))
+        ap (λ (t : Bool). lacks m (unitCell u i) (minus 511 (both a b)) && t) (and-true (lacks m (unitCell u j) (minus 511 (both a b))))
+        ∙ ap (λ (t : Bool). t && lacks m (unitCell u j) (minus 511 (both a b))) (outside-test (at m (unitCell u i)) (both a b))
+        ∙ ap (λ (t : Bool). eqb (minus (bitAnd (at m (unitCell u i)) 511) (both a b)) 0 && t) (outside-test (at m (unitCell u j)) (both a b))
         ∙ outside-both (at m (unitCell u i)) (at m (unitCell u j)) (both a b)
 
-    pub pair-lose : (m : List ℕ) → losePlaces (isOpen g) u (allBut i j) (union (single a) (single b)) m ≡ twoLose g (Unit u) i j a b m
+    pub pair-lose : (m : List ℕ) → losePlaces (isOpen g) u (allBut i j) (both a b) m ≡ twoLose g (Unit u) i j a b m
     unfolding twoLose
-    pair-lose m =
-        two-spared u h (isOpen g) i j (union (single a) (single b)) hi hj m
-        ∙ ap (λ (k : ℕ). loseAll (isOpen g) (unit u) (λ e. cond (eqb e (unitCell u i) || eqb e (unitCell u j)) 0 k) m) (both-is a b ha hb)
+    pair-lose m = two-spared u h (isOpen g) i j (both a b) hi hj m
 
   -- ---- rows or columns
 
   module _ (f h d : ℕ) (over : Crossing f h) where
     -- one line, as the condition reads it
-    line-applies : (m : List ℕ) (r : ℕ) → r < 9 → all (λ e. lacks m e (cond (inUnit (h + a) e || inUnit (h + b) e) 0 (only d))) (unit (f + r)) ≡ eqb (minus (bitAnd (heldPlaces m (f + r) d) 511) (both a b)) 0
+    line-applies : (m : List ℕ) (r : ℕ) → r < 9 → all (λ e. lacks m e (cond (inUnit (h + a) e || inUnit (h + b) e) 0 (single d))) (unit (f + r)) ≡ eqb (minus (bitAnd (heldPlaces m (f + r) d) 511) (both a b)) 0
     line-applies m r n =
         confined m (f + r) d (λ e. inUnit (h + a) e || inUnit (h + b) e) (both a b) (over .below r n) says
         ∙ ap (λ (x : ℕ). eqb (minus x (both a b)) 0) (sym (nine-small (heldPlaces m (f + r) d) (held-small m (f + r) d)))
@@ -92,7 +90,7 @@ module _ (g : List ℕ) (i j a b : ℕ) (hi : i < 9) (hj : j < 9) (ha : a < 9) (
         ∙ outside-both (heldPlaces m (f + i) d) (heldPlaces m (f + j) d) (both a b)
       where
         test : ℕ → Bool
-        test e = lacks m e (cond (inUnit (h + a) e || inUnit (h + b) e) 0 (only d))
+        test e = lacks m e (cond (inUnit (h + a) e || inUnit (h + b) e) 0 (single d))
 
 -- ---- a frame
 
@@ -110,8 +108,8 @@ module _ (g : List ℕ) (i j : ℕ) (hi : i < 9) (hj : j < 9) where
   two-applies (Unit u) h m a b ha hb = pair-applies g i j a b hi hj ha hb u h m
   two-applies (Lines f d) h m a b ha hb = cross-applies g i j a b hi hj ha hb f (9 - f) d (crossing f (h .0)) m
 
-  pub two-taken : (F : Frame) → Framed F → (m : List ℕ) (a b : ℕ) → a < 9 → b < 9 → take (isOpen g) (frameStep F i j a b) m ≡ twoTurn g F i j (twoHeld m F i j) a b m
-  unfolding take twoTurn twoLose
+  pub two-taken : (F : Frame) → Framed F → (m : List ℕ) (a b : ℕ) → a < 9 → b < 9 → stepTaken (isOpen g) (frameStep F i j a b) m ≡ twoTurn g F i j (twoHeld m F i j) a b m
+  unfolding stepTaken twoTurn twoLose
   two-taken F h m a b ha hb = ap (λ (t : Bool). cond t (twoLose g F i j a b m) m) (two-applies F h m a b ha hb)
 
   -- a line that is one of the two keeps what it holds
@@ -123,8 +121,8 @@ module _ (g : List ℕ) (i j : ℕ) (hi : i < 9) (hj : j < 9) where
   line-keeps (Lines f d) h r n w m a b =
       held-same (twoLose g (Lines f d) i j a b m) m (f + r) d (crossing f (h .0) .below r n)
       (λ l o. ap (λ (x : ℕ). has x d)
-      (all-kept (isOpen g) (λ e. cond (inUnit (f + i) e || inUnit (f + j) e) 0 (only d)) (unitCell (f + r) l)
-      (ap (λ (t : Bool). cond t 0 (only d)) (one-of (λ k. inUnit (f + k) (unitCell (f + r) l)) i j r
+      (all-kept (isOpen g) (λ e. cond (inUnit (f + i) e || inUnit (f + j) e) 0 (single d)) (unitCell (f + r) l)
+      (ap (λ (t : Bool). cond t 0 (single d)) (one-of (λ k. inUnit (f + k) (unitCell (f + r) l)) i j r
       (λ k e. subst (λ (x : ℕ). inUnit (f + x) (unitCell (f + r) l) ≡ true) e (cell-in (f + r) l (crossing f (h .0) .below r n) o)) w))
       (unit (9 - f + a) ++ unit (9 - f + b)) m))
 
@@ -139,7 +137,7 @@ module _ (g : List ℕ) (i j : ℕ) (hi : i < 9) (hj : j < 9) where
   pub lines-taken : (F : Frame) → Framed F → (m : List ℕ) → linesTaken g F i j m ≡ linesTurned g F i j (twoHeld m F i j) m
   unfolding linesTaken linesTurned
   lines-taken F h m =
-      each-alike (λ q. take (isOpen g) (frameStep F i j (firstOf q) (secondOf q))) (λ q. twoTurn g F i j (twoHeld m F i j) (firstOf q) (secondOf q)) (λ (n : List ℕ). twoHeld n F i j ≡ twoHeld m F i j) (upTo 36)
+      each-alike (λ q. stepTaken (isOpen g) (frameStep F i j (firstOf q) (secondOf q))) (λ q. twoTurn g F i j (twoHeld m F i j) (firstOf q) (secondOf q)) (λ (n : List ℕ). twoHeld n F i j ≡ twoHeld m F i j) (upTo 36)
       (λ q k n e. (
         two-taken F h n (firstOf q) (secondOf q) (first-below q (in-upTo 36 q k)) (second-below q (in-upTo 36 q k)) ∙ ap (λ (x : ℕ). twoTurn g F i j x (firstOf q) (secondOf q) n) e,
         two-keeps F h (twoHeld m F i j) (firstOf q) (secondOf q) n ∙ e,

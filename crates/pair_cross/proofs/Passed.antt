@@ -11,7 +11,7 @@ use lib.Bits.{bitAnd, and-zero-r}
 use lib.Dec.{eqb}
 use lib.ListN.{set}
 use lib.Seq.{getD-set-other}
-use Rattle.candidates.specs.Masks.{bit, has, minus, union, Sub}
+use Rattle.candidates.specs.Masks.{bit, has, minus, union, single, Sub}
 use Rattle.candidates.proofs.Held.{Held, none-held, has-gather, held-sub}
 use Rattle.candidates.proofs.Membership.{bit-and, bit-none, ext}
 use Rattle.candidates.proofs.Order.{sub-refl, sub-trans, apart-sub, sub-of-minus}
@@ -20,20 +20,20 @@ use Rattle.grid.specs.Units.{unit, unitCell, inUnit, Member}
 use Rattle.grid.proofs.Lists.{at-upTo}
 use Rattle.grid.proofs.Units.{cell-below, mem-member}
 use Rattle.steps.specs.Boards.{at, isOpen, Under}
-use Rattle.steps.specs.Instances.{only, both}
+use Rattle.steps.specs.Instances.{both}
 use Rattle.steps.specs.Loops.{upTo}
-use Rattle.steps.specs.Steps.{loseAll, take}
+use Rattle.steps.specs.Steps.{loseAll, stepTaken}
 use Rattle.steps.proofs.Loops.{in-upTo, each-idle}
 use Rattle.steps.proofs.Steps.{all-none}
 use Rattle.steps.proofs.Taking.{takes-under}
-use Rattle.cells.specs.Places.{allMasks, unitMasks, placesOf, heldPlaces, lineSpots}
-use Rattle.cells.specs.Unions.{joined}
+use Rattle.cells.specs.code.Places.{allMasks, unitMasks, spotsIn, heldPlaces, lineSpots}
+use Rattle.cells.specs.code.Unions.{joined}
 use Rattle.cells.proofs.Places.{open-mask, unit-mask, all-mask}
 use Rattle.cells.proofs.Crossings.{Crossing}
 use Rattle.cells.proofs.HeldPlaces.{has-held}
 use Rattle.cells.proofs.NineBits.{has-both, held-meet, not-held, nine-lt}
 use Rattle.cells.proofs.Shared.{union-at}
-use Rattle.pair_cross.specs.Twos.{firstOf, secondOf, Framed, frameStep, lineHeld, twoHeld, heldLines, lineMasks, openLines, othersOf, reachOf, twoLose, twoTurn, linesTurned, linesTaken}
+use Rattle.pair_cross.specs.code.Twos.{firstOf, secondOf, Framed, frameStep, lineHeld, twoHeld, heldLines, lineMasks, openLines, othersOf, reachOf, twoLose, twoTurn, linesTurned, linesTaken}
 use Rattle.pair_cross.specs.declared.twos.Frame.{Frame}
 use Rattle.pair_cross.specs.declared.twos.Frame.the-variants.{Unit, Lines}
 use Rattle.pair_cross.proofs.Frames.{crossing, crossed, one-of, two-taken, lines-taken}
@@ -50,9 +50,9 @@ at-line : (m : List ℕ) (F : Frame) → Framed F → (i : ℕ) → i < 9 → at
 at-line m (Unit u) h i l = all-mask m u i h l
 at-line m (Lines f d) h i l = at-held m f d i l
 
-at-open : (g m : List ℕ) (f d i : ℕ) → i < 9 → at (lineSpots g m f d) i ≡ placesOf (unitMasks g m (f + i)) d
+at-open : (g m : List ℕ) (f d i : ℕ) → i < 9 → at (lineSpots g m f d) i ≡ spotsIn (unitMasks g m (f + i)) d
 unfolding lineSpots
-at-open g m f d i h = at-upTo (λ j. placesOf (unitMasks g m (f + j)) d) 0 9 i h
+at-open g m f d i h = at-upTo (λ j. spotsIn (unitMasks g m (f + j)) d) 0 9 i h
 
 -- a table that has at least what the open cells of each line hold
 abbrev pub Tabled : List ℕ → List ℕ → Frame → List ℕ → Type 0
@@ -68,7 +68,7 @@ open-is g m u l h o f =
     unit-mask g m u l o ∙ open-mask g m (unitCell u l) (cell-below u l h o) ∙ cond-true (isOpen g (unitCell u l)) (at m (unitCell u l)) 0 f
 
 pub open-tabled : (g m : List ℕ) (F : Frame) → Framed F → Tabled g m F (openLines g m F)
-unfolding placesOf
+unfolding spotsIn
 open-tabled g m (Unit u) h = λ l o f. subst (λ (x : ℕ). Sub x (at (unitMasks g m u) l)) (open-is g m u l h o f) (sub-refl (at (unitMasks g m u) l))
 open-tabled g m (Lines f d) h = λ l c o n e t.
     ap (λ (x : ℕ). has x c) (at-open g m f d l o) ∙ has-gather (λ i. has (at (unitMasks g m (f + l)) i) d) 9 c n
@@ -124,9 +124,9 @@ module _ (g m : List ℕ) (i j a b : ℕ) (ha : a < 9) (hb : b < 9) where
           (here (w .place) (w .within) (ap (isOpen g) (w .is) ∙ f))
 
   idle-cross : (f h d : ℕ) (nine : List ℕ) → Crossing f h → Crossing h f → Tabled g m (Lines f d) nine → bitAnd (othersOf nine i j) (both a b) ≡ 0
-      → loseAll (isOpen g) (unit (h + a) ++ unit (h + b)) (λ e. cond (inUnit (f + i) e || inUnit (f + j) e) 0 (only d)) m ≡ m
+      → loseAll (isOpen g) (unit (h + a) ++ unit (h + b)) (λ e. cond (inUnit (f + i) e || inUnit (f + j) e) 0 (single d)) m ≡ m
   idle-cross f h d nine over back tabled none =
-      all-none (isOpen g) (unit (h + a) ++ unit (h + b)) (λ e. cond (inUnit (f + i) e || inUnit (f + j) e) 0 (only d)) m
+      all-none (isOpen g) (unit (h + a) ++ unit (h + b)) (λ e. cond (inUnit (f + i) e || inUnit (f + j) e) 0 (single d)) m
       (λ e k o. ⊎-elim (λ p. cell a ha (inl refl) e (mem-member (back .below a ha) p) o) (λ p. cell b hb (inr refl) e (mem-member (back .below b hb) p) o) (List·Memᴰ·append-cases (unit (h + a)) k))
     where
       -- an other line lacks d at the place, since it holds d at none of the two
@@ -136,16 +136,16 @@ module _ (g m : List ℕ) (i j a b : ℕ) (ha : a < 9) (hb : b < 9) where
           in-both : Held (bitAnd (othersOf nine i j) (both a b)) c
           in-both = held-meet (othersOf nine i j) (both a b) c .1 (held-sub c (other-joined nine i j l o p q) (tabled l c o n free t), has-both a b c ∙ one-of (λ r. eqb c r) a b c (λ r e. eq-eqb c r e) w)
 
-      here : (c : ℕ) → c < 9 → (c ≡ a) ⊎ (c ≡ b) → (l : ℕ) → l < 9 → isOpen g (unitCell (h + c) l) ≡ true → bitAnd (at m (unitCell (h + c) l)) (cond (inUnit (f + i) (unitCell (h + c) l) || inUnit (f + j) (unitCell (h + c) l)) 0 (only d)) ≡ 0
+      here : (c : ℕ) → c < 9 → (c ≡ a) ⊎ (c ≡ b) → (l : ℕ) → l < 9 → isOpen g (unitCell (h + c) l) ≡ true → bitAnd (at m (unitCell (h + c) l)) (cond (inUnit (f + i) (unitCell (h + c) l) || inUnit (f + j) (unitCell (h + c) l)) 0 (single d)) ≡ 0
       here c n w l o free =
-          spare-or (λ r. inUnit (f + r) (unitCell (h + c) l)) (only d) (at m (unitCell (h + c) l)) l
+          spare-or (λ r. inUnit (f + r) (unitCell (h + c) l)) (single d) (at m (unitCell (h + c) l)) l
           (λ r e. subst (λ (x : ℕ). inUnit (f + x) (unitCell (h + c) l) ≡ true) e (back .inside c l l n o o ∙ eq-eqb l l refl))
-          (λ p q. subst (λ (x : ℕ). bitAnd (at m x) (only d) ≡ 0) (sym (over .cell l c o n))
+          (λ p q. subst (λ (x : ℕ). bitAnd (at m x) (single d) ≡ 0) (sym (over .cell l c o n))
           (not-held (at m (unitCell (f + l) c)) d (lacking c n w l o p q (ap (isOpen g) (sym (over .cell l c o n)) ∙ free))))
 
-      cell : (c : ℕ) → c < 9 → (c ≡ a) ⊎ (c ≡ b) → (e : ℕ) → Member (h + c) e → isOpen g e ≡ true → bitAnd (at m e) (cond (inUnit (f + i) e || inUnit (f + j) e) 0 (only d)) ≡ 0
+      cell : (c : ℕ) → c < 9 → (c ≡ a) ⊎ (c ≡ b) → (e : ℕ) → Member (h + c) e → isOpen g e ≡ true → bitAnd (at m e) (cond (inUnit (f + i) e || inUnit (f + j) e) 0 (single d)) ≡ 0
       cell c n w e k free =
-          subst (λ (x : ℕ). bitAnd (at m x) (cond (inUnit (f + i) x || inUnit (f + j) x) 0 (only d)) ≡ 0) (k .is)
+          subst (λ (x : ℕ). bitAnd (at m x) (cond (inUnit (f + i) x || inUnit (f + j) x) 0 (single d)) ≡ 0) (k .is)
           (here c n w (k .place) (k .within) (ap (isOpen g) (k .is) ∙ free))
 
 -- ---- two lines
@@ -173,7 +173,7 @@ module _ (g m : List ℕ) (F : Frame) (framed : Framed F) (i j : ℕ) (hi : i < 
     pub passed-over : linesTaken g F i j m ≡ m
     unfolding linesTaken
     passed-over =
-        each-idle (λ q. take (isOpen g) (frameStep F i j (firstOf q) (secondOf q))) (upTo 36) m
+        each-idle (λ q. stepTaken (isOpen g) (frameStep F i j (firstOf q) (secondOf q))) (upTo 36) m
         (λ q k. two-taken g i j hi hj F framed m (firstOf q) (secondOf q) (first-below q (in-upTo 36 q k)) (second-below q (in-upTo 36 q k))
         ∙ idle-turn (firstOf q) (secondOf q) (rise q (in-upTo 36 q k)) (second-below q (in-upTo 36 q k)))
 

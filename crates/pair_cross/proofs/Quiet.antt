@@ -19,10 +19,10 @@ use Rattle.grid.proofs.Lists.{all-range}
 use Rattle.steps.specs.Boards.{at}
 use Rattle.steps.specs.Loops.{upTo}
 use Rattle.steps.proofs.Loops.{in-upTo, each-idle}
-use Rattle.cells.specs.Unions.{joined, sharedOf}
+use Rattle.cells.specs.code.Unions.{joined, sharedOf}
 use Rattle.cells.proofs.NineBits.{held-meet, nine-lt}
 use Rattle.cells.proofs.Shared.{union-held, twice-shared}
-use Rattle.pair_cross.specs.Twos.{firstOf, secondOf, Framed, lineMasks, othersOf, reachOf, linesTaken, frameTaken, lively, quietOf}
+use Rattle.pair_cross.specs.code.Twos.{firstOf, secondOf, Framed, lineMasks, othersOf, reachOf, linesTaken, frameTaken, lively, quietOf}
 use Rattle.pair_cross.specs.declared.twos.Frame.{Frame}
 use Rattle.pair_cross.proofs.Reach.{reach-more, reach-apart}
 use Rattle.pair_cross.proofs.Passed.{every-tabled, passed-over, two-held}

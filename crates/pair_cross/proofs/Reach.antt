@@ -14,7 +14,7 @@ use Rattle.candidates.proofs.FewDigits.{tail-count, tail-small}
 use Rattle.candidates.proofs.Order.{sub-refl, minus-sub}
 use Rattle.candidates.proofs.Tests.{by-test, cond-true, cond-false}
 use Rattle.cells.proofs.NineBits.{both-sub, count-both}
-use Rattle.pair_cross.specs.Twos.{reachOf}
+use Rattle.pair_cross.specs.code.Twos.{reachOf}
 
 tails-count : (k : ℕ) → k < 2 ^ 16 → 2 ≤ count k → count (tail (tail k)) + 2 ≡ count k
 tails-count k small h =

@@ -7,7 +7,7 @@ use borrow.Author.Tests.{lt-ltb}
 use lib.Dec.{T, eqb, ltb, eqb→eq, ltb→lt}
 use Rattle.candidates.proofs.Tests.{allBelow, below, below-both, implies, implied}
 use Rattle.steps.specs.Loops.{each, upTo, above}
-use Rattle.pair_cross.specs.Twos.{firstOf, secondOf}
+use Rattle.pair_cross.specs.code.Twos.{firstOf, secondOf}
 
 pub second-below : (p : ℕ) → p < 36 → secondOf p < 9
 unfolding secondOf

@@ -13,7 +13,7 @@ use Rattle.candidates.proofs.Order.{sub-refl, sub-of-minus, minus-of-sub}
 use Rattle.candidates.proofs.Tests.{cond-true, cond-false}
 use Rattle.steps.specs.Instances.{both}
 use Rattle.steps.proofs.Turns.{each-only}
-use Rattle.pair_cross.specs.Twos.{firstOf, secondOf, twoLose, twoTurn, linesTurned}
+use Rattle.pair_cross.specs.code.Twos.{firstOf, secondOf, twoLose, twoTurn, linesTurned}
 use Rattle.pair_cross.specs.declared.twos.Frame.{Frame}
 use Rattle.pair_cross.proofs.TwoNumbers.{rise, pairAt, at-pair, paired}
 

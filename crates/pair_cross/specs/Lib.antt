@@ -1,1 +1,1 @@
-pub mod Twos
+pub mod code

@@ -1,7 +1,7 @@
 // Pair and Cross, two of the wide passes (module 8), over lent givens and masks. Nothing is asked of either: each contract holds for any of them.
 ghost use mathlib.Core.Path.{_≡_};
 ghost use Rattle.steps.specs.Passes.{pass, Pair, Cross};
-ghost use Rattle.pair_cross.specs.Twos.{FirstLine, crossLines};
+ghost use Rattle.pair_cross.specs.code.Twos.{FirstLine, crossLines};
 
 mod twos;
 

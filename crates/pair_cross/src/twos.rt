@@ -5,7 +5,7 @@ ghost use Prim.Native.Nat.{_<_};
 ghost use lib.Bits.{bitAnd};
 ghost use lib.Dec.{eqb};
 ghost use Rattle.steps.specs.Boards.{at};
-ghost use Rattle.pair_cross.specs.Twos.{Framed, lineMasks, heldLines, openLines, othersOf, reachOf, twoLose, twoTurn, linesTurned, frameTaken, lively, quietOf};
+ghost use Rattle.pair_cross.specs.code.Twos.{Framed, lineMasks, heldLines, openLines, othersOf, reachOf, twoLose, twoTurn, linesTurned, frameTaken, lively, quietOf};
 use candidates::masks;
 use cells::all_but;
 use cells::all_masks;

@@ -1,9 +1,11 @@
-// A sweep of the five wide passes, and settling (module 9), over lent givens and masks. Nothing is asked of either: each contract holds for any of them.
+// A sweep of the five wide passes, and settling (module 9): over lent givens and masks, of which nothing is asked, and as a call on a board.
 ghost use mathlib.Core.Path.{_≡_};
 ghost use Rattle.steps.specs.Passes.{sweep, settle, removedBy};
-
-pub mod calls;
-
+ghost use Rattle.board.specs.Boards.{boardOf};
+ghost use Rattle.passes.specs.Settlings.{Settles};
+use board::Board;
+use board::check;
+use board::clues::givens_of;
 use cells::changed;
 use cells::total;
 use locked::pointing;
@@ -11,9 +13,11 @@ use lone_place::lone;
 use lone_place::place;
 use pair_cross::cross;
 use pair_cross::pair;
+use stops::Check;
+use stops::Stop;
 
 // The five passes in order.
-pub fn sweep(givens: &[u8; 81], masks: &mut [u16; 81])
+fn sweep(givens: &[u8; 81], masks: &mut [u16; 81])
     ensures { λ _. ⌜ now (masks .exit) ≡ sweep (now (givens .entry)) (now (masks .entry)) ⌝ }
 {
     lone(givens, masks);
@@ -41,16 +45,16 @@ fn sweep_on(givens: &[u8; 81], masks: &mut [u16; 81]) -> usize
     sweeps
 }
 
-// What settling did.
-pub struct Settled {
+// What settling counts.
+pub struct Counts {
     // The last one, which removes nothing, is counted too.
     pub sweeps: usize,
     // How many candidates there are less.
     pub removed: usize,
 }
 
-// Sweeps until nothing more is removed (module 9).
-pub fn settle(givens: &[u8; 81], masks: &mut [u16; 81]) -> Settled
+// Sweeps until nothing more is removed.
+pub fn settle(givens: &[u8; 81], masks: &mut [u16; 81]) -> Counts
     ensures { λ r. ⌜ r .sweeps ≡ settle (now (givens .entry)) (now (masks .entry)) .sweeps ⌝ }
     ensures { λ r. ⌜ r .removed ≡ removedBy (now (masks .entry)) (now (masks .exit)) ⌝ }
     ensures { λ _. ⌜ now (masks .exit) ≡ settle (now (givens .entry)) (now (masks .entry)) .left ⌝ }
@@ -58,8 +62,41 @@ pub fn settle(givens: &[u8; 81], masks: &mut [u16; 81]) -> Settled
     let before = *masks;
     let sweeps = sweep_on(givens, masks);
     let after = *masks;
-    Settled {
+    Counts {
         sweeps,
         removed: total(before) - total(after),
+    }
+}
+
+// What settling answers: its sweeps and the candidates that it removed.
+pub enum Settling {
+    Counted(usize, usize),
+    Refused(Stop),
+}
+
+// The board that settling leaves; as it was beside a refusal.
+pub struct SettledBoard {
+    pub answer: Settling,
+    pub board: Board,
+}
+
+// Sweeps until nothing more is removed. The board is checked once, before the first sweep.
+pub fn apply_settling(board: Board) -> SettledBoard
+    ensures { λ r. ⌜ Settles (boardOf board) r ⌝ }
+{
+    let clues = board.clues;
+    let mut masks = board.masks;
+    match check(&clues, &masks) {
+        Check::Refused(stop) => SettledBoard {
+            answer: Settling::Refused(stop),
+            board: Board { clues, masks },
+        },
+        Check::Passed => {
+            let counts = settle(&givens_of(&clues), &mut masks);
+            SettledBoard {
+                answer: Settling::Counted(counts.sweeps, counts.removed),
+                board: Board { clues, masks },
+            }
+        }
     }
 }

@@ -11,17 +11,17 @@ use lib.Dec.{eqb, eqb→eq, leb, lit<}
 use lib.IntN.{ℤ, pos}
 use lib.ListN.{length, getD, getD-replicate}
 use lib.Seq.{ext-getD}
-use Rattle.candidates.specs.Masks.{has, minus, single, lowest, firstPlace, Sub}
+use Rattle.candidates.specs.Masks.{has, minus, placeMask, lowest, firstPlace, Sub}
 use Rattle.candidates.proofs.FewDigits.{lowest-in}
 use Rattle.candidates.proofs.Held.{Held, held-all, held-below, held-ext, held-minus, held-power, none-held, sub-held}
-use Rattle.candidates.proofs.Membership.{bit-minus, ext, single-power}
+use Rattle.candidates.proofs.Membership.{bit-minus, ext, place-single}
 use Rattle.candidates.proofs.Order.{minus-none, minus-sub, sub-le, sub-none}
 use Rattle.candidates.proofs.Tests.{below, by-test, cond-true, cond-false}
 use Rattle.grid.specs.Cells.{cells}
 use Rattle.grid.proofs.Cells.{cells-size, at-cells, past-cells}
 use Rattle.steps.specs.Boards.{at, digitOf, given, givensOf, givenMask, isOpen, fresh, Givens, Admissible}
 use Rattle.steps.specs.Calls.{badClue}
-use Rattle.steps.specs.Demand3.{Clues}
+use Rattle.steps.specs.Calls.{Clues}
 use Rattle.steps.proofs.Check.{given-clue, good-digit}
 use Rattle.steps.proofs.Fresh.{fresh-out, fresh-small, givenMask-small}
 use Rattle.steps.proofs.FreshDigits.{held-given}
@@ -87,10 +87,10 @@ module _ (g : List ℕ) (ok : Givens g) where
   digits-again = map-ext (λ c. digitIn (at (map (givenMask g) cells) c)) g (ok .size) (λ c h. ap digitIn (at-cells 0 (givenMask g) c h) ∙ one c (isOpen g c) refl)
     where
       one : (c : ℕ) (b : Bool) → isOpen g c ≡ b → digitIn (givenMask g c) ≡ given g c
-      one c true o = ap digitIn (cond-true (isOpen g c) 0 (single (given g c - 1)) o) ∙ sym (eqb-true (given g c) 0 o)
+      one c true o = ap digitIn (cond-true (isOpen g c) 0 (placeMask (given g c - 1)) o) ∙ sym (eqb-true (given g c) 0 o)
       one c false o =
           let n : given g c - 1 < 9 = omega (arith, ok .small c) in
-          ap digitIn (cond-false (isOpen g c) 0 (single (given g c - 1)) o ∙ single-power (given g c - 1) (omega arith))
+          ap digitIn (cond-false (isOpen g c) 0 (placeMask (given g c - 1)) o ∙ place-single (given g c - 1) (omega arith))
           ∙ power-digit (given g c - 1) n ∙ omega (arith, eqb-false (given g c) 0 o)
 
   pub givens-again : givensOf (cluesFrom g) ≡ g
@@ -159,17 +159,17 @@ module _ (free s : List ℕ) (h : Holds section.Clues free s) where
   unfolding clueSets
   clue-sets-again = map-ext (givenMask (digitsIn s)) s (h .size) (λ c l. mask c (given (digitsIn s) c) (digit-at c l) (ℕ-discrete (at s c) 0))
     where
-      mask : (c n : ℕ) → n ≡ digitIn (at s c) → Dec (at s c ≡ 0) → cond (eqb n 0) 0 (single (n - 1)) ≡ at s c
+      mask : (c n : ℕ) → n ≡ digitIn (at s c) → Dec (at s c ≡ 0) → cond (eqb n 0) 0 (placeMask (n - 1)) ≡ at s c
       mask c n e (yes q) =
           let z : n ≡ 0 = e ∙ cond-true (eqb (at s c) 0) 0 (lowest (at s c) + 1) (eq-eqb (at s c) 0 q) in
-          cond-true (eqb n 0) 0 (single (n - 1)) (eq-eqb n 0 z) ∙ sym q
+          cond-true (eqb n 0) 0 (placeMask (n - 1)) (eq-eqb n 0 z) ∙ sym q
       mask c n e (no q) =
           let p = lowest (at s c) in
           let u : Held (at s c) p = own c q in
           let l : p < 9 = held-below (at s c) 9 p (h .small c) u in
           let m : n ≡ p + 1 = e ∙ cond-false (eqb (at s c) 0) 0 (p + 1) (ne-eqb (at s c) 0 q) in
           let o : n - 1 ≡ p = omega arith in
-          cond-false (eqb n 0) 0 (single (n - 1)) (ne-eqb n 0 (λ z. absurd (omega arith))) ∙ ap single o ∙ single-power p (omega arith)
+          cond-false (eqb n 0) 0 (placeMask (n - 1)) (ne-eqb n 0 (λ z. absurd (omega arith))) ∙ ap placeMask o ∙ place-single p (omega arith)
           ∙ held-ext (2 ^ p) (at s c) (λ d. (λ t. subst (λ (x : ℕ). Held (at s c) x) (sym (held-power p d .0 t)) u, λ t. held-power p d .1 (alone c d q t)))
 
 -- ---- removals

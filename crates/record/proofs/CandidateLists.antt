@@ -3,18 +3,18 @@ use mathlib.Core.Path.{_≡_, refl, sym, ap, _∙_, subst}
 use mathlib.Core.Logic.{_⊎_, inl, inr, ⊎-elim}
 use mathlib.Core.Bool.{Bool, true, false, cond, _||_, or-true, or-false}
 use mathlib.Core.List.{List, [], _∷_, _++_, List·Memᴰ}
-use Prim.Native.Nat.{ℕ, zero, suc, _+_, _*_, _/_, _%_, _^_, _≤_, _<_}
+use Prim.Native.Nat.{ℕ, zero, suc, _+_, _*_, _/_, _%_, _≤_, _<_}
 use native.Mathlib.Decide.{ℕ-discrete, decLt}
 use native.Mathlib.Omega.{arith}
 use borrow.Author.Tests.{eq-eqb, ne-eqb, eqb-true}
 use lib.Bits.{or-lt}
-use lib.Dec.{eqb, ltb, lit<}
+use lib.Dec.{eqb}
 use lib.ListN.{length, getD, set, getD-replicate, length-replicate, List·getD-eq-default}
 use lib.Pow.{pow-lt}
 use lib.Seq.{ext-getD, getD-set-same, getD-set-other}
 use Rattle.candidates.specs.Masks.{has, single, union}
-use Rattle.candidates.proofs.Held.{Held, held-below, held-ext, has-none, has-single, has-union}
-use Rattle.candidates.proofs.Tests.{eqb-iff, by-test, cond-true, cond-false, either}
+use Rattle.candidates.proofs.Held.{Held, held-below, held-ext, has-none, has-power, has-union}
+use Rattle.candidates.proofs.Tests.{eqb-iff, cond-true, cond-false, either}
 use Rattle.grid.proofs.Lists.{mem-range, mem-select, select-mem, select-none}
 use Rattle.steps.specs.Boards.{at}
 use Rattle.steps.specs.Loops.{range, select, upTo}
@@ -34,7 +34,7 @@ module _ (s : List ℕ) (e : ℕ) (size : length s ≡ 81) (l : e < 729) where
       same p q = omega arith
 
       digit : k / 9 ≡ e / 9 → has (single (e % 9)) (k % 9) ≡ eqb k e
-      digit p = has-single (e % 9) (k % 9) (omega arith) ∙ eqb-iff (k % 9) (e % 9) k e (same p) (ap (λ (x : ℕ). x % 9))
+      digit p = has-power (e % 9) (k % 9) ∙ eqb-iff (k % 9) (e % 9) k e (same p) (ap (λ (x : ℕ). x % 9))
 
       go : Dec (k / 9 ≡ e / 9) → inSets (with s e) k ≡ (inSets s k || eqb k e)
       go (no n) =
@@ -52,12 +52,9 @@ module _ (s : List ℕ) (e : ℕ) (size : length s ≡ 81) (l : e < 729) where
   pub with-small : ((c : ℕ) → at s c < 512) → (c : ℕ) → at (with s e) c < 512
   with-small small c = go (ℕ-discrete c (e / 9))
     where
-      one : single (e % 9) < 2 ^ 9
-      one = by-test (λ (x : ℕ). x < 2 ^ 9) (ltb (e % 9) 16) (2 ^ (e % 9)) 0 (λ t. pow-lt {j = 9} (omega arith)) (λ t. lit< tt)
-
       go : Dec (c ≡ e / 9) → at (with s e) c < 512
       go (no n) = rw (getD-set-other s (e / 9) c (more s e) 0 n) (small c)
-      go (yes p) = rw (p, getD-set-same s (e / 9) (more s e) 0 (omega arith)) (or-lt 9 (at s (e / 9)) (single (e % 9)) (small (e / 9)) one)
+      go (yes p) = rw (p, getD-set-same s (e / 9) (more s e) 0 (omega arith)) (or-lt 9 (at s (e / 9)) (single (e % 9)) (small (e / 9)) (pow-lt {j = 9} (omega arith)))
 
 -- ---- the list with one candidate more
 

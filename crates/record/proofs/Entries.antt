@@ -2,22 +2,41 @@
 use mathlib.Core.Path.{_≡_, refl, sym, ap, _∙_}
 use mathlib.Core.Bool.{Bool, true, false, cond, _&&_}
 use mathlib.Core.List.{List}
-use Prim.Native.Nat.{ℕ, _+_, _-_, _*_, _≤_, _<_}
+use Prim.Native.Nat.{ℕ, _+_, _-_, _*_, _≤_, _<_, _^_}
 use native.Mathlib.Omega.{arith}
 use borrow.Author.Tests.{le-leb, lt-leb, leb-true}
 use lib.Dec.{leb, lit≤}
-use lib.IntN.{pos}
+use lib.IntN.{ℤ, pos}
 use lib.ListN.{length, getD}
-use Rattle.candidates.specs.Answer.{Answer, gives, stop}
+use mir.Syntax.{w64}
+use mir.Val.{toZ}
+use Rattle.stops.specs.Answer.{Answer, gives, stop, then}
+use Rattle.stops.specs.declared.Stop.{Stop}
+use Rattle.stops.specs.declared.Stop.the-variants.{RecordBytes, RecordEntry}
+use Rattle.stops.proofs.Answers.{gives-same, stop-gives}
+use Rattle.stops.proofs.Numbers.{small}
 use Rattle.candidates.specs.Masks.{has}
-use Rattle.candidates.proofs.Answers.{gives-same, stop-gives}
 use Rattle.candidates.proofs.Tests.{both-left, both-right, cond-true, cond-false}
 use Rattle.steps.specs.Boards.{at}
-use Rattle.cells.specs.Places.{maskAt}
+use Rattle.cells.specs.code.Places.{maskAt}
 use Rattle.cells.proofs.Places.{mask-at}
 use Rattle.record.specs.declared.sections.Section.{Section}
 use Rattle.record.specs.declared.sections.Section.the-variants.{Clues, Removed}
 use Rattle.record.specs.Sections.{width, outside, numberAt, named, wellFormed, entryOf, entryAt}
+
+-- ---- an answer that is given
+
+pub then-gives : {A B : Type 0} (a : Answer A) {f : A → Answer B} {b : B} → then a f ≡ gives b → (x : A) × (a ≡ gives x) × (f x ≡ gives b)
+then-gives (gives x) e = (x, refl, e)
+then-gives (stop s) e = absurd (stop-gives e)
+
+pub tested-gives : {A : Type 0} (t : Bool) (a : Answer A) (s : Stop) {b : A} → cond t a (stop s) ≡ gives b → (t ≡ true) × (a ≡ gives b)
+tested-gives true a s e = (refl, e)
+tested-gives false a s e = absurd (stop-gives e)
+
+-- a place in the record, as the code holds it
+pub placed : {A : Type 0} (case : ℤ → Stop) {n : ℕ} → n < 2 ^ 63 → _≡_ {A = Answer A} (stop (case (toZ w64 n))) (stop (case (pos n)))
+placed case h = ap (λ (z : ℤ). stop (case z)) (small h)
 
 -- ---- well-formed bytes
 
@@ -84,39 +103,27 @@ width-most Removed = lit≤ tt
 -- ---- an entry at an offset
 
 module _ (k : Section) (free bs : List ℕ) (low i : ℕ) where
-  whole : Answer ℕ
-  whole = entryOf k free low i (getD bs i 0) (getD bs (i + 1) 0)
-
-  pub entry-missing : length bs < i + 2 → stop 7 (pos (length bs)) ≡ entryAt k free bs low i
-  unfolding entryAt whole
-  entry-missing h = sym (cond-false (leb (i + 2) (length bs)) whole (stop 7 (pos (length bs))) (lt-leb (i + 2) (length bs) h))
+  pub entry-missing : length bs < i + 2 → stop (RecordBytes (pos (length bs))) ≡ entryAt k free bs low i
+  unfolding entryAt
+  entry-missing h = sym (cond-false (leb (i + 2) (length bs)) _ (stop (RecordBytes (pos (length bs)))) (lt-leb (i + 2) (length bs) h))
 
   module _ (h : i + 2 ≤ length bs) {c d : ℕ} (p : c ≡ getD bs i 0) (q : d ≡ getD bs (i + 1) 0) where
-    pub entry-whole : entryOf k free low i c d ≡ entryAt k free bs low i
-    unfolding entryAt whole
-    entry-whole =
-        ap (λ (x : ℕ). entryOf k free low i x d) p ∙ ap (λ (x : ℕ). entryOf k free low i (getD bs i 0) x) q
-        ∙ sym (cond-true (leb (i + 2) (length bs)) whole (stop 7 (pos (length bs))) (le-leb (i + 2) (length bs) h))
+    entry-whole : entryOf k free low i c d ≡ entryAt k free bs low i
+    unfolding entryAt
+    entry-whole = rw (p, q, le-leb (i + 2) (length bs) h)
 
-    free-entry : Answer ℕ
-    free-entry = cond (has (at free c) (d - 1)) (gives (named c d)) (stop (outside k) (pos i))
-
-    pub entry-bad : wellFormed low c d ≡ false → stop 8 (pos i) ≡ entryAt k free bs low i
-    unfolding free-entry
-    entry-bad t = sym (cond-false (wellFormed low c d) free-entry (stop 8 (pos i)) t) ∙ entry-whole
+    pub entry-bad : wellFormed low c d ≡ false → stop (RecordEntry (pos i)) ≡ entryAt k free bs low i
+    entry-bad t = sym (cond-false (wellFormed low c d) _ (stop (RecordEntry (pos i))) t) ∙ entry-whole
 
     module _ (t : wellFormed low c d ≡ true) where
-      tested : free-entry ≡ entryAt k free bs low i
-      unfolding free-entry
-      tested = sym (cond-true (wellFormed low c d) free-entry (stop 8 (pos i)) t) ∙ entry-whole
+      tested : cond (has (at free c) (d - 1)) (gives (named c d)) (stop (outside k (pos i))) ≡ entryAt k free bs low i
+      tested = sym (cond-true (wellFormed low c d) _ (stop (RecordEntry (pos i))) t) ∙ entry-whole
 
-      pub entry-outside : has (at free c) (d - 1) ≡ false → stop (outside k) (pos i) ≡ entryAt k free bs low i
-      unfolding free-entry
-      entry-outside u = sym (cond-false (has (at free c) (d - 1)) (gives (named c d)) (stop (outside k) (pos i)) u) ∙ tested
+      pub entry-outside : has (at free c) (d - 1) ≡ false → stop (outside k (pos i)) ≡ entryAt k free bs low i
+      entry-outside u = sym (cond-false (has (at free c) (d - 1)) (gives (named c d)) (stop (outside k (pos i))) u) ∙ tested
 
       pub entry-named : has (at free c) (d - 1) ≡ true → gives (named c d) ≡ entryAt k free bs low i
-      unfolding free-entry
-      entry-named u = sym (cond-true (has (at free c) (d - 1)) (gives (named c d)) (stop (outside k) (pos i)) u) ∙ tested
+      entry-named u = sym (cond-true (has (at free c) (d - 1)) (gives (named c d)) (stop (outside k (pos i))) u) ∙ tested
 
   -- an entry that is read
   pub record Named (e : ℕ) : Type 0 where
@@ -127,21 +134,16 @@ module _ (k : Section) (free bs : List ℕ) (low i : ℕ) where
 
   pub named-entry : (e : ℕ) → entryAt k free bs low i ≡ gives e → Named e
   unfolding entryAt
-  named-entry e t = go (leb (i + 2) (length bs)) refl (wellFormed low (getD bs i 0) (getD bs (i + 1) 0)) refl (has (at free (getD bs i 0)) (getD bs (i + 1) 0 - 1)) refl t
-    where
-      go : (x : Bool) → leb (i + 2) (length bs) ≡ x → (y : Bool) → wellFormed low (getD bs i 0) (getD bs (i + 1) 0) ≡ y
-          → (z : Bool) → has (at free (getD bs i 0)) (getD bs (i + 1) 0 - 1) ≡ z
-          → cond x (cond y (cond z (gives (named (getD bs i 0) (getD bs (i + 1) 0))) (stop (outside k) (pos i))) (stop 8 (pos i))) (stop 7 (pos (length bs))) ≡ gives e → Named e
-      go true x true y true z t =
-          record {
-            within = leb-true (i + 2) (length bs) x;
-            bytes = formed low (getD bs i 0) (getD bs (i + 1) 0) y;
-            is = sym (gives-same t);
-            held = z;
-          }
-      go true x true y false z t = absurd (stop-gives t)
-      go true x false y z z′ t = absurd (stop-gives t)
-      go false x y y′ z z′ t = absurd (stop-gives t)
+  named-entry e t =
+      let x = tested-gives (leb (i + 2) (length bs)) _ _ t in
+      let y = tested-gives (wellFormed low (getD bs i 0) (getD bs (i + 1) 0)) _ _ (x .1) in
+      let z = tested-gives (has (at free (getD bs i 0)) (getD bs (i + 1) 0 - 1)) _ _ (y .1) in
+      record {
+        within = leb-true (i + 2) (length bs) (x .0);
+        bytes = formed low (getD bs i 0) (getD bs (i + 1) 0) (y .0);
+        is = sym (gives-same (z .1));
+        held = z .0;
+      }
 
   pub named-small : {e : ℕ} → Named e → e < 729
   named-small n = omega (arith, n .is, n .bytes .cell, n .bytes .some, n .bytes .digit)

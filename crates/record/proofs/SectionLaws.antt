@@ -2,7 +2,7 @@
 -- Assumes nothing.
 use mathlib.Core.Path.{_≡_, refl, sym, ap, _∙_, subst}
 use mathlib.Core.Logic.{⊎-elim}
-use mathlib.Core.Bool.{Bool, true, false, cond, true≢false}
+use mathlib.Core.Bool.{true, true≢false}
 use mathlib.Core.List.{List, [], _∷_, _++_, append-assoc, append-nil}
 use Prim.Native.Nat.{ℕ, zero, suc, _+_, _-_, _*_, _/_, _%_, _≤_, _<_, zero-le}
 use native.Mathlib.Nat.{add-zero, le-refl}
@@ -10,20 +10,19 @@ use native.Mathlib.Numerals.{add-one}
 use native.Mathlib.Omega.{arith}
 use borrow.Author.Tests.{leb-true}
 use lib.Dec.{leb, lit<}
-use lib.IntN.{pos}
 use lib.ListN.{length, getD, drop, length-append, length-drop, length-set, length-replicate}
 use lib.Seq.{append-snoc, drop-at, drop-cons, getD-drop, drop-drop}
-use Rattle.candidates.specs.Answer.{Answer, gives, stop}
+use Rattle.stops.specs.Answer.{Answer, gives, then}
+use Rattle.stops.proofs.Answers.{gives-same}
 use Rattle.candidates.specs.Masks.{has, single, union}
-use Rattle.candidates.proofs.Answers.{gives-same, stop-gives}
 use Rattle.candidates.proofs.Tests.{by-test}
 use Rattle.steps.specs.Boards.{at}
 use Rattle.steps.specs.Loops.{each, range, select}
 use Rattle.record.specs.declared.sections.Section.{Section}
 use Rattle.record.specs.declared.sections.Section.the-variants.{Clues, Removed}
-use Rattle.record.specs.Sections.{width, after, inSets, candidates, entryBytes, lowFirst, sectionBytes, numberAt, named, entryAt, with, Entries, then, readEntries, noSets, readSection}
+use Rattle.record.specs.Sections.{width, after, inSets, candidates, entryBytes, lowFirst, sectionBytes, numberAt, named, entryAt, with, Entries, withSets, readEntries, noSets, readSection}
 use Rattle.record.proofs.CandidateLists.{in-cases, with-small, added-last, at-none, in-none, candidates-none, sets-same}
-use Rattle.record.proofs.Entries.{well, width-some, entry-named, Named, named-entry, named-small}
+use Rattle.record.proofs.Entries.{then-gives, tested-gives, well, width-some, entry-named, Named, named-entry, named-small}
 use Rattle.record.proofs.SectionsRead.{section-read}
 use Rattle.record.proofs.Writing.{candidates-few, number-length, section-length}
 
@@ -123,14 +122,8 @@ module _ (k : Section) (free bs : List ℕ) where
   unfolding readEntries
   read-all start count zero low i s p r t = subst (λ (x : Entries). (l : ℕ) × Reads k free bs start count 0 l (x .next) (x .sets)) (gives-same t) (low, p)
   read-all start count (suc n) low i s p r t =
-      go (entryAt k free bs low i) refl t
-      (λ e m. read-all start count n (after k e) (i + 2) (with s e) (reads-on start count n low i s p e m) r)
-    where
-      go : (a : Answer ℕ) → entryAt k free bs low i ≡ a → then a (λ e. readEntries k free bs n (after k e) (i + 2) (with s e)) ≡ gives r
-          → ((e : ℕ) → Named k free bs low i e → readEntries k free bs n (after k e) (i + 2) (with s e) ≡ gives r → (l : ℕ) × Reads k free bs start count 0 l (r .next) (r .sets))
-          → (l : ℕ) × Reads k free bs start count 0 l (r .next) (r .sets)
-      go (gives e) q t ih = ih e (named-entry k free bs low i e q) t
-      go (stop m z) q t ih = absurd (stop-gives t)
+      let w = then-gives (entryAt k free bs low i) t in
+      read-all start count n (after k (w .0)) (i + 2) (with s (w .0)) (reads-on start count n low i s p (w .0) (named-entry k free bs low i (w .0) (w .1))) r (w .2)
 
 -- the count's bytes
 pub count-bytes : (w : ℕ) (bs : List ℕ) (i : ℕ) → ((j : ℕ) → getD bs j 0 < 256) → i + w ≤ length bs → drop i bs ≡ lowFirst w (numberAt w bs i) ++ drop (i + w) bs
@@ -150,7 +143,15 @@ count-bytes (suc w) bs i h l =
 pub section-of : (k : Section) (free bs : List ℕ) (i : ℕ) (r : Entries) → ((j : ℕ) → getD bs j 0 < 256) → readSection k free bs i ≡ gives r
     → Holds k free (r .sets) × (drop i bs ≡ sectionBytes k (r .sets) ++ drop (r .next) bs)
 unfolding readSection sectionBytes
-section-of k free bs i r h t = go (leb (i + width k) (length bs)) refl t
+section-of k free bs i r h t =
+    let w = read-all k free bs (i + width k) n n 0 (i + width k) noSets begins r (long .1) .1 in
+    let m : length (candidates (r .sets)) ≡ n = omega (arith, w .number) in (
+      w .holds,
+      count-bytes (width k) bs i h (leb-true (i + width k) (length bs) (long .0))
+          ∙ ap (λ (l : List ℕ). lowFirst (width k) n ++ l) (w .bytes)
+          ∙ sym (append-assoc (lowFirst (width k) n) (entryBytes (candidates (r .sets))) (drop (r .next) bs))
+          ∙ ap (λ (x : ℕ). lowFirst (width k) x ++ entryBytes (candidates (r .sets)) ++ drop (r .next) bs) (sym m),
+    )
   where
     n : ℕ
     n = numberAt (width k) bs i
@@ -170,18 +171,8 @@ section-of k free bs i r h t = go (leb (i + width k) (length bs)) refl t
           bytes = sym (ap (λ (ks : List ℕ). entryBytes ks ++ drop (i + width k) bs) candidates-none);
         }
 
-    go : (b : Bool) → leb (i + width k) (length bs) ≡ b → cond b (readEntries k free bs n 0 (i + width k) noSets) (stop 7 (pos (length bs))) ≡ gives r
-        → Holds k free (r .sets) × (drop i bs ≡ lowFirst (width k) (length (candidates (r .sets))) ++ entryBytes (candidates (r .sets)) ++ drop (r .next) bs)
-    go true l t =
-        let w = read-all k free bs (i + width k) n n 0 (i + width k) noSets begins r t .1 in
-        let m : length (candidates (r .sets)) ≡ n = omega (arith, w .number) in (
-          w .holds,
-          count-bytes (width k) bs i h (leb-true (i + width k) (length bs) l)
-              ∙ ap (λ (l : List ℕ). lowFirst (width k) n ++ l) (w .bytes)
-              ∙ sym (append-assoc (lowFirst (width k) n) (entryBytes (candidates (r .sets))) (drop (r .next) bs))
-              ∙ ap (λ (x : ℕ). lowFirst (width k) x ++ entryBytes (candidates (r .sets)) ++ drop (r .next) bs) (sym m),
-        )
-    go false l t = absurd (stop-gives t)
+    long : (leb (i + width k) (length bs) ≡ true) × (readEntries k free bs n 0 (i + width k) noSets ≡ gives r)
+    long = tested-gives (leb (i + width k) (length bs)) _ _ t
 
 -- ---- a section that is written
 
@@ -231,15 +222,15 @@ made-again k free s h =
     sets-same (adding (candidates s) noSets) s (g .size) (h .size) (g .small) (h .small) (g .list ∙ ap (λ (l : List ℕ). l ++ candidates s) candidates-none)
 
 read-rises : (k : Section) (free bs : List ℕ) {low : ℕ} {es : List ℕ} → Rises k free low es → (i : ℕ) (s t : List ℕ) → drop i bs ≡ entryBytes es ++ t
-    → readEntries k free bs (length es) low i s ≡ gives (record { sets = adding es s; next = i + 2 * length es })
+    → readEntries k free bs (length es) low i s ≡ gives (withSets (adding es s) (i + 2 * length es))
 unfolding readEntries each
 read-rises k free bs none i s t q =
     let n : i ≡ i + 2 * 0 = omega arith in
-    ap (λ (j : ℕ). gives (record { sets = s; next = j })) n
+    ap (λ (j : ℕ). gives (withSets s j)) n
 read-rises k free bs (next {low} {e} {es} l m f p) i s t q =
     let n : i + 2 + 2 * length es ≡ i + 2 * suc (length es) = omega arith in
     ap (λ (a : Answer ℕ). then a (λ e. readEntries k free bs (length es) (after k e) (i + 2) (with s e))) entry
-    ∙ read-rises k free bs p (i + 2) (with s e) t (sym (drop-drop 2 i bs) ∙ ap (drop 2) q) ∙ ap (λ (j : ℕ). gives (record { sets = adding es (with s e); next = j })) n
+    ∙ read-rises k free bs p (i + 2) (with s e) t (sym (drop-drop 2 i bs) ∙ ap (drop 2) q) ∙ ap (λ (j : ℕ). gives (withSets (adding es (with s e)) j)) n
   where
     long : i + 2 ≤ length bs
     long = omega (arith, length-drop i bs, ap length q)
@@ -283,11 +274,11 @@ split k s t = append-assoc (lowFirst (width k) (length (candidates s))) (entryBy
 
 -- a section that was written is read again
 pub section-back : (k : Section) (free s bs : List ℕ) (i : ℕ) (t : List ℕ) → Holds k free s → drop i bs ≡ sectionBytes k s ++ t
-    → readSection k free bs i ≡ gives (record { sets = s; next = i + length (sectionBytes k s) })
+    → readSection k free bs i ≡ gives (withSets s (i + length (sectionBytes k s)))
 section-back k free s bs i t h q =
     sym (section-read k free bs i long) ∙ ap (λ (n : ℕ). readEntries k free bs n 0 (i + width k) noSets) number
-    ∙ read-rises k free bs (rises k free s h) (i + width k) noSets t rest ∙ ap (λ (x : List ℕ). gives (record { sets = x; next = i + width k + 2 * length (candidates s) })) (made-again k free s h)
-    ∙ ap (λ (j : ℕ). gives (record { sets = s; next = j })) end
+    ∙ read-rises k free bs (rises k free s h) (i + width k) noSets t rest ∙ ap (λ (x : List ℕ). gives (withSets x (i + width k + 2 * length (candidates s)))) (made-again k free s h)
+    ∙ ap (λ (j : ℕ). gives (withSets s j)) end
   where
     parts : drop i bs ≡ lowFirst (width k) (length (candidates s)) ++ (entryBytes (candidates s) ++ t)
     parts = q ∙ split k s t

@@ -2,8 +2,6 @@
 use mathlib.Core.Path.{_≡_, refl, sym, ap, _∙_}
 use mathlib.Core.Bool.{Bool, true, false}
 use mathlib.Core.List.{List, [], _∷_, _++_}
-use mathlib.Core.Logic.{inl, inr}
-use mathlib.Core.Option.{Option}
 use Prim.Native.Nat.{ℕ, zero, suc, _+_, _-_, _*_, _/_, _%_, _≤_, _<_}
 use native.Mathlib.Nat.{le-refl}
 use native.Mathlib.Numerals.{add-one}
@@ -13,22 +11,16 @@ use lib.Dec.{leb}
 use lib.IntN.{pos}
 use lib.ListN.{length, set, length-append}
 use lib.Seq.{sets}
-use denote.Enum.Declared.{tagOf}
-use types.Run.{OneOf}
-use Rattle.candidates.specs.Answer.{Answer, gives, stop}
+use Rattle.stops.specs.Answer.{Answer, gives, stop, then}
+use Rattle.stops.specs.declared.Stop.the-variants.{TooFewBytes}
 use Rattle.candidates.proofs.Tests.{by-test, cond-true, cond-false}
 use Rattle.grid.proofs.Lists.{range-on, range-end}
 use Rattle.steps.specs.Boards.{Board, givensOf, fresh}
-use Rattle.steps.specs.Calls.{refusal}
+use Rattle.steps.specs.Calls.{checkOf}
 use Rattle.steps.specs.Loops.{range, select}
-use Rattle.board.specs.Answers.{refusalOf}
-use Rattle.board.specs.Boards.{thenAnswer}
-use Rattle.board.specs.declared.Checked.{Checked}
-use Rattle.board.specs.declared.Checked.the-variants as checked
-use Rattle.board.proofs.Checked as checked-type
 use Rattle.record.specs.declared.sections.Section.{Section}
 use Rattle.record.specs.declared.sections.Section.the-variants.{Clues, Removed}
-use Rattle.record.specs.Records.{clueSets, lacking, recordOf, writeIn, writeOf, written}
+use Rattle.record.specs.Records.{clueSets, lacking, recordOf, writeIn, writeOf}
 use Rattle.record.specs.Sections.{width, inSets, candidates, entryBytes, lowFirst, sectionBytes, stored, leading}
 use Rattle.record.proofs.Stores.{stored-append, stored-apart, leading-stored}
 
@@ -149,20 +141,13 @@ module _ (b : Board) where
       ap (λ (m : ℕ). leading m bs) p ∙ ap (leading (length (recordOf b))) q ∙ leading-stored l (recordOf b) (omega (arith, record-few))
 
   -- the check's stop comes first
-  pub write-checked : (n : ℕ) {r : Option (ℕ × ℕ)} → r ≡ refusal b → thenAnswer r (writeIn (length (recordOf b)) n) ≡ writeOf b n
+  pub write-checked : (n : ℕ) {k : Answer (Unit {0})} → k ≡ checkOf b → then k (λ _. writeIn (length (recordOf b)) n) ≡ writeOf b n
   unfolding writeOf
-  write-checked n e = ap (λ (r : Option (ℕ × ℕ)). thenAnswer r (writeIn (length (recordOf b)) n)) e
-
--- a board that the check refused: what it would be written as has no part in the refusal, which leaves the lent bytes
-pub unwritten-same : (p : Checked) → OneOf (1 ∷ 2 ∷ []) (tagOf checked-type.the-type p) → (x y : Answer ℕ) (r lent : List ℕ) → (thenAnswer (refusalOf p) x ≡ thenAnswer (refusalOf p) y) × (lent ≡ written (thenAnswer (refusalOf p) y) r lent)
-unwritten-same checked.Good (inl e) = absurd (omega arith)
-unwritten-same checked.Good (inr e) = absurd (omega arith)
-unwritten-same (checked.BadClue c) h = λ x y r lent. (refl, refl)
-unwritten-same (checked.BadMask c) h = λ x y r lent. (refl, refl)
+  write-checked n e = ap (λ (k : Answer (Unit {0})). then k (λ _. writeIn (length (recordOf b)) n)) e
 
 module _ (n lent : ℕ) where
-  pub write-short : lent < n → stop 6 (pos lent) ≡ writeIn n lent
-  write-short h = sym (cond-false (leb n lent) (gives n) (stop 6 (pos lent)) (lt-leb n lent h))
+  pub write-short : lent < n → stop (TooFewBytes (pos lent)) ≡ writeIn n lent
+  write-short h = sym (cond-false (leb n lent) (gives n) (stop (TooFewBytes (pos lent))) (lt-leb n lent h))
 
   pub write-whole : n ≤ lent → gives n ≡ writeIn n lent
-  write-whole h = sym (cond-true (leb n lent) (gives n) (stop 6 (pos lent)) (le-leb n lent h))
+  write-whole h = sym (cond-true (leb n lent) (gives n) (stop (TooFewBytes (pos lent))) (le-leb n lent h))

@@ -4,7 +4,7 @@ use mathlib.Core.Logic.{_↔_}
 use mathlib.Core.List.{List}
 use Prim.Native.Nat.{ℕ, _<_}
 use lib.ListN.{getD}
-use Rattle.candidates.specs.Answer.{gives}
+use Rattle.stops.specs.Answer.{gives}
 use Rattle.steps.specs.Boards.{Board}
 use Rattle.steps.specs.Calls.{Admitted}
 use Rattle.record.specs.Records.{recordOf, readOf}

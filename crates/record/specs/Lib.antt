@@ -1,4 +1,3 @@
 pub mod Sections
 pub mod Records
-pub mod Answers
 pub mod Laws

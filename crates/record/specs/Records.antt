@@ -5,14 +5,14 @@ use Prim.Native.Nat.{ℕ, _+_}
 use lib.Dec.{eqb, leb}
 use lib.IntN.{ℤ, pos}
 use lib.ListN.{length, drop, replicate}
-use Rattle.candidates.specs.Answer.{Answer, gives, stop}
+use Rattle.stops.specs.Answer.{Answer, gives, stop, then}
+use Rattle.stops.specs.declared.Stop.the-variants.{TooFewBytes, RecordBytes}
 use Rattle.candidates.specs.Masks.{minus, lowest}
 use Rattle.grid.specs.Cells.{cells}
 use Rattle.steps.specs.Boards.{Board, at, given, givensOf, isOpen, givenMask, fresh}
-use Rattle.steps.specs.Calls.{refusal}
-use Rattle.board.specs.Boards.{thenAnswer}
+use Rattle.steps.specs.Calls.{checkOf}
 use Rattle.record.specs.declared.sections.Section.the-variants.{Clues, Removed}
-use Rattle.record.specs.Sections.{then, sectionBytes, readSection}
+use Rattle.record.specs.Sections.{sectionBytes, readSection}
 
 -- ---- boards as sets
 
@@ -32,17 +32,18 @@ recordOf b =
     let g = givensOf (b .clues) in
     sectionBytes Clues (clueSets g) ++ sectionBytes Removed (lacking (fresh g) (b .masks))
 
--- "the record writer after its board's 3 and 9": 6, "lent bytes too few", with their length; else the record's length
+-- "lent bytes too few", with their length; else the record's length
 abbrev pub writeIn : ℕ → ℕ → Answer ℕ
-writeIn n lent = cond (leb n lent) (gives n) (stop 6 (pos lent))
+writeIn n lent = cond (leb n lent) (gives n) (stop (TooFewBytes (pos lent)))
 
+-- "the record writer after its board's 3 and 9"
 unfoldable pub writeOf : Board → ℕ → Answer ℕ
-writeOf b lent = thenAnswer (refusal b) (writeIn (length (recordOf b)) lent)
+writeOf b lent = then (checkOf b) λ _. writeIn (length (recordOf b)) lent
 
 -- the record in the first lent bytes, "later bytes keep"; a refusal leaves all of them
 abbrev pub written : Answer ℕ → List ℕ → List ℕ → List ℕ
 written (gives n) r lent = r ++ drop n lent
-written (stop n z) r lent = lent
+written (stop s) r lent = lent
 
 -- ---- the reader
 
@@ -68,11 +69,11 @@ cluesFrom g = map (λ c. pos (given g c)) cells
 unfoldable pub boardFrom : List ℕ → List ℕ → Board
 boardFrom g s = record { clues = cluesFrom g; masks = lacking (fresh g) s }
 
--- the removed section, and nothing after it: "7: .. left over after all sections", with the offset of the first such byte
+-- the removed section, and nothing after it: "left over after all sections", with the "offset of the first such byte"
 unfoldable pub readRemoved : List ℕ → List ℕ → ℕ → Answer Board
 readRemoved g bs i =
     then (readSection Removed (openSets g (fresh g)) bs i) λ r.
-    cond (eqb (r .next) (length bs)) (gives (boardFrom g (r .sets))) (stop 7 (pos (r .next)))
+    cond (leb (length bs) (r .next)) (gives (boardFrom g (r .sets))) (stop (RecordBytes (pos (r .next))))
 
 -- "The record is checked front to back."
 unfoldable pub readOf : List ℕ → Answer Board

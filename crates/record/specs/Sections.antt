@@ -4,13 +4,17 @@ use mathlib.Core.Bool.{Bool, cond, _&&_}
 use mathlib.Core.List.{List, [], _∷_, _++_, map}
 use Prim.Native.Nat.{ℕ, zero, suc, _+_, _-_, _*_, _/_, _%_}
 use lib.Dec.{leb}
-use lib.IntN.{pos}
+use lib.IntN.{ℤ, pos}
 use lib.ListN.{length, getD, set, replicate}
 use lib.Seq.{sets}
-use Rattle.candidates.specs.Answer.{Answer, gives, stop}
+use Rattle.stops.specs.Answer.{Answer, gives, stop, then}
+use Rattle.stops.specs.declared.Stop.{Stop}
+use Rattle.stops.specs.declared.Stop.the-variants.{RecordBytes, RecordEntry, NotFresh}
 use Rattle.candidates.specs.Masks.{has, single, union}
 use Rattle.steps.specs.Boards.{at}
 use Rattle.steps.specs.Loops.{select, upTo}
+use Rattle.record.specs.declared.sections.Reading.{Reading}
+use Rattle.record.specs.declared.sections.Reading.the-variants as reading
 use Rattle.record.specs.declared.sections.Section.{Section}
 use Rattle.record.specs.declared.sections.Section.the-variants.{Clues, Removed}
 
@@ -26,10 +30,10 @@ abbrev pub after : Section → ℕ → ℕ
 after Clues k = 9 * (k / 9 + 1)
 after Removed k = k + 1
 
--- the stop of an entry whose candidate the section may not have: "removal of a candidate not fresh, or from a clue cell" is 9
-abbrev pub outside : Section → ℕ
-outside Clues = 8
-outside Removed = 9
+-- the stop of an entry whose candidate the section may not have, among removals "a candidate not fresh, or from a clue cell"
+abbrev pub outside : Section → ℤ → Stop
+outside Clues = RecordEntry
+outside Removed = NotFresh
 
 -- ---- writing
 
@@ -63,6 +67,11 @@ leading n bs = map (λ i. getD bs i 0) (upTo n)
 
 -- ---- reading
 
+-- a candidate, or the offset after a section
+abbrev pub readingAnswer : Reading → Answer ℕ
+readingAnswer (reading.At n) = gives n
+readingAnswer (reading.Refused s) = stop s
+
 -- the number that stands in the w bytes from an offset on
 abbrev pub numberAt : ℕ → List ℕ → ℕ → ℕ
 numberAt zero bs i = 0
@@ -72,19 +81,19 @@ numberAt (suc w) bs i = getD bs i 0 + 256 * numberAt w bs (i + 1)
 abbrev pub named : ℕ → ℕ → ℕ
 named c d = 9 * c + (d - 1)
 
--- none of stop 8, "cell above 80, digit outside 1 to 9, not rising"
+-- none of "cell above 80, digit outside 1 to 9, not rising"
 abbrev pub wellFormed : ℕ → ℕ → ℕ → Bool
 wellFormed low c d = leb c 80 && leb 1 d && leb d 9 && leb low (named c d)
 
--- what an entry with these bytes gives at offset i: 8, then the section's own stop; `free` are the sets that it may have
+-- what a "whole entry" with these bytes gives at offset i: a bad one is a stop, "then" one that the section may not have; `free` are the sets that it may have
 abbrev pub entryOf : Section → List ℕ → ℕ → ℕ → ℕ → ℕ → Answer ℕ
 entryOf k free low i c d =
-    cond (wellFormed low c d) (cond (has (at free c) (d - 1)) (gives (named c d)) (stop (outside k) (pos i))) (stop 8 (pos i))
+    cond (wellFormed low c d) (cond (has (at free c) (d - 1)) (gives (named c d)) (stop (outside k (pos i)))) (stop (RecordEntry (pos i)))
 
--- "7: bytes missing", with the record's length; a half entry is missing bytes
+-- "bytes missing", with "the record's length"; a half entry is missing bytes
 unfoldable pub entryAt : Section → List ℕ → List ℕ → ℕ → ℕ → Answer ℕ
 entryAt k free bs low i =
-    cond (leb (i + 2) (length bs)) (entryOf k free low i (getD bs i 0) (getD bs (i + 1) 0)) (stop 7 (pos (length bs)))
+    cond (leb (i + 2) (length bs)) (entryOf k free low i (getD bs i 0) (getD bs (i + 1) 0)) (stop (RecordBytes (pos (length bs))))
 
 -- the sets with one candidate more
 abbrev pub with : List ℕ → ℕ → List ℕ
@@ -95,14 +104,12 @@ pub record Entries : Type 0 where
   pub sets : List ℕ
   pub next : ℕ
 
--- the first stop ends the reading
-abbrev pub then : {A B : Type 0} → Answer A → (A → Answer B) → Answer B
-then (gives a) f = f a
-then (stop n z) f = stop n z
+abbrev pub withSets : List ℕ → ℕ → Entries
+withSets s i = record { sets = s; next = i }
 
 -- n more entries
 unfoldable pub readEntries : Section → List ℕ → List ℕ → ℕ → ℕ → ℕ → List ℕ → Answer Entries
-readEntries k free bs zero low i s = gives (record { sets = s; next = i })
+readEntries k free bs zero low i s = gives (withSets s i)
 readEntries k free bs (suc n) low i s = then (entryAt k free bs low i) λ e. readEntries k free bs n (after k e) (i + 2) (with s e)
 
 -- 81 empty sets
@@ -111,4 +118,4 @@ noSets = replicate 81 0
 
 unfoldable pub readSection : Section → List ℕ → List ℕ → ℕ → Answer Entries
 readSection k free bs i =
-    cond (leb (i + width k) (length bs)) (readEntries k free bs (numberAt (width k) bs i) 0 (i + width k) noSets) (stop 7 (pos (length bs)))
+    cond (leb (i + width k) (length bs)) (readEntries k free bs (numberAt (width k) bs i) 0 (i + width k) noSets) (stop (RecordBytes (pos (length bs))))

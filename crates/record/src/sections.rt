@@ -2,26 +2,23 @@
 // digits for each cell; a candidate is numbered 9 times its cell + the place of its digit.
 ghost use mathlib.Core.Path.{_≡_};
 ghost use Prim.Native.Nat.{_+_, _*_, _≤_, _<_};
-ghost use lib.IntN.{pos};
 ghost use lib.ListN.{getD, length};
-ghost use Rattle.candidates.specs.Answer.{stop};
-ghost use Rattle.record.specs.Answers.{readingAnswer, withSets};
-ghost use Rattle.record.specs.Sections.{width, after, outside, candidates, entryBytes, lowFirst, sectionBytes, numberAt, wellFormed, entryAt, with, readEntries, readSection, noSets, stored};
+ghost use Rattle.stops.specs.Answer.{map};
+ghost use Rattle.record.specs.Sections.{width, after, outside, candidates, entryBytes, lowFirst, sectionBytes, numberAt, wellFormed, entryAt, with, withSets, readEntries, readSection, readingAnswer, noSets, stored};
 use candidates::masks;
 use cells::mask_at;
+use stops::Stop;
+use text::byte_at;
 
 pub enum Section {
     Clues,
     Removed,
 }
 
-// What reading finds: a candidate or the offset after a section; or the record's length where bytes are missing, or the offset of an entry
-// that is none, or that removes what it may not.
+// What reading finds: a candidate, or the offset after a section.
 pub enum Reading {
     At(usize),
-    Missing(usize),
-    BadEntry(usize),
-    NotFresh(usize),
+    Refused(Stop),
 }
 
 // The bytes of the section's count.
@@ -82,14 +79,11 @@ pub fn put_section(
     end
 }
 
-// The byte at an offset; 0 past the record.
-fn byte_at(bytes: &[u8], at: usize) -> usize
+// The byte at an offset as a number; 0 past the record.
+fn value_at(bytes: &[u8], at: usize) -> usize
     ensures { λ r. ⌜ r ≡ getD (now (bytes .entry)) at 0 ⌝ }
 {
-    if at < bytes.len() {
-        return bytes[at] as usize;
-    }
-    0
+    byte_at(bytes, at) as usize
 }
 
 // The count that stands at an offset; 0 in place of bytes past the record.
@@ -97,10 +91,10 @@ fn count_at(section: Section, bytes: &[u8], at: usize) -> usize
     requires { ⌜ at < length (now bytes) ⌝ }
     ensures { λ r. ⌜ r ≡ numberAt (width section) (now (bytes .entry)) at ⌝ }
 {
-    let low = byte_at(bytes, at);
+    let low = value_at(bytes, at);
     match section {
         Section::Clues => low,
-        Section::Removed => low + 256 * byte_at(bytes, at + 1),
+        Section::Removed => low + 256 * value_at(bytes, at + 1),
     }
 }
 
@@ -121,12 +115,12 @@ fn well_formed(low: usize, cell: usize, digit: usize) -> bool
 }
 
 // The stop of an entry at `at` whose candidate the section may not have.
-fn outside_stop(section: Section, at: usize) -> Reading
-    ensures { λ r. ⌜ readingAnswer r ≡ stop (outside section) (pos at) ⌝ }
+fn outside_stop(section: Section, at: i64) -> Stop
+    ensures { λ r. ⌜ r ≡ outside section at ⌝ }
 {
     match section {
-        Section::Clues => Reading::BadEntry(at),
-        Section::Removed => Reading::NotFresh(at),
+        Section::Clues => Stop::RecordEntry(at),
+        Section::Removed => Stop::NotFresh(at),
     }
 }
 
@@ -135,18 +129,18 @@ fn entry_at(section: Section, free: &[u16; 81], bytes: &[u8], low: usize, at: us
     ensures { λ r. ⌜ readingAnswer r ≡ entryAt section (now (free .entry)) (now (bytes .entry)) low at ⌝ }
 {
     if bytes.len() < 2 {
-        return Reading::Missing(bytes.len());
+        return Reading::Refused(Stop::RecordBytes(bytes.len() as i64));
     }
     if bytes.len() - 2 < at {
-        return Reading::Missing(bytes.len());
+        return Reading::Refused(Stop::RecordBytes(bytes.len() as i64));
     }
-    let cell = byte_at(bytes, at);
-    let digit = byte_at(bytes, at + 1);
+    let cell = value_at(bytes, at);
+    let digit = value_at(bytes, at + 1);
     if !well_formed(low, cell, digit) {
-        return Reading::BadEntry(at);
+        return Reading::Refused(Stop::RecordEntry(at as i64));
     }
     if !masks::has_digit(mask_at(free, cell), digit - 1) {
-        return outside_stop(section, at);
+        return Reading::Refused(outside_stop(section, at as i64));
     }
     Reading::At(9 * cell + (digit - 1))
 }
@@ -179,7 +173,7 @@ fn read_entries(
     start: usize,
     sets: &mut [u16; 81],
 ) -> Reading
-    ensures { λ r. ⌜ withSets (readingAnswer r) (now (sets .exit)) ≡ readEntries section (now (free .entry)) (now (bytes .entry)) count 0 start (now (sets .entry)) ⌝ }
+    ensures { λ r. ⌜ map (withSets (now (sets .exit))) (readingAnswer r) ≡ readEntries section (now (free .entry)) (now (bytes .entry)) count 0 start (now (sets .entry)) ⌝ }
 {
     let mut left = count;
     let mut low: usize = 0;
@@ -206,14 +200,14 @@ pub fn read_section(
     sets: &mut [u16; 81],
 ) -> Reading
     requires { ⌜ now sets ≡ noSets ⌝ }
-    ensures { λ r. ⌜ withSets (readingAnswer r) (now (sets .exit)) ≡ readSection section (now (free .entry)) (now (bytes .entry)) start ⌝ }
+    ensures { λ r. ⌜ map (withSets (now (sets .exit))) (readingAnswer r) ≡ readSection section (now (free .entry)) (now (bytes .entry)) start ⌝ }
 {
     let width = count_width(section);
     if bytes.len() < width {
-        return Reading::Missing(bytes.len());
+        return Reading::Refused(Stop::RecordBytes(bytes.len() as i64));
     }
     if bytes.len() - width < start {
-        return Reading::Missing(bytes.len());
+        return Reading::Refused(Stop::RecordBytes(bytes.len() as i64));
     }
     let count = count_at(section, bytes, start);
     read_entries(section, free, bytes, count, start + width, sets)

@@ -3,17 +3,17 @@ ghost use mathlib.Core.Path.{_≡_};
 ghost use Prim.Native.Nat.{_≤_};
 ghost use lib.ListN.{length};
 ghost use Rattle.card.specs.Cards.{cardOf, printed};
-ghost use Rattle.card.specs.Lines.{over};
-use card::Carding;
+ghost use Rattle.card.specs.Layout.{over};
 use libc::STDIN_FILENO;
 use libc::STDOUT_FILENO;
+use stops::Writing;
 
 // What is printed of the bytes that were read, in the first lent bytes, and how many there are.
 fn print(input: &[u8], out: &mut [u8; 256]) -> usize
     ensures { λ r. ⌜ (r ≡ length (printed (cardOf (now (input .entry))))) × (now (out .exit) ≡ over (printed (cardOf (now (input .entry)))) (now (out .entry))) × (r ≤ 256) ⌝ }
 {
     let answer = card::write_card(input, out);
-    let Carding::Written(count) = answer else {
+    let Writing::Written(count) = answer else {
         return card::write_refusal(answer, out);
     };
     count

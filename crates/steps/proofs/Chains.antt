@@ -3,9 +3,9 @@ use mathlib.Core.Path.{_∙_}
 use mathlib.Core.List.{List}
 use mathlib.Core.Option.{Option, none, some}
 use Prim.Native.Nat.{ℕ}
+use Rattle.candidates.specs.Masks.{single}
 use Rattle.steps.specs.Boards.{isOpen, Admissible}
 use Rattle.steps.specs.Chains.{chainEnd, loseFound, chainDigit, chains}
-use Rattle.steps.specs.Instances.{only}
 use Rattle.steps.specs.Loops.{upTo}
 use Rattle.steps.specs.Steps.{loseAt}
 use Rattle.steps.proofs.Loops.{each-keeps}
@@ -22,7 +22,7 @@ lose-admissible g e k m a =
 
 found-admissible : (g : List ℕ) (d : ℕ) (m : List ℕ) (o : Option ℕ) → Admissible g m → Admissible g (loseFound g d m o)
 found-admissible g d m none a = a
-found-admissible g d m (some e) a = lose-admissible g e (only d) m a
+found-admissible g d m (some e) a = lose-admissible g e (single d) m a
 
 pub chains-admissible : (g m : List ℕ) → Admissible g m → Admissible g (chains g m)
 unfolding chains chainDigit

@@ -3,7 +3,7 @@ use mathlib.Core.Path.{_≡_, refl, sym, ap, _∙_, subst}
 use mathlib.Core.Logic.{⊎-elim}
 use mathlib.Core.Bool.{Bool, true, false, not, _&&_, _||_, true≢false}
 use mathlib.Core.List.{List}
-use mathlib.Core.Option.{Option, none, some, Option·some-ne-none}
+use mathlib.Core.Option.{Option, none, some}
 use Prim.Native.Nat.{ℕ, _≤_, _<_, zero-le}
 use native.Mathlib.Decide.{decLt}
 use native.Mathlib.Omega.{arith}
@@ -11,14 +11,18 @@ use borrow.Author.Tests.{eqb-true, eq-eqb, leb-true, not-true, not-false}
 use lib.Dec.{T, eqb, leb}
 use lib.IntN.{ℤ, pos, negsuc}
 use lib.ListN.{length, getD, List·getD-eq-default}
+use Rattle.stops.specs.Answer.{gives, stopAt, then}
+use Rattle.stops.specs.declared.Stop.{Stop}
+use Rattle.stops.specs.declared.Stop.the-variants.{BadClue, BadMask}
+use Rattle.stops.proofs.Answers.{stop-gives}
 use Rattle.candidates.specs.Masks.{Sub, minus}
 use Rattle.candidates.proofs.Tests.{allBelow, below, by-test, cond-true, T-true, both-left, both-right, either}
 use Rattle.candidates.proofs.Order.{sub-none, sub-of-minus, minus-of-sub}
 use Rattle.grid.specs.Cells.{cells}
 use Rattle.grid.proofs.Cells.{at-cells}
 use Rattle.steps.specs.Boards.{Board, at, digitOf, givensOf, given, isOpen, freshAt, fresh, Givens, Admissible}
-use Rattle.steps.specs.Calls.{badClue, misfit, badMask, firstStop, refusal}
-use Rattle.steps.specs.Demand3.{Clues}
+use Rattle.steps.specs.Calls.{badClue, misfit, badMask, firstBadClue, checkOf}
+use Rattle.steps.specs.Calls.{Clues}
 use Rattle.steps.specs.Loops.{first}
 use Rattle.steps.proofs.Fresh.{fresh-at, fresh-out}
 use Rattle.steps.proofs.Searches.{cells-none, none-cells}
@@ -89,24 +93,24 @@ module _ (g m : List ℕ) where
 -- ---- the check
 
 -- neither stop
-pub stops-none : (n k : ℕ) (x y : Option ℕ) → firstStop n x (firstStop k y none) ≡ none → (x ≡ none) × (y ≡ none)
+pub stops-none : (n k : ℤ → Stop) (x y : Option ℕ) → then (stopAt n x) (λ _. stopAt k y) ≡ gives tt → (x ≡ none) × (y ≡ none)
 stops-none n k none none t = (refl, refl)
-stops-none n k none (some c) t = absurd (Option·some-ne-none (k, c) t)
-stops-none n k (some c) y t = absurd (Option·some-ne-none (n, c) t)
+stops-none n k none (some c) t = absurd (stop-gives t)
+stops-none n k (some c) y t = absurd (stop-gives t)
 
 module _ (b : Board) where
-  pub admitted : Clues (b .clues) → Admissible (givensOf (b .clues)) (b .masks) → refusal b ≡ none
-  unfolding refusal
+  pub admitted : Clues (b .clues) → Admissible (givensOf (b .clues)) (b .masks) → checkOf b ≡ gives tt
+  unfolding checkOf
   admitted ok a =
-      ap (λ (x : Option ℕ). firstStop 3 x (firstStop 9 (first (badMask (givensOf (b .clues)) (b .masks)) cells) none))
+      ap (λ (x : Option ℕ). then (stopAt BadClue x) (λ _. stopAt BadMask (first (badMask (givensOf (b .clues)) (b .masks)) cells)))
       (cells-none (λ c. badClue (getD (b .clues) c (pos 0))) (ok .good))
-      ∙ ap (λ (x : Option ℕ). firstStop 9 x none)
+      ∙ ap (stopAt BadMask)
       (cells-none (badMask (givensOf (b .clues)) (b .masks)) (admissible-good (givensOf (b .clues)) (b .masks) a))
 
-  pub admits : length (b .clues) ≡ 81 → length (b .masks) ≡ 81 → refusal b ≡ none → Clues (b .clues) × Admissible (givensOf (b .clues)) (b .masks)
-  unfolding refusal
+  pub admits : length (b .clues) ≡ 81 → length (b .masks) ≡ 81 → checkOf b ≡ gives tt → Clues (b .clues) × Admissible (givensOf (b .clues)) (b .masks)
+  unfolding checkOf
   admits lc lm t =
-      let w = stops-none 3 9 (first (λ c. badClue (getD (b .clues) c (pos 0))) cells) (first (badMask (givensOf (b .clues)) (b .masks)) cells) t in (
+      let w = stops-none BadClue BadMask (firstBadClue (b .clues)) (first (badMask (givensOf (b .clues)) (b .masks)) cells) t in (
         record { size = lc; good = none-cells (λ c. badClue (getD (b .clues) c (pos 0))) (w .0) },
         good-admissible (givensOf (b .clues)) (b .masks) lm (none-cells (badMask (givensOf (b .clues)) (b .masks)) (w .1)),
       )

@@ -22,10 +22,10 @@ use Rattle.grid.proofs.Fillings.{number-of, place-lt, same-number, correct-comp
 use Rattle.grid.proofs.Pigeonhole.{onto}
 use Rattle.grid.proofs.Units.{at-place, member-below}
 use Rattle.steps.specs.Boards.{at, givensOf, given, isOpen, fresh, Givens, Under, Admissible}
-use Rattle.steps.specs.Demand3.{Clues}
+use Rattle.steps.specs.Calls.{Clues}
 use Rattle.steps.specs.Fillings.{KeepsClues, InMasks}
 use Rattle.steps.proofs.Check.{clues-givens, given-clue, good-digit}
-use Rattle.steps.proofs.Fillings.{Filling, filling-still}
+use Rattle.steps.proofs.Fillings.{Filling, filling-settled}
 use Rattle.steps.proofs.FreshDigits.{fresh-open, fresh-clue}
 use Rattle.steps.proofs.Reach.{Reach, reach-keeps}
 
@@ -118,7 +118,7 @@ module _ (clues : List ℤ) (ok : Clues clues) where
           held = λ c h.
               sub-power (at m c) (placed f c)
               (subst (λ (x : ℕ). Sub x (at m c)) (filled-at (placed f) c h)
-              (reach-keeps g (filling-still g (placed f) (correct-filling f right) (filled (placed f)) (filled-at (placed f))) (filled-fresh k) r .at c));
+              (reach-keeps g (filling-settled g (placed f) (correct-filling f right) (filled (placed f)) (filled-at (placed f))) (filled-fresh k) r .at c));
         }
 
     pub in-keeps : (m : List ℕ) → Admissible g m → InMasks m f → KeepsClues clues f

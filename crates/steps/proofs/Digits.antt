@@ -1,52 +1,49 @@
--- Masks of one digit: what they share with the masks that steps read and lose. Assumes nothing.
-use mathlib.Core.Path.{_≡_, sym, ap, _∙_}
-use mathlib.Core.Logic.{_≢_, _⊎_, inl, inr}
-use Prim.Native.Nat.{ℕ, _-_, _^_, _<_}
-use native.Mathlib.Decide.{ℕ-discrete}
+-- Masks of one digit, of two and of all the others, as steps read and lose them; masks that share no digit. Assumes nothing.
+use mathlib.Core.Path.{_≡_, refl, sym, ap, _∙_}
+use mathlib.Core.Logic.{_⊎_, _↔_, inl, inr, ⊎-elim}
+use mathlib.Core.Bool.{Bool, true, false}
+use Prim.Native.Nat.{ℕ, _-_, _^_, _<_, min}
 use native.Mathlib.Omega.{arith}
-use lib.Bits.{bitAnd, and-comm, or-lt}
+use borrow.Author.Tests.{eqb-true, eqb-false}
+use lib.Bits.{bitAnd, or-lt}
+use lib.Dec.{lit<}
 use lib.Pow.{pow-lt}
-use Rattle.candidates.specs.Masks.{bit}
-use Rattle.candidates.proofs.Membership.{bit-and, bit-union, bit-none, bit-power, bit-other, bit-all}
-use Rattle.candidates.proofs.Order.{sub-all, and-only}
-use Rattle.candidates.proofs.Counts.{bit-except}
-use Rattle.steps.specs.Instances.{only, both, except}
-
--- the digit at p and the mask k share nothing exactly if k lacks p
-pub apart-bit : (p k : ℕ) → bit k p ≡ 0 → bitAnd (2 ^ p) k ≡ 0
-apart-bit p k h = and-comm (2 ^ p) k ∙ and-only k p h
-
-pub bit-apart : (p k : ℕ) → bitAnd (2 ^ p) k ≡ 0 → bit k p ≡ 0
-bit-apart p k h = omega (arith, bit-and (2 ^ p) k p, ap (λ (n : ℕ). bit n p) h, bit-none p, bit-power p)
-
--- all digits but those of k
-pub bit-outside : (k d : ℕ) → k < 512 → d < 9 → bit (except k) d ≡ 1 - bit k d
-bit-outside k d h l = bit-except d (sub-all k h) ∙ ap (λ (n : ℕ). n - bit k d) (bit-all d l)
-
-pub only-small : (d : ℕ) → d < 9 → only d < 512
-only-small d h = pow-lt h
+use Rattle.candidates.specs.Masks.{bit, has, minus}
+use Rattle.candidates.proofs.Held.{Held, held-all, held-below, held-power, held-minus, held-union, held-both}
+use Rattle.candidates.proofs.Membership.{bit-and, bit-minus, bit-none, bit-all, ext}
+use Rattle.steps.specs.Instances.{both}
 
 pub both-small : (a b : ℕ) → a < 9 → b < 9 → both a b < 512
-both-small a b h k = or-lt 9 (2 ^ a) (2 ^ b) (only-small a h) (only-small b k)
+both-small a b h k = or-lt 9 (2 ^ a) (2 ^ b) (pow-lt h) (pow-lt k)
 
-pub bit-both : (a b d : ℕ) → a ≢ d → b ≢ d → bit (both a b) d ≡ 0
-bit-both a b d h k = omega (arith, bit-union (2 ^ a) (2 ^ b) d, bit-other a d h, bit-other b d k)
+pub held-two : (a b d : ℕ) → Held (both a b) d ↔ ((d ≡ a) ⊎ (d ≡ b))
+held-two a b d =
+    (held-both a b d, λ t. held-union (2 ^ a) (2 ^ b) d .1 (⊎-elim (λ e. inl (held-power a d .1 e)) (λ e. inr (held-power b d .1 e)) t))
 
--- a digit that is not outside d is d, and one that is not outside a and b is one of them
-pub inside-only : (d p : ℕ) → d < 9 → p < 9 → bit (except (only d)) p ≡ 0 → p ≡ d
-inside-only d p h l e = go (ℕ-discrete d p)
+-- all digits but those of k
+pub bit-outside : (k d : ℕ) → d < 9 → bit (minus 511 k) d ≡ 1 - bit k d
+bit-outside k d l = bit-minus 511 k d ∙ ap (λ (n : ℕ). n - bit k d) (bit-all d l)
+
+pub held-except : (k d : ℕ) → Held (minus 511 k) d ↔ ((d < 9) × ¬ (Held k d))
+held-except k d = (
+  λ t. (held-below 511 9 d (lit< tt) (w .0 t .0), w .0 t .1),
+  λ v. w .1 (held-all d (v .0), v .1),
+)
   where
-    go : Dec (d ≡ p) → p ≡ d
-    go (yes q) = sym q
-    go (no q) = absurd (omega (arith, bit-outside (only d) p (only-small d h) l, bit-other d p q))
+    w : Held (minus 511 k) d ↔ (Held 511 d × ¬ (Held k d))
+    w = held-minus 511 k d
 
-pub inside-both : (a b p : ℕ) → a < 9 → b < 9 → p < 9 → bit (except (both a b)) p ≡ 0 → (p ≡ a) ⊎ (p ≡ b)
-inside-both a b p h k l e = go (ℕ-discrete a p) (ℕ-discrete b p)
+-- masks that share no digit
+pub apart-held : (x k : ℕ) → (bitAnd x k ≡ 0) ↔ ((d : ℕ) → Held k d → ¬ (Held x d))
+apart-held x k = (there, back)
   where
-    go : Dec (a ≡ p) → Dec (b ≡ p) → (p ≡ a) ⊎ (p ≡ b)
-    go (yes q) r = inl (sym q)
-    go (no q) (yes r) = inr (sym r)
-    go (no q) (no r) = absurd (omega (arith, bit-outside (both a b) p (both-small a b h k) l, bit-both a b p q r))
+    there : bitAnd x k ≡ 0 → (d : ℕ) → Held k d → ¬ (Held x d)
+    there e d t s = omega (arith, bit-and x k d, ap (λ (n : ℕ). bit n d) e, bit-none d, eqb-true (bit x d) 1 s, eqb-true (bit k d) 1 t)
 
-pub outside-only : (d p : ℕ) → d < 9 → p < 9 → p ≡ d → bit (except (only d)) p ≡ 0
-outside-only d p h l e = omega (arith, bit-outside (only d) p (only-small d h) l, ap (bit (only d)) e, bit-power d)
+    back : ((d : ℕ) → Held k d → ¬ (Held x d)) → bitAnd x k ≡ 0
+    back h = ext (bitAnd x k) 0 (λ d. bit-and x k d ∙ none d (has x d) (has k d) refl refl ∙ sym (bit-none d))
+      where
+        none : (d : ℕ) (a b : Bool) → has x d ≡ a → has k d ≡ b → min (bit x d) (bit k d) ≡ 0
+        none d true true p q = absurd (h d q p)
+        none d true false p q = omega (arith, eqb-false (bit k d) 1 q)
+        none d false b p q = omega (arith, eqb-false (bit x d) 1 p)

@@ -1,7 +1,7 @@
 -- Fresh masks: one for each cell, of the nine digits, and what an admissible board's masks can hold. Assumes nothing.
 use mathlib.Core.Path.{_≡_, refl}
 use mathlib.Core.List.{List, [], _∷_}
-use Prim.Native.Nat.{ℕ, suc, _-_, _*_, _^_, _≤_, _<_, zero-le}
+use Prim.Native.Nat.{ℕ, suc, _-_, _*_, _≤_, _<_, zero-le}
 use native.Mathlib.Nat.{lt-of-le-of-lt}
 use native.Mathlib.Decide.{decLt}
 use native.Mathlib.Omega.{arith}
@@ -9,7 +9,7 @@ use lib.Count.{ones-le}
 use lib.Dec.{ltb, lit<}
 use lib.ListN.{length}
 use lib.Pow.{pow-mono}
-use Rattle.candidates.specs.Masks.{minus, single}
+use Rattle.candidates.specs.Masks.{minus, single, placeMask}
 use Rattle.candidates.proofs.Order.{minus-sub, sub-le}
 use Rattle.candidates.proofs.Tests.{by-test}
 use Rattle.grid.proofs.Cells.{cells-size, at-cells, past-cells}
@@ -33,13 +33,13 @@ module _ (g : List ℕ) where
   fresh-admissible = record { size = fresh-length; under = under-refl (fresh g); clues = λ c f. refl }
 
   module _ (ok : Givens g) where
-    single-small : (c : ℕ) → single (given g c - 1) < 512
-    single-small c =
-        by-test (λ (x : ℕ). x < 512) (ltb (given g c - 1) 16) (2 ^ (given g c - 1)) 0
+    digit-small : (c : ℕ) → placeMask (given g c - 1) < 512
+    digit-small c =
+        by-test (λ (x : ℕ). x < 512) (ltb (given g c - 1) 16) (single (given g c - 1)) 0
         (λ t. omega (arith, pow-mono {i = given g c - 1} {j = 8} (omega (arith, ok .small c)))) (λ t. lit< tt)
 
     pub givenMask-small : (c : ℕ) → givenMask g c < 512
-    givenMask-small c = by-test (λ (x : ℕ). x < 512) (isOpen g c) 0 (single (given g c - 1)) (λ t. lit< tt) (λ t. single-small c)
+    givenMask-small c = by-test (λ (x : ℕ). x < 512) (isOpen g c) 0 (placeMask (given g c - 1)) (λ t. lit< tt) (λ t. digit-small c)
 
     pub freshAt-small : (c : ℕ) → freshAt g c < 512
     freshAt-small c =

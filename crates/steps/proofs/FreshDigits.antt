@@ -1,4 +1,4 @@
--- Which digits the fresh masks hold: a clue cell its own, an open cell those that no cell that it sees is given. Assumes nothing.
+-- The fresh masks are those of the rules: a clue cell holds its digit, an open cell those that no cell that it sees is given. Assumes nothing.
 use mathlib.Core.Path.{_≡_, refl, sym, _∙_, subst}
 use mathlib.Core.Logic.{_⊎_, _↔_, inr, ⊎-elim}
 use mathlib.Core.Bool.{Bool, true, false}
@@ -7,17 +7,18 @@ use Prim.Native.Nat.{ℕ, suc, _-_, _^_, _<_}
 use native.Mathlib.Omega.{arith}
 use borrow.Author.Tests.{eqb-true, eqb-false}
 use lib.Dec.{lit<}
-use Rattle.candidates.specs.Masks.{union, minus, single}
-use Rattle.candidates.proofs.Membership.{single-power}
+use lib.Seq.{ext-getD}
+use Rattle.candidates.specs.Masks.{union, minus, placeMask}
+use Rattle.candidates.proofs.Membership.{place-single}
 use Rattle.candidates.proofs.Tests.{cond-true, cond-false}
 use Rattle.grid.specs.Cells.{sees, peers}
 use Rattle.grid.proofs.Cells.{peer-sees, sees-peer}
 use Rattle.grid.proofs.Unions.{held-gathered}
-use Rattle.steps.specs.Boards.{given, isOpen, givenMask, taken, fresh, Givens}
+use Rattle.steps.specs.Boards.{at, given, isOpen, givenMask, taken, fresh, Givens}
 use Rattle.steps.specs.Loops.{each}
-use Rattle.steps.specs.Published.{Candidate, FreshCandidate}
-use Rattle.candidates.proofs.Held.{Held, none-held, held-below, held-all, held-power, held-minus}
-use Rattle.steps.proofs.Fresh.{fresh-at}
+use Rattle.steps.specs.Published.{Candidate, FreshCandidate, FreshMasks}
+use Rattle.candidates.proofs.Held.{Held, none-held, held-below, held-all, held-power, held-minus, held-ext}
+use Rattle.steps.proofs.Fresh.{fresh-length, fresh-at}
 
 module _ (g : List ℕ) (ok : Givens g) where
   -- the mask of a given digit
@@ -26,7 +27,7 @@ module _ (g : List ℕ) (ok : Givens g) where
     where
       go : (b : Bool) → isOpen g c ≡ b → Held (givenMask g c) d ↔ (given g c ≡ suc d)
       go true e = (
-        λ t. absurd (none-held d (subst (λ (x : ℕ). Held x d) (cond-true (isOpen g c) 0 (single (given g c - 1)) e) t)),
+        λ t. absurd (none-held d (subst (λ (x : ℕ). Held x d) (cond-true (isOpen g c) 0 (placeMask (given g c - 1)) e) t)),
         λ q. absurd (zero-suc (given g c) (eqb-true (given g c) 0 e) q),
       )
         where
@@ -39,8 +40,8 @@ module _ (g : List ℕ) (ok : Givens g) where
         where
           mask : givenMask g c ≡ 2 ^ (given g c - 1)
           mask =
-              cond-false (isOpen g c) 0 (single (given g c - 1)) e
-              ∙ single-power (given g c - 1) (omega (arith, ok .small c))
+              cond-false (isOpen g c) 0 (placeMask (given g c - 1)) e
+              ∙ place-single (given g c - 1) (omega (arith, ok .small c))
 
           back : d ≡ given g c - 1 → given g c ≡ suc d
           back q = omega (arith, eqb-false (given g c) 0 e)
@@ -74,3 +75,17 @@ module _ (g : List ℕ) (ok : Givens g) where
 
       up : FreshCandidate g c d → ((e : ℕ) × (e < 81) × (sees c e ≡ true) × (given g e ≡ suc d)) → ⊥
       up w s = w .unseen (s .0) (s .1) (s .2) (s .3)
+
+  fresh-meets : FreshMasks g (fresh g)
+  fresh-meets = record { size = fresh-length g; openCells = fresh-open; clueCells = fresh-clue }
+
+  -- the rules leave one choice of masks
+  fresh-same : {m n : List ℕ} → FreshMasks g m → FreshMasks g n → m ≡ n
+  fresh-same {m} {n} p q = ext-getD 0 m n (p .size ∙ sym (q .size)) (λ c h. held-ext (at m c) (at n c) (λ d. go c d (omega (arith, p .size)) (isOpen g c) refl))
+    where
+      go : (c d : ℕ) → c < 81 → (b : Bool) → isOpen g c ≡ b → Held (at m c) d ↔ Held (at n c) d
+      go c d h true e = (λ t. q .openCells c d h e .1 (p .openCells c d h e .0 t), λ t. p .openCells c d h e .1 (q .openCells c d h e .0 t))
+      go c d h false e = (λ t. q .clueCells c d h e .1 (p .clueCells c d h e .0 t), λ t. p .clueCells c d h e .1 (q .clueCells c d h e .0 t))
+
+  pub fresh-masks : (n : List ℕ) → FreshMasks g n ↔ (n ≡ fresh g)
+  fresh-masks n = (λ p. fresh-same p fresh-meets, λ e. subst (FreshMasks g) (sym e) fresh-meets)

@@ -1,6 +1,6 @@
--- The numbers of a listed instance are within their bounds: what holds of every instance within them holds of every listed one. Assumes nothing.
-use mathlib.Core.Path.{sym, subst}
-use mathlib.Core.List.{List, [], _∷_, List·Memᴰ, List·Memᴰ·append-cases, List·Memᴰ·eq-of-singleton}
+-- The listed instances are those whose numbers are within their bounds: what holds of every instance within them holds of every listed one, and each of them is listed. Assumes nothing.
+use mathlib.Core.Path.{refl, sym, subst}
+use mathlib.Core.List.{List, [], _∷_, List·Memᴰ, List·Memᴰ·head, List·Memᴰ·append-cases, List·Memᴰ·eq-of-singleton, Memᴰ·append-left, Memᴰ·append-right}
 use mathlib.Core.Logic.{⊎-elim}
 use Prim.Native.Nat.{ℕ, _+_, _-_, _*_, _/_, _%_, _<_}
 use native.Mathlib.Omega.{arith}
@@ -9,7 +9,7 @@ use Rattle.candidates.proofs.Tests.{by-test}
 use Rattle.steps.specs.Instances.{Instance, lone, place, pair, pointing, cross, exchanged, lineOf, lones, places, pairs, pointings, crosses}
 use Rattle.steps.specs.Loops.{for, upTo, above}
 use Rattle.steps.specs.Passes.{Kind, Lone, Place, Pair, Pointing, Cross, instances}
-use Rattle.steps.proofs.Loops.{for-all, in-upTo, in-above}
+use Rattle.steps.proofs.Loops.{for-all, for-upTo, for-two, in-upTo, in-above}
 
 module _ (P : Instance → Type 0) where
   one : (x y : Instance) → P y → List·Memᴰ x (y ∷ []) → P x
@@ -49,6 +49,41 @@ module _ (P : Instance → Type 0) where
       turned =
           below 9 _ λ d hd. below 9 _ λ r hr. later r 9 _ λ s rs hs. below 9 _ λ a ha. later a 9 _ λ b ab hb. λ x.
           one x (exchanged d r s a b) (w .onExchanged d r s a b hd rs hs ab hb)
+
+-- ---- an instance within the bounds is listed
+
+pub lone-listed : (c d : ℕ) → c < 81 → d < 9 → List·Memᴰ (lone c d) (instances Lone)
+unfolding instances lones
+lone-listed c d hc hd = for-upTo 81 _ c _ hc (for-upTo 9 _ d _ hd (List·Memᴰ·head refl))
+
+pub place-listed : (u d i : ℕ) → u < 27 → d < 9 → i < 9 → List·Memᴰ (place u d i) (instances Place)
+unfolding instances places
+place-listed u d i hu hd hi = for-upTo 27 _ u _ hu (for-upTo 9 _ d _ hd (for-upTo 9 _ i _ hi (List·Memᴰ·head refl)))
+
+pub pair-listed : (u i j a b : ℕ) → u < 27 → i < j → j < 9 → a < b → b < 9 → List·Memᴰ (pair u i j a b) (instances Pair)
+unfolding instances pairs
+pair-listed u i j a b hu hi hj ha hb = for-upTo 27 _ u _ hu (for-two 9 _ i j _ hi hj (for-two 9 _ a b _ ha hb (List·Memᴰ·head refl)))
+
+pub pointing-listed : (b d k : ℕ) → b < 9 → d < 9 → k < 6 → List·Memᴰ (pointing b d k) (instances Pointing)
+unfolding instances pointings
+pointing-listed b d k hb hd hk = for-upTo 9 _ b _ hb (for-upTo 9 _ d _ hd (for-upTo 6 _ k _ hk (List·Memᴰ·head refl)))
+
+-- the two halves of Cross, by what they make
+abbrev half : (ℕ → ℕ → ℕ → ℕ → ℕ → Instance) → List Instance
+half make = for (upTo 9) λ d. for (upTo 9) λ r. for (above r 9) λ s. for (upTo 9) λ a. for (above a 9) λ b. make d r s a b ∷ []
+
+in-half : (make : ℕ → ℕ → ℕ → ℕ → ℕ → Instance) (d r s a b : ℕ) → d < 9 → r < s → s < 9 → a < b → b < 9 → List·Memᴰ (make d r s a b) (half make)
+in-half make d r s a b hd hr hs ha hb = for-upTo 9 _ d _ hd (for-two 9 _ r s _ hr hs (for-two 9 _ a b _ ha hb (List·Memᴰ·head refl)))
+
+pub cross-listed : (d r₁ r₂ c₁ c₂ : ℕ) → d < 9 → r₁ < r₂ → r₂ < 9 → c₁ < c₂ → c₂ < 9 → List·Memᴰ (cross d r₁ r₂ c₁ c₂) (instances Cross)
+unfolding instances crosses
+cross-listed d r₁ r₂ c₁ c₂ hd hr hs hc he = Memᴰ·append-left (half exchanged) (in-half cross d r₁ r₂ c₁ c₂ hd hr hs hc he)
+
+pub exchanged-listed : (d c₁ c₂ r₁ r₂ : ℕ) → d < 9 → c₁ < c₂ → c₂ < 9 → r₁ < r₂ → r₂ < 9 → List·Memᴰ (exchanged d c₁ c₂ r₁ r₂) (instances Cross)
+unfolding instances crosses
+exchanged-listed d c₁ c₂ r₁ r₂ hd hc he hr hs = Memᴰ·append-right (half cross) (in-half exchanged d c₁ c₂ r₁ r₂ hd hc he hr hs)
+
+-- ---- the six lines of a box
 
 -- the lines that meet a box are units
 pub line-below : (b k : ℕ) → b < 9 → k < 6 → lineOf b k < 27

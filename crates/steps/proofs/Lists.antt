@@ -1,4 +1,4 @@
--- Demand 3 is met: `demand3`, whose statement is specs/Demand3.antt. Assumes nothing.
+-- The theorem about lists of calls and about settling: `list-theorem`. Assumes nothing.
 use mathlib.Core.Path.{_≡_, refl, sym, _∙_, subst}
 use mathlib.Core.Logic.{_⊎_, inl, inr, ⊎-elim}
 use mathlib.Core.Bool.{true, false, not, true≢false}
@@ -12,8 +12,10 @@ use Rattle.candidates.proofs.Tests.{by-test}
 use Rattle.grid.proofs.Fillings.{verified-correct}
 use Rattle.candidates.proofs.Tests.{both-left, both-right}
 use Rattle.steps.specs.Boards.{Board, givensOf, fresh, Givens, Admissible}
-use Rattle.steps.specs.Calls.{Call, updateCandidates, nakedPairsCall, boxLineCall, xWingCall, nakedSinglesCall, hiddenSinglesCall, advancedCall, wide, settling, chainCall, isChain, withoutChain, outcome, advanced, checked, answer, left, refusal, run, opened}
-use Rattle.steps.specs.Demand3.{Clues, SettledBoard, Ends, Settles, Demand3}
+use Rattle.steps.specs.Calls.{Call, updateCandidates, nakedPairsCall, boxLineCall, xWingCall, nakedSinglesCall, hiddenSinglesCall, advancedCall, wide, settlingCall, chainCall, isChain, withoutChain, outcome, advancedOutcome, answer, left, checkOf, run, opened}
+use Rattle.stops.specs.Answer.{Answer, gives, passing}
+use Rattle.steps.proofs.ListTheorem.{BoardSettled, ListEnds, SettlingEnds, ListTheorem}
+use Rattle.steps.specs.Calls.{Clues}
 use Rattle.steps.specs.Passes.{Settled, settle}
 use Rattle.steps.proofs.Chains.{chains-admissible}
 use Rattle.steps.proofs.Check.{clues-givens, admitted, admits}
@@ -21,7 +23,7 @@ use Rattle.steps.proofs.Clues.{keeps-in, in-keeps}
 use Rattle.steps.proofs.Fresh.{fresh-admissible, total-most}
 use Rattle.steps.proofs.Ported.{nakedPairs-reach, boxLines-reach, xWings-reach}
 use Rattle.steps.proofs.Masks.{total-under}
-use Rattle.steps.proofs.Reach.{Reach, start, reach-trans, reach-eq, reach-under, reach-length, reach-admissible, reach-keeps, pass-reach, settled-still, one-end}
+use Rattle.steps.proofs.Reach.{Reach, start, reach-trans, reach-eq, reach-under, reach-length, reach-admissible, reach-keeps, pass-reach, one-end}
 use Rattle.steps.proofs.Settling.{Settling, settles-in}
 
 -- ---- one call
@@ -39,9 +41,9 @@ call-leaves xWingCall g m n ok a = inl (xWings-reach g m ok a)
 call-leaves nakedSinglesCall g m n ok a = inl start
 call-leaves hiddenSinglesCall g m n ok a = inl start
 call-leaves advancedCall g m n ok a =
-    by-test (λ (n : List ℕ). Reach g m n ⊎ (n ≡ fresh g)) (advanced g m .flag) (fresh g) m (λ t. inr refl) (λ t. inl start)
+    by-test (λ (n : List ℕ). Reach g m n ⊎ (n ≡ fresh g)) (advancedOutcome g m .flag) (fresh g) m (λ t. inr refl) (λ t. inl start)
 call-leaves (wide k) g m n ok a = inl (pass-reach g k m)
-call-leaves settling g m n ok a = inl (settling-from g m ok a .reach)
+call-leaves settlingCall g m n ok a = inl (settling-from g m ok a .reach)
 call-leaves chainCall g m n ok a = absurd (true≢false n)
 
 -- every call leaves masks that the next one takes
@@ -53,9 +55,9 @@ call-admissible boxLineCall g m ok a = reach-admissible g (boxLines-reach g m ok
 call-admissible xWingCall g m ok a = reach-admissible g (xWings-reach g m ok a) a
 call-admissible nakedSinglesCall g m ok a = a
 call-admissible hiddenSinglesCall g m ok a = a
-call-admissible advancedCall g m ok a = by-test (Admissible g) (advanced g m .flag) (fresh g) m (λ t. fresh-admissible g) (λ t. a)
+call-admissible advancedCall g m ok a = by-test (Admissible g) (advancedOutcome g m .flag) (fresh g) m (λ t. fresh-admissible g) (λ t. a)
 call-admissible (wide k) g m ok a = reach-admissible g (pass-reach g k m) a
-call-admissible settling g m ok a = reach-admissible g (settling-from g m ok a .reach) a
+call-admissible settlingCall g m ok a = reach-admissible g (settling-from g m ok a .reach) a
 call-admissible chainCall g m ok a = chains-admissible g m a
 
 -- ---- lists of calls
@@ -69,15 +71,15 @@ module _ (clues : List ℤ) (ok : Clues clues) where
   abbrev g : List ℕ
   g = givensOf clues
 
-  accepted : (b : Board) → BoardOf clues (Admissible g) b → refusal b ≡ none
+  accepted : (b : Board) → BoardOf clues (Admissible g) b → checkOf b ≡ gives tt
   accepted b r =
       admitted b (subst Clues (sym (r .same)) ok) (subst (λ (z : List ℤ). Admissible (givensOf z) (b .masks)) (sym (r .same)) (r .masks))
 
   -- one call, on a board that is not refused
-  call-board : (P : List ℕ → Type 0) (k : Call) (b : Board) → b .clues ≡ clues → refusal b ≡ none → P (outcome k g (b .masks) .masks) → BoardOf clues P (left b (answer k b))
+  call-board : (P : List ℕ → Type 0) (k : Call) (b : Board) → b .clues ≡ clues → checkOf b ≡ gives tt → P (outcome k g (b .masks) .masks) → BoardOf clues P (left b (answer k b))
   unfolding answer
   call-board P k b e t p =
-      subst (λ (w : Option (ℕ × ℕ)). BoardOf clues P (left b (checked w (outcome k (givensOf (b .clues)) (b .masks))))) (sym t)
+      subst (λ (w : Answer (Unit {0})). BoardOf clues P (left b (passing w (outcome k (givensOf (b .clues)) (b .masks))))) (sym t)
       (record { same = e; masks = subst (λ (z : List ℤ). P (outcome k (givensOf z) (b .masks) .masks)) (sym e) p })
 
   run-admissible : (ks : List Call) (b : Board) → BoardOf clues (Admissible g) b → BoardOf clues (Admissible g) (run ks b)
@@ -108,15 +110,15 @@ module _ (clues : List ℤ) (ok : Clues clues) where
   unfolding opened
   ended ks n = run-reached ks (opened clues) n (record { same = refl; masks = start })
 
-  pub never-refused : (ks : List Call) → refusal (run ks (opened clues)) ≡ none
+  pub never-refused : (ks : List Call) → checkOf (run ks (opened clues)) ≡ gives tt
   unfolding opened
   never-refused ks = accepted (run ks (opened clues)) (run-admissible ks (opened clues) (record { same = refl; masks = fresh-admissible g }))
 
 -- ---- the theorem
 
-lists-end : (clues : List ℤ) → Clues clues → (ks ls : List Call) → withoutChain ks ≡ true → withoutChain ls ≡ true → Ends clues ks ls
+lists-end : (clues : List ℤ) → Clues clues → (ks ls : List Call) → withoutChain ks ≡ true → withoutChain ls ≡ true → ListEnds clues ks ls
 lists-end clues ok ks ls nk nl =
-    record { one = λ s. (λ e. subst SettledBoard e s, λ t. same s t); fillings = λ f n v. (in-keeps clues ok f (verified-correct f n v) (B .masks) (reached-admissible clues ok p .masks), λ k. keeps-in clues ok f (verified-correct f n v) k (B .masks) (p .masks)) }
+    record { one = λ s. (λ e. subst BoardSettled e s, λ t. same s t); fillings = λ f n v. (in-keeps clues ok f (verified-correct f n v) (B .masks) (reached-admissible clues ok p .masks), λ k. keeps-in clues ok f (verified-correct f n v) k (B .masks) (p .masks)) }
   where
     B : Board
     B = run ks (opened clues)
@@ -130,22 +132,22 @@ lists-end clues ok ks ls nk nl =
     q : Reached clues ok C
     q = ended clues ok ls nl
 
-    settled : {b : Board} → Reached clues ok b → SettledBoard b → Settled (givensOf clues) (b .masks)
+    settled : {b : Board} → Reached clues ok b → BoardSettled b → Settled (givensOf clues) (b .masks)
     settled {b} r s = subst (λ (z : List ℤ). Settled (givensOf z) (b .masks)) (r .same) s
 
-    same : SettledBoard B → SettledBoard C → B ≡ C
+    same : BoardSettled B → BoardSettled C → B ≡ C
     same s t =
         let e : B .clues ≡ C .clues = p .same ∙ sym (q .same) in
         let m : B .masks ≡ C .masks = one-end (givensOf clues) (p .masks) (q .masks) (settled p s) (settled q t) in
         λ i. record { clues = e i; masks = m i }
 
-pub settles : (g m : List ℕ) → Givens g → Admissible g m → Settles g m
+pub settles : (g m : List ℕ) → Givens g → Admissible g m → SettlingEnds g m
 settles g m ok a =
     let s = settling-from g m ok a in
     let less = total-under (settle g m .left) m (reach-length g (s .reach)) (reach-under g (s .reach)) in
     record {
       ends = s .ends;
-      greatest = λ z t p. reach-keeps g (settled-still g t) p (s .reach);
+      greatest = λ z t p. reach-keeps g t p (s .reach);
       below = reach-under g (s .reach);
       counted = omega arith;
       bound = omega (arith, s .bound);
@@ -156,8 +158,8 @@ settles g m ok a =
       final = s .final;
     }
 
-pub demand3 : Demand3
-demand3 =
+pub list-theorem : ListTheorem
+list-theorem =
     record {
       taken = never-refused;
       lists = lists-end;

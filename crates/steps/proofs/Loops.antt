@@ -1,8 +1,8 @@
 -- Laws of the loops: what each member of a list does, and what a list made by loops holds. Assumes nothing.
-use mathlib.Core.Path.{_≡_, refl, ap, _∙_, subst}
+use mathlib.Core.Path.{_≡_, refl, sym, ap, _∙_, subst}
 use mathlib.Core.Bool.{Bool, true, false, cond}
 use mathlib.Core.Logic.{⊎-elim}
-use mathlib.Core.List.{List, [], _∷_, _++_, List·Memᴰ, List·Memᴰ·head, List·Memᴰ·tail, List·Memᴰ·not-nil, List·Memᴰ·cases-cons, List·Memᴰ·append-cases, Memᴰ·append-left, Memᴰ·append-right}
+use mathlib.Core.List.{List, [], _∷_, _++_, append-nil, append-assoc, List·Memᴰ, List·Memᴰ·head, List·Memᴰ·tail, List·Memᴰ·not-nil, List·Memᴰ·cases-cons, List·Memᴰ·append-cases, Memᴰ·append-left, Memᴰ·append-right}
 use mathlib.Core.Option.{Option, none, some, Option·some-ne-none}
 use Prim.Native.Nat.{ℕ, _+_, _-_, _<_, zero-le}
 use native.Mathlib.Omega.{arith}
@@ -33,6 +33,12 @@ module _ {A B : Type 0} where
   unfolding each for
   each-for f [] h s = refl
   each-for f (x ∷ xs) h s = each-append f (h x) (for xs h) s ∙ each-for f xs h (each f (h x) s)
+
+  -- a loop that adds what its members give, one after the other
+  pub each-adds : (f : A → List B) (xs : List A) (ys : List B) → each (λ x zs. zs ++ f x) xs ys ≡ ys ++ for xs f
+  unfolding each for
+  each-adds f [] ys = sym (append-nil ys)
+  each-adds f (x ∷ xs) ys = each-adds f xs (ys ++ f x) ∙ append-assoc ys (f x) (for xs f)
 
   -- a member of a list made by a loop comes from one of the loop's members
   pub in-for : (xs : List A) (h : A → List B) (y : B) → List·Memᴰ y (for xs h) → (x : A) × List·Memᴰ x xs × List·Memᴰ y (h x)

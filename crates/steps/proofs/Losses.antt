@@ -1,6 +1,6 @@
 -- What each cell holds after some cells have lost digits. Assumes nothing.
 use mathlib.Core.Path.{_≡_, refl, sym, ap, _∙_, subst}
-use mathlib.Core.Logic.{_↔_, ⊎-elim}
+use mathlib.Core.Logic.{_↔_, Iff·trans, ⊎-elim}
 use mathlib.Core.Bool.{Bool, true, false, cond, true≢false}
 use mathlib.Core.List.{List, [], _∷_, List·Memᴰ, List·Memᴰ·head, List·Memᴰ·tail, List·Memᴰ·not-nil, List·Memᴰ·cases-cons}
 use Prim.Native.Nat.{ℕ}
@@ -10,7 +10,7 @@ use Rattle.candidates.specs.Masks.{minus}
 use Rattle.steps.specs.Boards.{at}
 use Rattle.steps.specs.Loops.{each}
 use Rattle.steps.specs.Published.{Candidate, Without}
-use Rattle.steps.specs.Steps.{loseAt, loseAll}
+use Rattle.steps.specs.Steps.{Step, applies, loseAt, loseAll, stepTaken}
 use Rattle.candidates.proofs.Held.{Held, none-held, held-ext, held-minus}
 use Rattle.steps.proofs.Steps.{lose-here, lose-shut, lose-other, all-length}
 
@@ -25,6 +25,14 @@ held-unless false k d = (λ h. (refl, h), λ w. w .1)
 pub without-same : {m n o : List ℕ} {lost : ℕ → ℕ → Type 0} → Without m lost n → Without m lost o → n ≡ o
 without-same {m} {n} {o} p q =
     ext-getD 0 n o (p .size ∙ sym (q .size)) (λ c h. held-ext (at n c) (at o c) (λ d. (λ t. q .left c d .1 (p .left c d .0 t), λ t. p .left c d .1 (q .left c d .0 t))))
+
+-- the same loss in other words
+pub without-again : {m n : List ℕ} {lost gone : ℕ → ℕ → Type 0} → ((e d : ℕ) → lost e d ↔ gone e d) → Without m gone n → Without m lost n
+without-again same p =
+    record {
+      size = p .size;
+      left = λ c d. Iff·trans (p .left c d) (λ w. (w .0, λ l. w .1 (same c d .0 l)), λ w. (w .0, λ l. w .1 (same c d .1 l)));
+    }
 
 -- ---- cells lose digits
 
@@ -83,11 +91,9 @@ module _ (isFree : ℕ → Bool) (k : ℕ → ℕ) where
 
   -- the same, said of any relation that names what is lost where a test holds
   pub lost-when : (t : Bool) (cs : List ℕ) (m : List ℕ) (lost : ℕ → ℕ → Type 0) → t ≡ true → ((e d : ℕ) → lost e d ↔ Lost cs e d) → Without m lost (cond t (loseAll isFree cs k m) m)
-  lost-when t cs m lost on same =
-      rw on (record {
-        size = all-length isFree cs k m;
-        left = λ e d. (λ c. down e d (lost-digits cs m e d .0 c), λ w. lost-digits cs m e d .1 (w .0, λ l. w .1 (same e d .1 l)));
-      })
-    where
-      down : (e d : ℕ) → Candidate m e d × ¬ (Lost cs e d) → Candidate m e d × ¬ (lost e d)
-      down e d w = (w .0, λ l. w .1 (same e d .0 l))
+  lost-when t cs m lost on same = rw on (without-again same (record { size = all-length isFree cs k m; left = lost-digits cs m }))
+
+-- and of a step that applies
+pub step-loses : (isFree : ℕ → Bool) (s : Step) (m : List ℕ) {lost : ℕ → ℕ → Type 0} → applies s m ≡ true → ((e d : ℕ) → lost e d ↔ Lost isFree (s .loses) (s .hits) e d) → Without m lost (stepTaken isFree s m)
+unfolding stepTaken
+step-loses isFree s m {lost} on same = lost-when isFree (s .loses) (applies s m) (s .hits) m lost on same

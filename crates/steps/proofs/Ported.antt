@@ -1,94 +1,79 @@
--- The ported eliminations come from instances of the wide passes: on admissible masks each removal is nothing, or the step of one instance. Assumes nothing.
-use mathlib.Core.Path.{_≡_, refl, sym, ap, _∙_, subst}
-use mathlib.Core.Logic.{inl, inr, ⊎-elim}
-use mathlib.Core.Bool.{Bool, true, cond, _&&_, _||_}
-use mathlib.Core.List.{List, [], _∷_, List·Memᴰ, List·Memᴰ·head, Memᴰ·append-left, Memᴰ·append-right}
-use Prim.Native.Nat.{ℕ, _+_, _≤_, _<_}
-use native.Mathlib.Nat.{zero-add}
+-- The ported eliminations come from instances of the wide passes: on admissible masks each published pattern is the condition of an instance that loses the same. Assumes nothing.
+use mathlib.Core.Path.{_≡_, refl, sym}
+use mathlib.Core.Logic.{_≢_, _⊎_, _↔_, inl, inr, ⊎-elim}
+use mathlib.Core.Bool.{Bool, true, false}
+use mathlib.Core.List.{List, List·Memᴰ}
+use Prim.Native.Nat.{ℕ, _+_, _<_}
 use native.Mathlib.Omega.{arith}
-use borrow.Author.Tests.{eqb-true, eq-eqb, leb-true}
-use lib.Bits.{bitAnd}
-use lib.Dec.{eqb, leb}
-use Rattle.candidates.specs.Masks.{count, lowest, tail}
-use Rattle.candidates.proofs.Counts.{and-except}
-use Rattle.candidates.proofs.FewDigits.{Pair as TwoDigits, count-pair}
-use Rattle.candidates.proofs.Held.{Held, held-below, held-both}
-use Rattle.candidates.proofs.Order.{sub-all}
-use Rattle.candidates.proofs.Tests.{by-test, cond-true, below-both, both-left, both-right, either, or-implied, T-true}
-use Rattle.grid.specs.Units.{units, unit, unitCell, inUnit}
-use Rattle.grid.proofs.Lists.{place-mem}
-use Rattle.grid.proofs.Units.{unit-length}
-use Rattle.steps.specs.Boards.{at, isOpen, Givens, Admissible}
-use Rattle.steps.specs.Instances.{Instance, pair, pointing, cross, exchanged, only, both, except, lineOf, pairStep, lockedStep, crossStep, stepOf, pairs, pointings, crosses}
-use Rattle.steps.specs.Loops.{each, for, upTo, above, all}
-use Rattle.steps.specs.Passes.{Kind, Pair, Pointing, Cross, instances}
-use Rattle.steps.specs.Ported.{holds, spots, isNakedPair, nakedPairLoss, nakedPairAt, nakedPairs, isBoxLine, boxLineAt, boxLines, isXWing, xWingAt, xWingDigit, xWings}
-use Rattle.steps.specs.Steps.{Step, lacks, applies, loseAll, take}
+use Rattle.candidates.proofs.Held.{held-below, held-sub}
+use Rattle.grid.specs.Units.{unitCell, Member}
+use Rattle.grid.proofs.Units.{at-place, cells-differ}
+use Rattle.steps.specs.Boards.{at, Givens, Admissible, Under}
+use Rattle.steps.specs.Instances.{lineOf}
+use Rattle.steps.specs.Loops.{each, upTo, above}
+use Rattle.steps.specs.Ported.{isNakedPair, nakedPairAt, nakedPairs, isBoxLine, boxLineAt, boxLines, isXWing, xWingAt, xWingDigit, xWings}
+use Rattle.steps.specs.Published.{Candidate, Holder, Without, NakedPair, Pointing, Crossing, XWing}
+use Rattle.steps.specs.Wide.{PairCells, Locked, CrossCells}
 use Rattle.steps.proofs.Fresh.{mask-small}
-use Rattle.steps.proofs.Holders.{confined}
-use Rattle.steps.proofs.Loops.{each-keeps, for-upTo, for-two, in-upTo, in-above, all-member, all-append}
-use Rattle.steps.proofs.Spots.{spots-lt, has-spots}
+use Rattle.steps.proofs.Holders.{holder-open}
+use Rattle.steps.proofs.Instances.{line-below}
+use Rattle.steps.proofs.Loops.{each-keeps, in-upTo, in-above}
+use Rattle.steps.proofs.Losses.{without-same, without-again}
+use Rattle.steps.proofs.Members.{row-meets}
+use Rattle.steps.proofs.Named.{line-meets, Listed, pair-named, pointing-named, cross-named}
+use Rattle.steps.proofs.Published.{naked-pair, naked-pair-loses, naked-pair-none, pointing, pointing-loses, pointing-none, Line, x-wing, x-wing-loses, x-wing-none}
 use Rattle.steps.proofs.Reach.{Reach, start, next, reach-trans, reach-eq, reach-under, reach-admissible}
-use Rattle.steps.proofs.Steps.{applies-down}
+use Rattle.steps.proofs.Wide.{words}
 
--- ---- the instances are listed
+-- ---- one turn
 
-pub pair-listed : (u i j a b : ℕ) → u < 27 → i < j → j < 9 → a < b → b < 9 → List·Memᴰ (pair u i j a b) (instances Pair)
-unfolding instances pairs
-pair-listed u i j a b hu hi hj ha hb = for-upTo 27 _ u _ hu (for-two 9 _ i j _ hi hj (for-two 9 _ a b _ ha hb (List·Memᴰ·head refl)))
+module _ (g : List ℕ) {m n : List ℕ} where
+  -- by an instance that applies and loses the same
+  reach-named : {A : Type 0} {loss : ℕ → ℕ → Type 0} → Listed g m A loss → A → Without m loss n → Reach g m n
+  reach-named x w lost =
+      reach-eq g (next start (x .kind) (x .instance) (x .listed))
+      (without-same (without-again (x .what) (words g m (x .kind) (x .instance) (x .listed) .loses (x .when w))) lost)
 
-pub pointing-listed : (b d k : ℕ) → b < 9 → d < 9 → k < 6 → List·Memᴰ (pointing b d k) (instances Pointing)
-unfolding instances pointings
-pointing-listed b d k hb hd hk = for-upTo 9 _ b _ hb (for-upTo 9 _ d _ hd (for-upTo 6 _ k _ hk (List·Memᴰ·head refl)))
+  -- by its test
+  reach-test : (t : Bool) → (t ≡ true → Reach g m n) → (t ≡ false → n ≡ m) → Reach g m n
+  reach-test true some none = some refl
+  reach-test false some none = reach-eq g start (sym (none refl))
 
--- the two halves of Cross, by what they make
-abbrev half : (ℕ → ℕ → ℕ → ℕ → ℕ → Instance) → List Instance
-half make = for (upTo 9) λ d. for (upTo 9) λ r. for (above r 9) λ s. for (upTo 9) λ a. for (above a 9) λ b. make d r s a b ∷ []
+-- ---- a published pattern is a wide condition
 
-in-half : (make : ℕ → ℕ → ℕ → ℕ → ℕ → Instance) (d r s a b : ℕ) → d < 9 → r < s → s < 9 → a < b → b < 9 → List·Memᴰ (make d r s a b) (half make)
-in-half make d r s a b hd hr hs ha hb = for-upTo 9 _ d _ hd (for-two 9 _ r s _ hr hs (for-two 9 _ a b _ ha hb (List·Memᴰ·head refl)))
+naked-pair-wide : {g m : List ℕ} {u c e a b : ℕ} → NakedPair g m u c e a b → PairCells m c e a b
+naked-pair-wide s = record { first = λ d l t. s .held₁ d .0 t; second = λ d l t. s .held₂ d .0 t }
 
-pub cross-listed : (d r₁ r₂ c₁ c₂ : ℕ) → d < 9 → r₁ < r₂ → r₂ < 9 → c₁ < c₂ → c₂ < 9 → List·Memᴰ (cross d r₁ r₂ c₁ c₂) (instances Cross)
-unfolding instances crosses
-cross-listed d r₁ r₂ c₁ c₂ hd hr hs hc he = Memᴰ·append-left (half exchanged) (in-half cross d r₁ r₂ c₁ c₂ hd hr hs hc he)
+-- a condition goes on holding as masks shrink
+cross-down : {m n : List ℕ} {u v x y d : ℕ} → Under m n → CrossCells n u v x y d → CrossCells m u v x y d
+cross-down {d = d} p w = record { inside = λ e q t. w .inside e q (held-sub d (p .at e) t) }
 
-pub exchanged-listed : (d c₁ c₂ r₁ r₂ : ℕ) → d < 9 → c₁ < c₂ → c₂ < 9 → r₁ < r₂ → r₂ < 9 → List·Memᴰ (exchanged d c₁ c₂ r₁ r₂) (instances Cross)
-unfolding instances crosses
-exchanged-listed d c₁ c₂ r₁ r₂ hd hc he hr hs = Memᴰ·append-right (half cross) (in-half exchanged d c₁ c₂ r₁ r₂ hd hc he hr hs)
+exchange : {u v x y : ℕ} → Crossing u v x y → Crossing v u x y
+exchange k = record { lines = ⊎-elim (λ p. inl (omega arith)) (λ p. inr (omega arith)) (k .lines); apart₁ = λ q. k .apart₁ (sym q); apart₂ = k .apart₂ }
 
--- ---- one elimination
-
--- the removals of an instance whose condition holds
-pub reach-by : (g m : List ℕ) (k : Kind) (x : Instance) (s : Step) → List·Memᴰ x (instances k) → stepOf x ≡ s → applies s m ≡ true → Reach g m (loseAll (isOpen g) (s .hits) (s .loses) m)
-unfolding take
-reach-by g m k x s h e t =
-    reach-eq g (next start k x h)
-    (ap (λ (s : Step). take (isOpen g) s m) e ∙ cond-true (applies s m) (loseAll (isOpen g) (s .hits) (s .loses) m) m t)
-
-pair-step : (u i j a b : ℕ) → stepOf (pair u i j a b) ≡ pairStep u (unitCell u i) (unitCell u j) a b
-unfolding stepOf
-pair-step u i j a b = refl
-
-pointing-step : (b d k : ℕ) → stepOf (pointing b d k) ≡ lockedStep (18 + b) (lineOf b k) d
-unfolding stepOf
-pointing-step b d k = refl
-
--- the condition of Pair, where both cells have just the two digits
-pair-applies : (m : List ℕ) (u c e a b : ℕ) → both a b < 512 → at m c ≡ both a b → at m e ≡ both a b → applies (pairStep u c e a b) m ≡ true
-pair-applies m u c e a b h p q = rw (lacking c p, lacking e q)
+-- crossing lines have a cell in common
+meeting : {u v x y : ℕ} → Crossing u v x y → (e : ℕ) × Member u e × Member x e
+meeting {u} {v} {x} k = ⊎-elim (λ p. row-meets (p .0 .0) (p .1 .0) (p .1 .1)) (λ p. turned (row-meets (p .1 .0) (p .0 .0) (p .0 .1))) (k .lines)
   where
-    lacking : (c : ℕ) → at m c ≡ both a b → lacks m c (except (both a b)) ≡ true
-    lacking c p =
-        eq-eqb (bitAnd (at m c) (except (both a b))) 0 (ap (λ (n : ℕ). bitAnd n (except (both a b))) p ∙ and-except (sub-all (both a b) h))
-
--- a removal under a test
-pub reach-if : (g m n : List ℕ) (t : Bool) → (t ≡ true → Reach g m n) → Reach g m (cond t n m)
-reach-if g m n t h = by-test (Reach g m) t n m h (λ f. start)
+    turned : (e : ℕ) × Member x e × Member u e → (e : ℕ) × Member u e × Member x e
+    turned w = (w .0, w .2, w .1)
 
 module _ (g : List ℕ) (ok : Givens g) (m : List ℕ) (ad : Admissible g m) where
+  pointing-wide : {u v d : ℕ} → u < 27 → Pointing g m u v d → Locked m u v d
+  pointing-wide {u} {v} {d} h s = record { inside = λ e p t. s .inside e p (holder-open g ok m ad u d h (s .member₁) (s .holder₁) p t) }
+
+  x-wing-wide : {u v x y d : ℕ} → XWing g m u v x y d → CrossCells m u v x y d
+  x-wing-wide {x = x} {y} {d} s = record { inside = λ e p t. ⊎-elim (λ q. corner (s .crossing) (s .corner₁) e q t) (λ q. corner (exchange (s .crossing)) (s .corner₂) e q t) p }
+    where
+      corner : {u v : ℕ} → Crossing u v x y → ((e : ℕ) → Member u e → Holder g m d e ↔ (Member x e ⊎ Member y e)) → (e : ℕ) → Member u e → Candidate m e d → Member x e ⊎ Member y e
+      corner {u} k here e p t =
+          let c = meeting k in
+          here e p .0 (holder-open g ok m ad u d (⊎-elim (λ p. omega arith) (λ p. omega arith) (k .lines)) (c .1) (here (c .0) (c .1) .1 (inl (c .2))) p t)
+
+  -- ---- the turns of the three passes
+
   pair-reach : (u i j : ℕ) → u < 27 → i < j → j < 9 → Reach g m (nakedPairAt g u (unitCell u i) (unitCell u j) m)
-  unfolding nakedPairAt
-  pair-reach u i j hu hi hj = reach-if g m (loseAll (isOpen g) (unit u) (nakedPairLoss m c e) m) (isNakedPair g m c e) one
+  pair-reach u i j hu ij hj = reach-test g (isNakedPair g m c e) (λ t. one (naked-pair g m small p q apart .0 t)) (naked-pair-none g m u c e)
     where
       c : ℕ
       c = unitCell u i
@@ -96,134 +81,52 @@ module _ (g : List ℕ) (ok : Givens g) (m : List ℕ) (ad : Admissible g m) whe
       e : ℕ
       e = unitCell u j
 
-      x : ℕ
-      x = at m c
+      small : (c : ℕ) → at m c < 512
+      small = mask-small g ok (ad .under)
 
-      small : x < 512
-      small = mask-small g ok (ad .under) c
+      p : Member u c
+      p = at-place u i (omega arith)
 
-      one : isNakedPair g m c e ≡ true → Reach g m (loseAll (isOpen g) (unit u) (nakedPairLoss m c e) m)
-      one t =
-          reach-eq g
-          (reach-by g m Pair (pair u i j a b) (pairStep u c e a b)
-          (pair-listed u i j a b hu hi hj (two .rise) (held-below x 9 b small (two .second))) (pair-step u i j a b)
-          (pair-applies m u c e a b (subst (λ (n : ℕ). n < 512) (two .is) small) (two .is) (sym same ∙ two .is)))
-          (ap (λ (n : ℕ). loseAll (isOpen g) (unit u) (λ z. cond (eqb z c || eqb z e) 0 n) m) (sym (two .is)))
-        where
-          a : ℕ
-          a = lowest x
+      q : Member u e
+      q = at-place u j hj
 
-          b : ℕ
-          b = lowest (tail x)
+      apart : c ≢ e
+      apart = cells-differ u i j hu (omega arith) hj (omega arith)
 
-          two : TwoDigits x
-          two = count-pair x (omega (arith, small)) (eqb-true (count x) 2 (both-right (isOpen g c && isOpen g e && eqb x (at m e)) (eqb (count x) 2) t))
+      one : (a : ℕ) × (b : ℕ) × NakedPair g m u c e a b → Reach g m (nakedPairAt g u c e m)
+      one w =
+          let s = w .2 in
+          reach-named g (pair-named g m u c e (w .0) (w .1) hu p q apart (held-below (at m c) 9 (w .0) (small c) (s .held₁ (w .0) .1 (inl refl))) (held-below (at m c) 9 (w .1) (small c) (s .held₁ (w .1) .1 (inr refl))) (s .digits))
+          (naked-pair-wide s) (naked-pair-loses g m hu s)
 
-          same : x ≡ at m e
-          same =
-              eqb-true x (at m e) (both-right (isOpen g c && isOpen g e) (eqb x (at m e))
-              (both-left (isOpen g c && isOpen g e && eqb x (at m e)) (eqb (count x) 2) t))
-
-  -- box-line over any two units
-  locked-reach : (u v d : ℕ) (k : Kind) (x : Instance) → u < 27 → List·Memᴰ x (instances k) → stepOf x ≡ lockedStep u v d → Reach g m (boxLineAt g u v d m)
-  unfolding boxLineAt
-  locked-reach u v d k x hu h e =
-      reach-if g m (loseAll (isOpen g) (unit v) (λ e. cond (inUnit u e) 0 (only d)) m) (isBoxLine g m u v d)
-      (λ t. reach-by g m k x (lockedStep u v d) h e (confined g ok m ad u d hu (inUnit v) (omega (arith, enough t)) (λ i l. inside t i l)))
+  box-reach : (b d k : ℕ) → b < 9 → d < 9 → k < 6 → Reach g m (boxLineAt g (18 + b) (lineOf b k) d m)
+  box-reach b d k hb hd hk =
+      reach-test g (isBoxLine g m (18 + b) (lineOf b k) d) (λ t. one (pointing g m (omega arith) (line-below b k hb hk) d .0 t)) (pointing-none g m (omega arith) (line-below b k hb hk) d)
     where
-      enough : isBoxLine g m u v d ≡ true → 2 ≤ count (spots g m u d)
-      enough t = leb-true 2 (count (spots g m u d)) (both-left (leb 2 (count (spots g m u d))) _ t)
+      one : Pointing g m (18 + b) (lineOf b k) d → Reach g m (boxLineAt g (18 + b) (lineOf b k) d m)
+      one s =
+          reach-named g (pointing-named g m (18 + b) (lineOf b k) d (line-meets b k hb hk) hd) (pointing-wide (omega arith) s)
+          (pointing-loses g m (omega arith) (line-below b k hb hk) d s)
 
-      inside : isBoxLine g m u v d ≡ true → (i : ℕ) → i < 9 → holds g m d (unitCell u i) ≡ true → inUnit v (unitCell u i) ≡ true
-      inside t i l =
-          or-implied (holds g m d (unitCell u i)) (inUnit v (unitCell u i))
-          (all-member _ (unit u) (both-right (leb 2 (count (spots g m u d))) _ t) (unitCell u i) (place-mem (unit u) 81 i (omega (arith, unit-length u hu))))
-
--- ---- X-wing
-
--- One of X-wing's two phases: lines is the first of the nine units that are listed, across the first of those that cross them, and make the instance.
-record Phase (lines across : ℕ) (make : ℕ → ℕ → ℕ → ℕ → ℕ → Instance) : Type 0 where
-  within : (r : ℕ) → r < 9 → lines + r < 27
-  meets : (r i : ℕ) → r < 9 → i < 9 → inUnit (across + i) (unitCell (lines + r) i) ≡ true
-  listed : (d r s a b : ℕ) → d < 9 → r < s → s < 9 → a < b → b < 9 → List·Memᴰ (make d r s a b) (instances Cross)
-  step : (d r s a b : ℕ) → stepOf (make d r s a b) ≡ crossStep d (lines + r) (lines + s) (across + a) (across + b)
-
-rows : Phase 0 9 cross
-unfolding stepOf unit units
-rows =
-    record {
-      within = λ r h. omega arith;
-      meets = λ r i h k. T-true (inUnit (9 + i) (unitCell (0 + r) i)) (below-both 9 9 (λ r i. inUnit (9 + i) (unitCell (0 + r) i)) tt r i h k);
-      listed = cross-listed;
-      step = λ d r s a b. rw (zero-add r, zero-add s);
-    }
-
-columns : Phase 9 0 exchanged
-unfolding stepOf unit units
-columns =
-    record {
-      within = λ r h. omega arith;
-      meets = λ r i h k. T-true (inUnit (0 + i) (unitCell (9 + r) i)) (below-both 9 9 (λ r i. inUnit (0 + i) (unitCell (9 + r) i)) tt r i h k);
-      listed = exchanged-listed;
-      step = λ d r s a b. rw (zero-add a, zero-add b);
-    }
-
--- a cell of one of two lines
-abbrev inEither : ℕ → ℕ → ℕ → Bool
-inEither x y e = inUnit x e || inUnit y e
-
--- n are the masks at the digit's start
-module _ (g : List ℕ) (ok : Givens g) {lines across : ℕ} {make : ℕ → ℕ → ℕ → ℕ → ℕ → Instance} (phase : Phase lines across make) (n : List ℕ) (ad : Admissible g n) where
-  -- a line whose spots are a and b holds d in the crossing lines a and b alone
-  line-confined : (d r a b : ℕ) → r < 9 → 0 < count (spots g n (lines + r) d) → spots g n (lines + r) d ≡ both a b
-      → all (λ e. lacks n e (cond (inEither (across + a) (across + b) e) 0 (only d))) (unit (lines + r)) ≡ true
-  line-confined d r a b h some e =
-      confined g ok n ad (lines + r) d (phase .within r h) (inEither (across + a) (across + b)) some
-      (λ i l t. either (inUnit (across + a) (unitCell (lines + r) i)) (inUnit (across + b) (unitCell (lines + r) i)) .1
-      (⊎-elim (λ q. inl (at-corner i a l q)) (λ q. inr (at-corner i b l q)) (held-both a b i (subst (λ (x : ℕ). Held x i) e (has-spots g n (lines + r) d i l ∙ t)))))
+  -- The test reads m, the masks at the digit's start, and the removal is from later masks o.
+  wing-reach : {k u v d : ℕ} → Line k u → Line k v → u ≢ v → d < 9 → (o : List ℕ) → Reach g m o → Reach g m (xWingAt g m k d u v o)
+  wing-reach {k} {u} {v} {d} l l′ apart hd o r =
+      reach-trans g r (reach-test g (isXWing g m u v d) (λ t. one (x-wing g m d l l′ apart .0 t)) (x-wing-none g m d l l′ o))
     where
-      at-corner : (i c : ℕ) → i < 9 → i ≡ c → inUnit (across + c) (unitCell (lines + r) i) ≡ true
-      at-corner i c l q = subst (λ (k : ℕ). inUnit (across + k) (unitCell (lines + r) i) ≡ true) q (phase .meets r i h l)
+      one : (x : ℕ) × (y : ℕ) × XWing g m u v x y d → Reach g o (xWingAt g m k d u v o)
+      one w =
+          reach-named g (cross-named g o u v (w .0) (w .1) d (w .2 .crossing) hd) (cross-down (reach-under g r) (x-wing-wide (w .2)))
+          (x-wing-loses g m d l l′ o (w .2))
 
-  -- The test reads n, and the removal is from later masks m: the condition goes on holding.
-  wing-reach : (d r s : ℕ) → d < 9 → r < s → s < 9 → (m : List ℕ) → Reach g n m → Reach g n (xWingAt g n across d (lines + r) (lines + s) m)
-  unfolding xWingAt
-  wing-reach d r s hd hr hs m p = reach-trans g p (reach-if g m _ (isXWing g n (lines + r) (lines + s) d) one)
-    where
-      x : ℕ
-      x = spots g n (lines + r) d
-
-      a : ℕ
-      a = lowest x
-
-      b : ℕ
-      b = lowest (tail x)
-
-      corners : Step
-      corners = crossStep d (lines + r) (lines + s) (across + a) (across + b)
-
-      one : isXWing g n (lines + r) (lines + s) d ≡ true → Reach g m (loseAll (isOpen g) (corners .hits) (corners .loses) m)
-      one t =
-          reach-by g m Cross (make d r s a b) corners (phase .listed d r s a b hd hr hs (two .rise) (held-below x 9 b (spots-lt g n (lines + r) d) (two .second)))
-          (phase .step d r s a b)
-          (applies-down (isOpen g) corners (reach-under g p)
-          (all-append _ (unit (lines + r)) (unit (lines + s)) (line-confined d r a b (omega arith) (omega (arith, twice)) (two .is))
-          (line-confined d s a b hs (omega (arith, twice, ap (λ (k : ℕ). count k) same)) (sym same ∙ two .is))))
-        where
-          twice : count x ≡ 2
-          twice = eqb-true (count x) 2 (both-left (eqb (count x) 2) (eqb x (spots g n (lines + s) d)) t)
-
-          same : x ≡ spots g n (lines + s) d
-          same = eqb-true x (spots g n (lines + s) d) (both-right (eqb (count x) 2) (eqb x (spots g n (lines + s) d)) t)
-
-          two : TwoDigits x
-          two = count-pair x (omega (arith, spots-lt g n (lines + r) d)) twice
-
-  digit-reach : (d : ℕ) → d < 9 → Reach g n (xWingDigit g lines across d n)
+  -- the lines from unit l on are crossed by those from unit k on
+  digit-reach : (l k : ℕ) → ((r : ℕ) → r < 9 → Line k (l + r)) → (d : ℕ) → d < 9 → Reach g m (xWingDigit g l k d m)
   unfolding xWingDigit
-  digit-reach d hd =
-      each-keeps _ (Reach g n) (upTo 9)
-      (λ r k. each-keeps _ (Reach g n) (above r 9) (λ s l m p. wing-reach d r s hd (in-above r 9 s l .0) (in-above r 9 s l .1) m p)) n start
+  digit-reach l k line d hd =
+      each-keeps _ (Reach g m) (upTo 9)
+      (λ r p. each-keeps _ (Reach g m) (above r 9) (λ s q o. one r s (in-above r 9 s q) o)) m start
+    where
+      one : (r s : ℕ) → (r < s) × (s < 9) → (o : List ℕ) → Reach g m o → Reach g m (xWingAt g m k d (l + r) (l + s) o)
+      one r s h o = wing-reach (line r (omega arith)) (line s (omega arith)) (omega arith) hd o
 
 -- ---- the three passes
 
@@ -245,11 +148,10 @@ boxLines-reach g m ok ad =
     each-keeps _ (Reach g m) (upTo 9)
     (λ b hb. each-keeps _ (Reach g m) (upTo 9)
     (λ d hd. loop-reach g m ad _ (upTo 6)
-    (λ k hk n a. locked-reach g ok n a (18 + b) (lineOf b k) d Pointing (pointing b d k) (omega (arith, in-upTo 9 b hb))
-    (pointing-listed b d k (in-upTo 9 b hb) (in-upTo 9 d hd) (in-upTo 6 k hk)) (pointing-step b d k)))) m start
+    (λ k hk n a. box-reach g ok n a b d k (in-upTo 9 b hb) (in-upTo 9 d hd) (in-upTo 6 k hk)))) m start
 
 pub xWings-reach : (g m : List ℕ) → Givens g → Admissible g m → Reach g m (xWings g m)
 unfolding xWings
 xWings-reach g m ok ad =
-    loop-reach g m ad (xWingDigit g 9 0) (upTo 9) (λ d hd n a. digit-reach g ok columns n a d (in-upTo 9 d hd)) _
-    (loop-reach g m ad (xWingDigit g 0 9) (upTo 9) (λ d hd n a. digit-reach g ok rows n a d (in-upTo 9 d hd)) m start)
+    loop-reach g m ad (xWingDigit g 9 0) (upTo 9) (λ d hd n a. digit-reach g ok n a 9 0 (λ r h. inr (omega arith, omega arith, refl)) d (in-upTo 9 d hd)) _
+    (loop-reach g m ad (xWingDigit g 0 9) (upTo 9) (λ d hd n a. digit-reach g ok n a 0 9 (λ r h. inl (omega arith, refl)) d (in-upTo 9 d hd)) m start)

@@ -2,26 +2,26 @@
 use mathlib.Core.Path.{_≡_, refl, sym, ap, _∙_, subst}
 use mathlib.Core.Logic.{_≢_, _⊎_, _↔_, inl, inr, ⊎-elim}
 use mathlib.Core.Bool.{Bool, true, false, cond, not, _&&_, _||_, true≢false}
-use mathlib.Core.List.{List, _++_, List·Memᴰ}
+use mathlib.Core.List.{List, _++_}
 use Prim.Native.Nat.{ℕ, _+_, _-_, _≤_, _<_}
 use native.Mathlib.Omega.{arith}
-use borrow.Author.Tests.{eqb-true, eq-eqb, eqb-false, ne-eqb, leb-true, le-leb, lt-ltb, le-ltb}
+use borrow.Author.Tests.{eqb-true, eq-eqb, leb-true, le-leb, lt-ltb, le-ltb}
 use lib.Dec.{eqb, leb, ltb}
-use Rattle.candidates.specs.Masks.{count, lowest, tail}
-use Rattle.candidates.proofs.Tests.{cond-true, cond-false, both, both-left, both-right, neither, or-implied}
+use Rattle.candidates.specs.Masks.{count, lowest, tail, single}
+use Rattle.candidates.proofs.Tests.{cond-true, cond-false, both, both-left, both-right, or-implied}
 use Rattle.grid.specs.Units.{unit, unitCell, inUnit, Member}
 use Rattle.grid.proofs.Units.{placeIn, cell-below, cell-place, at-place, cells-differ, member-below, member-in, in-member, member-mem, mem-member, in-row, in-col}
 use Rattle.steps.specs.Boards.{at, isOpen}
-use Rattle.steps.specs.Instances.{only}
 use Rattle.steps.specs.Loops.{all}
 use Rattle.steps.specs.Ported.{holds, spots, isNakedPair, nakedPairLoss, nakedPairAt, isBoxLine, boxLineAt, isXWing, firstAcross, secondAcross, xWingAt}
-use Rattle.steps.specs.Published.{Holder, Without, NakedPair, NakedPairLoss, Pointing, PointingLoss, Rows, Columns, XWing, XWingLoss}
+use Rattle.steps.specs.Published.{Holder, Without, NakedPair, NakedPairLoss, Pointing, LockedLoss, Rows, Columns, XWing, XWingLoss}
 use Rattle.steps.specs.Steps.{loseAll}
 use Rattle.candidates.proofs.FewDigits.{Two, two-ext, two-count, count-two, two-same, More, more-count, count-more}
-use Rattle.candidates.proofs.Held.{Held, held-power}
+use Rattle.candidates.proofs.Held.{Held}
 use Rattle.steps.proofs.Loops.{all-member, member-all}
-use Rattle.steps.proofs.Losses.{Lost, lost-when, held-unless}
-use Rattle.steps.proofs.Spots.{in-either, outside, holder-holds, holds-holder, spots-small, spot-below, spot-holder, holder-spot, member-spot}
+use Rattle.steps.proofs.Effects.{pair-lost, locked-lost, cross-lost}
+use Rattle.steps.proofs.Losses.{lost-when}
+use Rattle.steps.proofs.Spots.{holder-holds, holds-holder, spots-small, spot-below, spot-holder, holder-spot, member-spot}
 
 -- ---- naked pairs
 
@@ -62,27 +62,7 @@ module _ (g m : List ℕ) where
   pub naked-pair-loses : {u c e a b : ℕ} → u < 27 → NakedPair g m u c e a b → Without m (NakedPairLoss g u c e a b) (nakedPairAt g u c e m)
   unfolding nakedPairAt
   naked-pair-loses {u} {c} {e} {a} {b} h s =
-      lost-when (isOpen g) (nakedPairLoss m c e) (isNakedPair g m c e) (unit u) m (NakedPairLoss g u c e a b) (pair-two s) (λ x d. (there x d, back x d))
-    where
-      there : (x d : ℕ) → NakedPairLoss g u c e a b x d → Lost (isOpen g) (nakedPairLoss m c e) (unit u) x d
-      there x d l =
-          record {
-            listed = member-mem h (l .member);
-            free = l .free;
-            digit = held-unless (eqb x c || eqb x e) (at m c) d .1 (neither (eqb x c) (eqb x e) .1 (ne-eqb x c (l .other₁), ne-eqb x e (l .other₂)), s .held₁ d .1 (l .digit));
-          }
-
-      back : (x d : ℕ) → Lost (isOpen g) (nakedPairLoss m c e) (unit u) x d → NakedPairLoss g u c e a b x d
-      back x d l =
-          let w = held-unless (eqb x c || eqb x e) (at m c) d .0 (l .digit) in
-          let v = neither (eqb x c) (eqb x e) .0 (w .0) in
-          record {
-            member = mem-member h (l .listed);
-            free = l .free;
-            other₁ = eqb-false x c (v .0);
-            other₂ = eqb-false x e (v .1);
-            digit = s .held₁ d .0 (w .1);
-          }
+      lost-when (isOpen g) (nakedPairLoss m c e) (isNakedPair g m c e) (unit u) m (NakedPairLoss g u c e a b) (pair-two s) (pair-lost g c e (at m c) h (s .held₁))
 
   pub naked-pair-none : (u c e : ℕ) → isNakedPair g m c e ≡ false → nakedPairAt g u c e m ≡ m
   unfolding nakedPairAt
@@ -136,31 +116,14 @@ module _ (g m : List ℕ) {u v : ℕ} (h : u < 27) (k : v < 27) (d : ℕ) where
   pub pointing : (isBoxLine g m u v d ≡ true) ↔ Pointing g m u v d
   pointing = (line-pointing, pointing-line)
 
-  pub pointing-loses : Pointing g m u v d → Without m (PointingLoss g u v d) (boxLineAt g u v d m)
+  pub pointing-loses : Pointing g m u v d → Without m (LockedLoss g u v d) (boxLineAt g u v d m)
   unfolding boxLineAt
   pointing-loses s =
-      lost-when (isOpen g) loss (isBoxLine g m u v d) (unit v) m (PointingLoss g u v d) (pointing-line s) (λ x n. (there x n, back x n))
-    where
-      loss : ℕ → ℕ
-      loss e = cond (inUnit u e) 0 (only d)
-
-      there : (x n : ℕ) → PointingLoss g u v d x n → Lost (isOpen g) loss (unit v) x n
-      there x n l =
-          record {
-            listed = member-mem k (l .member);
-            free = l .free;
-            digit = held-unless (inUnit u x) (only d) n .1 (outside u x h (member-below k (l .member)) .1 (l .outside), held-power d n .1 (l .digit));
-          }
-
-      back : (x n : ℕ) → Lost (isOpen g) loss (unit v) x n → PointingLoss g u v d x n
-      back x n l =
-          let w = held-unless (inUnit u x) (only d) n .0 (l .digit) in
-          let p = mem-member k (l .listed) in
-          record { member = p; free = l .free; outside = outside u x h (member-below k p) .0 (w .0); digit = held-power d n .0 (w .1) }
+      lost-when (isOpen g) (λ e. cond (inUnit u e) 0 (single d)) (isBoxLine g m u v d) (unit v) m (LockedLoss g u v d) (pointing-line s) (locked-lost g h k d)
 
   pub pointing-none : isBoxLine g m u v d ≡ false → boxLineAt g u v d m ≡ m
   unfolding boxLineAt
-  pointing-none t = cond-false (isBoxLine g m u v d) (loseAll (isOpen g) (unit v) (λ e. cond (inUnit u e) 0 (only d)) m) m t
+  pointing-none t = cond-false (isBoxLine g m u v d) (loseAll (isOpen g) (unit v) (λ e. cond (inUnit u e) 0 (single d)) m) m t
 
 -- ---- X-wing
 
@@ -257,10 +220,10 @@ module _ (g n : List ℕ) (d : ℕ) where
         }
       where
         f : (x ≡ k + (x - k)) × (x - k < 9) × (y ≡ k + (y - k)) × (y - k < 9)
-        f = crossed l (s .lines)
+        f = crossed l (s .crossing .lines)
 
         apart : x - k ≢ y - k
-        apart q = s .apart₂ (omega (arith, f .0, f .2))
+        apart q = s .crossing .apart₂ (omega (arith, f .0, f .2))
 
         put : (w : ℕ) → Corners w x y → Corners w (k + (x - k)) (k + (y - k))
         put w t = subst (λ (z : ℕ). Corners w z (k + (y - k))) (f .0) (subst (λ (z : ℕ). Corners w x z) (f .2) t)
@@ -284,9 +247,7 @@ module _ (g n : List ℕ) (d : ℕ) where
             let h = spot-below g n u d a (w .held a .1 (inl refl)) in
             let h′ = spot-below g n u d b (w .held b .1 (inr refl)) in
             record {
-              lines = crosses l l′ h h′;
-              apart₁ = apart;
-              apart₂ = λ q. w .apart (cancel k a b q);
+              crossing = record { lines = crosses l l′ h h′; apart₁ = apart; apart₂ = λ q. w .apart (cancel k a b q) };
               corner₁ = two-corners l h h′ w;
               corner₂ = two-corners l′ h h′ (subst (λ (x : ℕ). Two x a b) same w);
             }
@@ -307,48 +268,12 @@ module _ (g n : List ℕ) (d : ℕ) where
     pub x-wing-loses : {x y : ℕ} (m : List ℕ) → XWing g n u v x y d → Without m (XWingLoss g u v x y d) (xWingAt g n k d u v m)
     unfolding xWingAt
     x-wing-loses {x} {y} m w =
-        lost-when (isOpen g) loss (isXWing g n u v d) (unit f ++ unit s) m (XWingLoss g u v x y d) (wing-test w) (λ e i. (there e i, back e i))
+        lost-when (isOpen g) (λ e. cond (inUnit u e || inUnit v e) 0 (single d)) (isXWing g n u v d)
+        (unit (firstAcross k (spots g n u d)) ++ unit (secondAcross k (spots g n u d))) m (XWingLoss g u v x y d)
+        (wing-test w) (cross-lost g (line-unit l) (line-unit l′) (units .0) (units .1) (x-wing-lines w) d)
       where
-        f : ℕ
-        f = firstAcross k (spots g n u d)
-
-        s : ℕ
-        s = secondAcross k (spots g n u d)
-
-        loss : ℕ → ℕ
-        loss e = cond (inUnit u e || inUnit v e) 0 (only d)
-
         units : (x < 27) × (y < 27)
-        units = ⊎-elim (λ p. omega arith) (λ p. omega arith) (w .lines)
-
-        cells : (e : ℕ) → List·Memᴰ e (unit f ++ unit s) ↔ (Member x e ⊎ Member y e)
-        cells = in-either (units .0) (units .1) (x-wing-lines w)
-
-        below : (e : ℕ) → Member x e ⊎ Member y e → e < 81
-        below e = ⊎-elim (member-below (units .0)) (member-below (units .1))
-
-        there : (e i : ℕ) → XWingLoss g u v x y d e i → Lost (isOpen g) loss (unit f ++ unit s) e i
-        there e i r =
-            record {
-              listed = cells e .1 (r .member);
-              free = r .free;
-              digit =
-                  held-unless (inUnit u e || inUnit v e) (only d) i .1
-                  (neither (inUnit u e) (inUnit v e) .1 (outside u e (line-unit l) (below e (r .member)) .1 (r .outside₁), outside v e (line-unit l′) (below e (r .member)) .1 (r .outside₂)), held-power d i .1 (r .digit));
-            }
-
-        back : (e i : ℕ) → Lost (isOpen g) loss (unit f ++ unit s) e i → XWingLoss g u v x y d e i
-        back e i r =
-            let p = cells e .0 (r .listed) in
-            let q = held-unless (inUnit u e || inUnit v e) (only d) i .0 (r .digit) in
-            let o = neither (inUnit u e) (inUnit v e) .0 (q .0) in
-            record {
-              member = p;
-              free = r .free;
-              outside₁ = outside u e (line-unit l) (below e p) .0 (o .0);
-              outside₂ = outside v e (line-unit l′) (below e p) .0 (o .1);
-              digit = held-power d i .0 (q .1);
-            }
+        units = ⊎-elim (λ p. omega arith) (λ p. omega arith) (w .crossing .lines)
 
     pub x-wing-none : (m : List ℕ) → isXWing g n u v d ≡ false → xWingAt g n k d u v m ≡ m
     unfolding xWingAt

@@ -1,8 +1,8 @@
 -- The ported eliminations as whole passes: turn by turn in the paper's order, each turn the published pattern at that moment. Assumes nothing.
-use mathlib.Core.Path.{_≡_, refl, sym, ap, _∙_, subst}
+use mathlib.Core.Path.{_≡_, refl, ap, _∙_}
 use mathlib.Core.Logic.{_↔_, inl, inr}
-use mathlib.Core.Bool.{Bool, true, false, true≢false}
-use mathlib.Core.List.{List, [], _∷_, List·Memᴰ, List·Memᴰ·head, List·Memᴰ·tail}
+use mathlib.Core.Bool.{Bool, true}
+use mathlib.Core.List.{List}
 use Prim.Native.Nat.{ℕ, _+_, _<_}
 use native.Mathlib.Omega.{arith}
 use Rattle.candidates.proofs.Order.{sub-le}
@@ -13,58 +13,15 @@ use Rattle.steps.specs.Boards.{at, isOpen, Givens, Admissible}
 use Rattle.steps.specs.Instances.{lineOf}
 use Rattle.steps.specs.Loops.{each, upTo, above}
 use Rattle.steps.specs.Ported.{isNakedPair, nakedPairLoss, nakedPairAt, nakedPairs, isBoxLine, boxLineAt, boxLines, isXWing, xWingAt, xWingDigit, xWings}
-use Rattle.steps.specs.Published.{Without, Pointing, Turn, Turns, done, next, NakedPairTurn, PointingTurn, XWingTurn, NakedPairPass, BoxLinePass, XWingDigit, XWingPass}
+use Rattle.steps.specs.Published.{Pointing, Turns, NakedPairTurn, PointingTurn, XWingTurn, NakedPairPass, BoxLinePass, XWingDigit, XWingPass}
 use Rattle.steps.specs.Steps.{loseAll}
 use Rattle.steps.proofs.Fresh.{mask-small}
 use Rattle.steps.proofs.Loops.{in-upTo, in-above}
 use Rattle.steps.proofs.Losses.{without-same}
+use Rattle.steps.proofs.PassTurns.{each-turns, turn-by, Any}
 use Rattle.steps.proofs.Published.{naked-pair, naked-pair-loses, naked-pair-none, pointing, pointing-loses, pointing-none, Line, x-wing, x-wing-loses, x-wing-none}
 use Rattle.steps.proofs.Steps.{all-under}
 use Rattle.steps.proofs.Instances.{line-below}
-
--- ---- turns
-
-turns-none : {A : Type 0} {turn : A → List ℕ → List ℕ → Type 0} {m n : List ℕ} → Turns turn [] m n → n ≡ m
-turns-none done = refl
-
-turns-first : {A : Type 0} {turn : A → List ℕ → List ℕ → Type 0} {x : A} {xs : List A} {m o : List ℕ} → Turns turn (x ∷ xs) m o → (n : List ℕ) × turn x m n × Turns turn xs n o
-turns-first (next {n = n} t r) = (n, t, r)
-
--- a loop whose every turn is as described, and keeps what its turns need
-each-turns : {A : Type 0} {f : A → List ℕ → List ℕ} {turn : A → List ℕ → List ℕ → Type 0} (P : List ℕ → Type 0) (xs : List A)
-    → ((x : A) → List·Memᴰ x xs → (m : List ℕ) → P m → ((n : List ℕ) → turn x m n ↔ (n ≡ f x m)) × P (f x m))
-    → (m : List ℕ) → P m → ((n : List ℕ) → Turns turn xs m n ↔ (n ≡ each f xs m)) × P (each f xs m)
-unfolding each
-each-turns {turn = turn} P [] h m p = (λ n. (turns-none, λ e. subst (λ (o : List ℕ). Turns turn [] m o) (sym e) done), p)
-each-turns {A} {f} {turn} P (x ∷ xs) h m p = go (h x (List·Memᴰ·head refl) m p) (λ q. each-turns P xs (λ y k. h y (List·Memᴰ·tail k)) (f x m) q)
-  where
-    go : ((n : List ℕ) → turn x m n ↔ (n ≡ f x m)) × P (f x m)
-        → (P (f x m) → ((o : List ℕ) → Turns turn xs (f x m) o ↔ (o ≡ each f xs (f x m))) × P (each f xs (f x m)))
-        → ((o : List ℕ) → Turns turn (x ∷ xs) m o ↔ (o ≡ each f xs (f x m))) × P (each f xs (f x m))
-    go now later = (λ o. (λ t. down o (turns-first t), λ e. next (now .0 (f x m) .1 refl) (later (now .1) .0 o .1 e)), later (now .1) .1)
-      where
-        down : (o : List ℕ) → (n : List ℕ) × turn x m n × Turns turn xs n o → o ≡ each f xs (f x m)
-        down o w = later (now .1) .0 o .0 (subst (λ (n : List ℕ). Turns turn xs n o) (now .0 (w .0) .0 (w .1)) (w .2))
-
--- a turn by its test: k is what the turn makes of m
-turn-by : {A : Type 0} {pattern : A → Type 0} {loss : A → ℕ → ℕ → Type 0} {m k : List ℕ} (t : Bool)
-    → (t ≡ true) ↔ ((a : A) × pattern a) → ((a : A) → pattern a → Without m (loss a) k) → (t ≡ false → k ≡ m) → (n : List ℕ) → Turn pattern loss m n ↔ (n ≡ k)
-turn-by {A} {pattern} {loss} {m} {k} t test some none n = (λ w. there w t refl, λ e. subst (λ (o : List ℕ). Turn pattern loss m o) (sym e) here)
-  where
-    stays : ((a : A) → ¬ (pattern a)) → (b : Bool) → t ≡ b → k ≡ m
-    stays no-such true e =
-        let w = test .0 e in
-        absurd (no-such (w .0) (w .1))
-    stays no-such false e = none e
-
-    here : Turn pattern loss m k
-    here = record { some = some; none = λ no-such. stays no-such t refl }
-
-    there : Turn pattern loss m n → (b : Bool) → t ≡ b → n ≡ k
-    there w true e =
-        let a = test .0 e in
-        without-same (w .some (a .0) (a .1)) (some (a .0) (a .1))
-    there w false e = w .none (λ a p. true≢false (sym (test .1 (a, p)) ∙ e)) ∙ sym (none e)
 
 -- two numbers as one
 paired : {t : Bool} {P : ℕ → ℕ → Type 0} → (t ≡ true) ↔ ((a : ℕ) × (b : ℕ) × P a b) → (t ≡ true) ↔ ((w : ℕ × ℕ) × P (w .0) (w .1))
@@ -72,10 +29,6 @@ paired {t} {P} test = (λ e. first (test .0 e), λ w. test .1 (w .0 .0, w .0 .1,
   where
     first : (a : ℕ) × (b : ℕ) × P a b → (w : ℕ × ℕ) × P (w .0) (w .1)
     first w = ((w .0, w .1), w .2)
-
--- what a turn that needs nothing needs
-abbrev Any : List ℕ → Type 0
-Any m = Unit {0}
 
 -- ---- naked pairs
 
@@ -92,7 +45,7 @@ module _ (g : List ℕ) where
   pub naked-pair-turn : (u i j : ℕ) → u < 27 → i < j → j < 9 → (m : List ℕ) → Small m
       → (n : List ℕ) → NakedPairTurn g u (unitCell u i) (unitCell u j) m n ↔ (n ≡ nakedPairAt g u (unitCell u i) (unitCell u j) m)
   naked-pair-turn u i j h l k m small =
-      turn-by (isNakedPair g m (unitCell u i) (unitCell u j))
+      turn-by (λ w x y. without-same) (isNakedPair g m (unitCell u i) (unitCell u j))
       (paired (naked-pair g m small (at-place u i (omega arith)) (at-place u j k) (cells-differ u i j h (omega arith) k (omega arith))))
       (λ w s. naked-pair-loses g m h s) (naked-pair-none g m u (unitCell u i) (unitCell u j))
 
@@ -111,7 +64,7 @@ module _ (g : List ℕ) where
 
   pub box-line-turn : (b d k : ℕ) → b < 9 → k < 6 → (m n : List ℕ) → PointingTurn g (18 + b) (lineOf b k) d m n ↔ (n ≡ boxLineAt g (18 + b) (lineOf b k) d m)
   box-line-turn b d k h l m =
-      turn-by (isBoxLine g m (18 + b) (lineOf b k) d) (λ t. (tt, test .0 t), λ w. test .1 (w .1))
+      turn-by (λ w x y. without-same) (isBoxLine g m (18 + b) (lineOf b k) d) (λ t. (tt, test .0 t), λ w. test .1 (w .1))
       (λ w s. pointing-loses g m (omega arith) (line-below b k h l) d s) (pointing-none g m (omega arith) (line-below b k h l) d)
     where
       test : (isBoxLine g m (18 + b) (lineOf b k) d ≡ true) ↔ Pointing g m (18 + b) (lineOf b k) d
@@ -130,7 +83,7 @@ module _ (g : List ℕ) where
   module _ (l k : ℕ) (line : (r : ℕ) → r < 9 → Line k (l + r)) where
     pub x-wing-turn : (d r s : ℕ) → r < s → s < 9 → (o m n : List ℕ) → XWingTurn g o d (l + r) (l + s) m n ↔ (n ≡ xWingAt g o k d (l + r) (l + s) m)
     x-wing-turn d r s p q o m =
-        turn-by (isXWing g o (l + r) (l + s) d) (paired (x-wing g o d (line r (omega arith)) (line s q) (omega arith)))
+        turn-by (λ w x y. without-same) (isXWing g o (l + r) (l + s) d) (paired (x-wing g o d (line r (omega arith)) (line s q) (omega arith)))
         (λ w t. x-wing-loses g o d (line r (omega arith)) (line s q) m t) (x-wing-none g o d (line r (omega arith)) (line s q) m)
 
     x-wing-digit : (d : ℕ) (m n : List ℕ) → XWingDigit g l d m n ↔ (n ≡ xWingDigit g l k d m)

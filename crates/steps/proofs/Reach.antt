@@ -10,7 +10,7 @@ use Rattle.steps.specs.Loops.{each}
 use Rattle.steps.specs.Passes.{Kind, kinds, instances, instanceTaken, pass, sweep, Settled}
 use Rattle.steps.proofs.Loops.{each-keeps}
 use Rattle.steps.proofs.Masks.{under-refl, under-trans, under-eq, under-antisym}
-use Rattle.steps.proofs.Steps.{take-under, take-length, take-shut, Closed, closed-stays}
+use Rattle.steps.proofs.Steps.{take-under, take-length, take-shut, take-mono}
 
 module _ (g : List ℕ) where
   -- n comes from m by instances of the wide passes, one after the other
@@ -58,21 +58,14 @@ module _ (g : List ℕ) where
   unfolding sweep
   sweep-reach m = each-reach (pass g) kinds (λ k h n. pass-reach k n) m
 
-  -- ---- masks that no instance lowers
+  -- ---- settled masks
 
-  -- every instance leaves z alone
-  pub record Still (z : List ℕ) : Type 0 where
-    pub closed : (k : Kind) (x : Instance) → List·Memᴰ x (instances k) → Closed (isOpen g) z (stepOf x)
-
-  pub settled-still : {z : List ℕ} → Settled g z → Still z
-  settled-still s = record { closed = λ k x h. record { stays = under-eq (sym (s .still k x h)) } }
-
-  -- what every instance leaves alone stays below all that is reached from above it
-  pub reach-keeps : {z m n : List ℕ} → Still z → Under z m → Reach m n → Under z n
+  -- they stay below all that is reached from above them
+  pub reach-keeps : {z m n : List ℕ} → Settled g z → Under z m → Reach m n → Under z n
   reach-keeps s p start = p
-  reach-keeps s p (next q k x h) = closed-stays (isOpen g) (stepOf x) (s .closed k x h) (reach-keeps s p q)
+  reach-keeps s p (next {n = n} q k x h) = under-trans (under-eq (sym (s .still k x h))) (take-mono (isOpen g) (stepOf x) (reach-keeps s p q))
 
   -- Confluence: two settled ends of one start are the same.
   pub one-end : {m n o : List ℕ} → Reach m n → Reach m o → Settled g n → Settled g o → n ≡ o
   one-end p q s t =
-      under-antisym (reach-length p ∙ sym (reach-length q)) (reach-keeps (settled-still s) (reach-under p) q) (reach-keeps (settled-still t) (reach-under q) p)
+      under-antisym (reach-length p ∙ sym (reach-length q)) (reach-keeps s (reach-under p) q) (reach-keeps t (reach-under q) p)

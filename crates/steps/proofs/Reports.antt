@@ -1,150 +1,125 @@
--- Singles: each test is the published single, and the reports are just those singles. Assumes nothing.
-use mathlib.Core.Path.{_≡_, refl, sym, ap, _∙_}
-use mathlib.Core.Logic.{_↔_}
+-- Singles: each test is the published single, the reports are those of the published pass in its order, and so each is a single. Assumes nothing.
+use mathlib.Core.Path.{_≡_, refl, sym, ap, _∙_, subst}
+use mathlib.Core.Logic.{_↔_, ⊎-elim}
 use mathlib.Core.Bool.{Bool, true, false, cond, _&&_, true≢false}
-use mathlib.Core.List.{List, [], _∷_, _++_, map, List·Memᴰ, List·Memᴰ·head, List·Memᴰ·not-nil, List·Memᴰ·eq-of-singleton}
+use mathlib.Core.List.{List, [], _∷_, _++_, append-nil, List·Memᴰ, List·Memᴰ·not-nil, List·Memᴰ·append-cases, List·Memᴰ·eq-of-singleton}
 use mathlib.Core.Option.{Option, none, some}
-use Prim.Native.Nat.{ℕ, zero, suc, _+_, _<_}
-use native.Mathlib.Nat.{not-suc-le-zero}
+use Prim.Native.Nat.{ℕ, suc, _+_, _<_}
 use native.Mathlib.Numerals.{add-one}
 use native.Mathlib.Omega.{arith}
 use borrow.Author.Tests.{eqb-true, eq-eqb, ne-eqb}
 use lib.Dec.{eqb}
-use lib.IntN.{ℤ, pos, natAbs}
-use lib.ListN.{length, getD}
-use Rattle.candidates.specs.Masks.{nine, count, lowest}
+use lib.IntN.{ℤ, pos}
+use Rattle.candidates.specs.Masks.{lowNine, count, lowest}
 use Rattle.candidates.specs.Sets.{onlyOf}
-use Rattle.grid.specs.Cells.{cells}
-use Rattle.grid.specs.Lists.{range, select}
-use Rattle.grid.specs.Units.{unitCell}
-use Rattle.grid.proofs.Lists.{mem-range, mem-select, place-mem}
-use Rattle.candidates.proofs.Tests.{cond-true, cond-false}
-use Rattle.steps.specs.Boards.{at, isOpen}
-use Rattle.steps.specs.Calls.{isSome}
-use Rattle.steps.specs.Loops.{for, upTo}
-use Rattle.steps.specs.Ported.{spots}
-use Rattle.steps.specs.Published.{Open, NakedSingle, HiddenSingle, Rising}
-use Rattle.steps.specs.Singles.{Report, reportIf, reportOnly, nakedAt, nakedSingles, hiddenSingles}
 use Rattle.candidates.proofs.FewDigits.{One, one-count, count-one}
-use Rattle.candidates.proofs.Only.{Says, single-says, single-is}
-use Rattle.steps.proofs.Loops.{in-for, for-in, for-same, in-upTo, upTo-in}
+use Rattle.candidates.proofs.Only.{Says, single-says}
+use Rattle.candidates.proofs.Tests.{cond-true, cond-false, both, both-left, both-right}
+use Rattle.grid.specs.Cells.{cells}
+use Rattle.grid.specs.Units.{unitCell}
+use Rattle.grid.proofs.Lists.{each-same}
+use Rattle.steps.specs.Boards.{at, isOpen}
+use Rattle.steps.specs.Loops.{each, for, upTo}
+use Rattle.steps.specs.Ported.{spots}
+use Rattle.steps.specs.Published.{NakedSingle, HiddenSingle, reportOf, Turn, NakedSingleTurn, HiddenSingleTurn, NakedSinglePass, HiddenSinglePass}
+use Rattle.steps.specs.Singles.{Report, reportIf, reportOnly, nakedAt, nakedSingles, hiddenSingles}
+use Rattle.steps.proofs.Loops.{each-adds, in-upTo}
+use Rattle.steps.proofs.PassTurns.{each-turns, turn-by, turns-keep, Any}
 use Rattle.steps.proofs.Spots.{spots-small, one-hidden, hidden-one}
+
+-- every report of the list is as Q says
+abbrev AllAre : (Report → Type 0) → List Report → Type 0
+AllAre Q rs = (r : Report) → List·Memᴰ r rs → Q r
 
 -- ---- one report, where a test holds
 
-abbrev pub reportOf : ℕ → ℕ → Report
-reportOf c d = record { cell = c; digit = suc d }
+reported : (t : Bool) (c d : ℕ) → t ≡ true → reportIf t c d ≡ reportOf c d ∷ []
+reported t c d e = cond-true t (record { cell = c; digit = d + 1 } ∷ []) [] e ∙ ap (λ (n : ℕ). record { cell = c; digit = n } ∷ []) (add-one d)
 
-one-report : (t : Bool) (x k c d : ℕ) → List·Memᴰ (reportOf c d) (reportIf t x k) ↔ ((t ≡ true) × (c ≡ x) × (d ≡ k))
-one-report true x k c d = (λ l. back (List·Memᴰ·eq-of-singleton l), λ w. List·Memᴰ·head (same (w .1) (w .2)))
-  where
-    back : reportOf c d ≡ record { cell = x; digit = k + 1 } → (true ≡ true) × (c ≡ x) × (d ≡ k)
-    back e =
-        let q : suc d ≡ k + 1 = ap (λ (r : Report). r .digit) e in
-        (refl, ap (λ (r : Report). r .cell) e, omega arith)
+-- a turn that reports where its test holds
+module _ {pattern : ℕ → Type 0} {report : ℕ → Report} (t : Bool) (test : (t ≡ true) ↔ ((a : ℕ) × pattern a)) (rs ss : List Report) where
+  report-turn : (c d : ℕ) → ((a : ℕ) → pattern a → report a ≡ reportOf c d) → Turn pattern (λ a ss. ss ≡ rs ++ report a ∷ []) rs ss ↔ (ss ≡ rs ++ reportIf t c d)
+  report-turn c d same =
+      turn-by (λ a x y p q. p ∙ sym q) t test
+      (λ a p. ap (λ (r : List Report). rs ++ r) (reported t c d (test .1 (a, p)) ∙ ap (λ (r : Report). r ∷ []) (sym (same a p))))
+      (λ e. ap (λ (r : List Report). rs ++ r) (cond-false t (record { cell = c; digit = d + 1 } ∷ []) [] e) ∙ append-nil rs) ss
 
-    same : c ≡ x → d ≡ k → reportOf c d ≡ record { cell = x; digit = k + 1 }
-    same p q = rw (p, q, ← add-one k)
-one-report false x k c d = (λ l. absurd (List·Memᴰ·not-nil l), λ w. absurd (true≢false (sym (w .0))))
+  -- what is so of the patterns' reports is so of all
+  report-keeps : (Q : Report → Type 0) → ((a : ℕ) → pattern a → Q (report a)) → Turn pattern (λ a ss. ss ≡ rs ++ report a ∷ []) rs ss → AllAre Q rs → AllAre Q ss
+  report-keeps Q holds w all = go t refl
+    where
+      go : (b : Bool) → t ≡ b → AllAre Q ss
+      go true e =
+          let a = test .0 e in
+          subst (AllAre Q) (sym (w .some (a .0) (a .1))) (λ r k. ⊎-elim (all r) (λ l. subst Q (sym (List·Memᴰ·eq-of-singleton l)) (holds (a .0) (a .1))) (List·Memᴰ·append-cases rs k))
+      go false e = subst (AllAre Q) (sym (w .none (λ a p. true≢false (sym (test .1 (a, p)) ∙ e)))) all
 
 -- ---- naked singles
 
--- a report of cell x is of x, and of the digit that an open x answers
-one-only : (g m : List ℕ) (x c d : ℕ) → List·Memᴰ (reportOf c d) (nakedAt g m x) ↔ ((c ≡ x) × Open g x × (onlyOf (at m x) ≡ some (pos (suc d))))
-one-only g m x c d = go (isOpen g x)
-  where
-    told : (o : Option ℤ) → Says (at m x) o → List·Memᴰ (reportOf c d) (reportOnly x o) → (c ≡ x) × (o ≡ some (pos (suc d)))
-    told none w l = absurd (List·Memᴰ·not-nil l)
-    told (some z) w l =
-        let e = List·Memᴰ·eq-of-singleton l in
-        let q : suc d ≡ suc (w .place) = ap (λ (r : Report). r .digit) e ∙ ap natAbs (w .digit) in
-        (ap (λ (r : Report). r .cell) e, ap some (w .digit ∙ ap pos (sym q)))
-
-    tell : (o : Option ℤ) → c ≡ x → o ≡ some (pos (suc d)) → List·Memᴰ (reportOf c d) (reportOnly x o)
-    tell o p e = rw (e, p) (List·Memᴰ·head refl)
-
-    go : (t : Bool) → List·Memᴰ (reportOf c d) (cond t (reportOnly x (onlyOf (at m x))) []) ↔ ((c ≡ x) × (t ≡ true) × (onlyOf (at m x) ≡ some (pos (suc d))))
-    go true = (λ l. let w = told (onlyOf (at m x)) (single-says (at m x) refl) l in (w .0, refl, w .1), λ w. tell (onlyOf (at m x)) (w .0) (w .2))
-    go false = (λ l. absurd (List·Memᴰ·not-nil l), λ w. absurd (true≢false (sym (w .1))))
-
 module _ (g m : List ℕ) (small : (c : ℕ) → at m c < 512) where
-  all-nine : (c : ℕ) → nine (at m c) ≡ at m c
-  all-nine c = omega (arith, small c)
+  -- an open cell with one candidate
+  abbrev nakedTest : ℕ → Bool
+  nakedTest c = isOpen g c && eqb (count (at m c)) 1
 
-  -- a naked single is an open cell whose set answers the digit
-  pub naked-single : (c d : ℕ) → (Open g c × (onlyOf (at m c) ≡ some (pos (suc d)))) ↔ NakedSingle g m c d
-  naked-single c d = (λ w. one (w .0) (rw (all-nine c) at (single-is (at m c) d .0 (w .1))), λ s. (s .holder .free, single-is (at m c) d .1 (rw (all-nine c) (record { held = s .holder .held; alone = s .alone }))))
+  one-naked : (c : ℕ) → nakedTest c ≡ true → NakedSingle g m c (lowest (at m c))
+  one-naked c t =
+      let o = count-one (at m c) (omega (arith, small c)) (eqb-true (count (at m c)) 1 (both-right (isOpen g c) (eqb (count (at m c)) 1) t)) in
+      record { holder = record { free = both-left (isOpen g c) (eqb (count (at m c)) 1) t; held = o .held }; alone = o .alone }
+
+  naked-one : {c d : ℕ} → NakedSingle g m c d → nakedTest c ≡ true
+  naked-one {c} {d} s = both (s .holder .free) (eq-eqb (count (at m c)) 1 (one-count {d = d} (record { held = s .holder .held; alone = s .alone })))
+
+  pub naked-single : (c : ℕ) → (nakedTest c ≡ true) ↔ ((d : ℕ) × NakedSingle g m c d)
+  naked-single c = (λ t. (lowest (at m c), one-naked c t), λ w. naked-one (w .1))
+
+  -- its digit is the lowest candidate
+  pub naked-digit : {c d : ℕ} → NakedSingle g m c d → d ≡ lowest (at m c)
+  naked-digit {c} {d} s = sym (s .alone (lowest (at m c)) (one-naked c (naked-one s) .holder .held))
+
+  -- what `single_candidate` answers of an open cell, by count
+  pub naked-at : (c : ℕ) → nakedAt g m c ≡ reportIf (nakedTest c) c (lowest (at m c))
+  naked-at c = go (isOpen g c) (onlyOf (at m c)) (single-says (at m c) refl)
     where
-      one : Open g c → One (at m c) d → NakedSingle g m c d
-      one t o = record { holder = record { free = t; held = o .held }; alone = o .alone }
+      all-nine : lowNine (at m c) ≡ at m c
+      all-nine = omega (arith, small c)
 
-  -- the reports are the naked singles
-  pub naked-reports : (c d : ℕ) → List·Memᴰ (reportOf c d) (nakedSingles g m) ↔ ((c < 81) × NakedSingle g m c d)
-  unfolding nakedSingles cells
-  naked-reports c d = (λ k. from (in-for cells (nakedAt g m) (reportOf c d) k), λ w. into (w .0) (naked-single c d .1 (w .1)))
+      told : (z : ℤ) (k : ℕ) → z ≡ pos (suc k) → One (at m c) k → reportOnly c (some z) ≡ reportIf (eqb (count (at m c)) 1) c (lowest (at m c))
+      told z k e o =
+          let low = o .alone (lowest (at m c)) (count-one (at m c) (omega (arith, small c)) (one-count o) .held) in
+          rw (reported (eqb (count (at m c)) 1) c (lowest (at m c)) (eq-eqb (count (at m c)) 1 (one-count o)), low, e)
+
+      go : (t : Bool) (o : Option ℤ) → Says (at m c) o → cond t (reportOnly c o) [] ≡ reportIf (t && eqb (count (at m c)) 1) c (lowest (at m c))
+      go true (some z) w = told z (w .place) (w .digit) (rw all-nine at (w .one))
+      go true none w =
+          sym (cond-false (eqb (count (at m c)) 1) (record { cell = c; digit = lowest (at m c) + 1 } ∷ []) [] (ne-eqb (count (at m c)) 1 (rw all-nine at w)))
+      go false o w = refl
+
+  naked-turn : (c : ℕ) (rs ss : List Report) → NakedSingleTurn g m c rs ss ↔ (ss ≡ rs ++ nakedAt g m c)
+  naked-turn c rs ss = rw (naked-at c) (report-turn (nakedTest c) (naked-single c) rs ss c (lowest (at m c)) (λ d s. ap (reportOf c) (naked-digit s)))
+
+  pub naked-singles : (rs : List Report) → NakedSinglePass g m rs ↔ (rs ≡ nakedSingles g m)
+  naked-singles rs =
+      let pass = each-turns Any cells (λ c k ss z. (naked-turn c ss, tt)) [] tt .0 rs in
+      (λ w. pass .0 w ∙ all, λ e. pass .1 (e ∙ sym all))
     where
-      into : c < 81 → Open g c × (onlyOf (at m c) ≡ some (pos (suc d))) → List·Memᴰ (reportOf c d) (for cells (nakedAt g m))
-      into h s = for-in cells (nakedAt g m) c (reportOf c d) (upTo-in 81 c h) (one-only g m c c d .1 (refl, s .0, s .1))
+      all : each (λ c rs. rs ++ nakedAt g m c) cells [] ≡ nakedSingles g m
+      all = unfold nakedSingles in each-adds (nakedAt g m) cells []
 
-      from : (x : ℕ) × List·Memᴰ x cells × List·Memᴰ (reportOf c d) (nakedAt g m x) → (c < 81) × NakedSingle g m c d
-      from w =
-          let r = one-only g m (w .0) c d .0 (w .2) in
-          rw (r .0) (in-upTo 81 (w .0) (w .1), naked-single (w .0) d .0 (r .1, r .2))
-
-  -- by count: an open cell with one candidate reports its lowest
-  pub naked-counted : nakedSingles g m ≡ for cells λ c. reportIf (isOpen g c && eqb (count (at m c)) 1) c (lowest (at m c))
-  unfolding nakedSingles
-  naked-counted = for-same (nakedAt g m) (λ c. reportIf (isOpen g c && eqb (count (at m c)) 1) c (lowest (at m c))) cells (λ c k. go c (isOpen g c) (onlyOf (at m c)) (single-says (at m c) refl))
+  -- so a report is a naked single
+  pub naked-reports : {rs : List Report} → NakedSinglePass g m rs → (c d : ℕ) → List·Memᴰ (reportOf c d) rs → (c < 81) × NakedSingle g m c d
+  naked-reports {rs} w c d k =
+      turns-keep (AllAre Single) cells (λ c k rs ss. report-keeps (nakedTest c) (naked-single c) rs ss Single (λ d s. put c d (below c k) s)) [] rs w (λ r k. absurd (List·Memᴰ·not-nil k)) (reportOf c d) k d refl
     where
-      go : (c : ℕ) (t : Bool) (o : Option ℤ) → Says (at m c) o → cond t (reportOnly c o) [] ≡ reportIf (t && eqb (count (at m c)) 1) c (lowest (at m c))
-      go c true (some z) w =
-          let o : One (at m c) (w .place) = rw (all-nine c) at (w .one) in
-          let low : lowest (at m c) ≡ w .place = o .alone (lowest (at m c)) (count-one (at m c) (omega (arith, small c)) (one-count o) .held) in
-          let digit : natAbs z ≡ suc (w .place) = ap natAbs (w .digit) in
-          let e : natAbs z ≡ lowest (at m c) + 1 = omega arith in
-          ap (λ (n : ℕ). record { cell = c; digit = n } ∷ []) e
-          ∙ sym (cond-true (eqb (count (at m c)) 1) (record { cell = c; digit = lowest (at m c) + 1 } ∷ []) [] (eq-eqb (count (at m c)) 1 (one-count o)))
-      go c true none w =
-          sym (cond-false (eqb (count (at m c)) 1) (record { cell = c; digit = lowest (at m c) + 1 } ∷ []) [] (ne-eqb (count (at m c)) 1 (rw (all-nine c) at w)))
-      go c false o w = refl
+      Single : Report → Type 0
+      Single r = (d : ℕ) → r .digit ≡ suc d → (r .cell < 81) × NakedSingle g m (r .cell) d
 
--- their cells are those that have one, in the order of the cells
-listed-cells : (g m l : List ℕ) → map (λ (r : Report). r .cell) (for l (nakedAt g m)) ≡ select (λ c. isSome (nakedAt g m c)) l
-unfolding for
-listed-cells g m [] = refl
-listed-cells g m (c ∷ cs) = go (isOpen g c) (onlyOf (at m c)) (listed-cells g m cs)
-  where
-    go : (t : Bool) (o : Option ℤ) → map (λ (r : Report). r .cell) (for cs (nakedAt g m)) ≡ select (λ c. isSome (nakedAt g m c)) cs
-        → map (λ (r : Report). r .cell) (cond t (reportOnly c o) [] ++ for cs (nakedAt g m)) ≡ cond (isSome (cond t (reportOnly c o) [])) (c ∷ select (λ c. isSome (nakedAt g m c)) cs) (select (λ c. isSome (nakedAt g m c)) cs)
-    go true (some z) ih = ap (λ (l : List ℕ). c ∷ l) ih
-    go true none ih = ih
-    go false o ih = ih
+      below : (c : ℕ) → List·Memᴰ c cells → c < 81
+      below c k = unfold cells in in-upTo 81 c k
 
-pub naked-cells : (g m : List ℕ) → map (λ (r : Report). r .cell) (nakedSingles g m) ≡ select (λ c. isSome (nakedAt g m c)) cells
-unfolding nakedSingles
-naked-cells g m = listed-cells g m cells
-
-rising-cons : {x : ℕ} {l : List ℕ} → ((y : ℕ) → List·Memᴰ y l → x < y) → Rising l → Rising (x ∷ l)
-rising-cons {x} {l} h r = record { rise = go }
-  where
-    go : (i j : ℕ) → i < j → j < suc (length l) → getD (x ∷ l) i 0 < getD (x ∷ l) j 0
-    go i zero p q = absurd (not-suc-le-zero p)
-    go zero (suc j) p q = h (getD l j 0) (place-mem l 0 j (omega arith))
-    go (suc i) (suc j) p q = r .rise i j (omega arith) (omega arith)
-
-select-rises : (f : ℕ → Bool) (n k : ℕ) → Rising (select f (range n k))
-select-rises f zero k = record { rise = λ i j p q. absurd (not-suc-le-zero q) }
-select-rises f (suc n) k = go (f k) (select-rises f n (suc k))
-  where
-    go : (t : Bool) → Rising (select f (range n (suc k))) → Rising (cond t (k ∷ select f (range n (suc k))) (select f (range n (suc k))))
-    go true r = rising-cons (λ y l. mem-range n (suc k) y (mem-select f (range n (suc k)) y l .0) .0) r
-    go false r = r
-
-pub naked-rising : (g m : List ℕ) → Rising (map (λ (r : Report). r .cell) (nakedSingles g m))
-naked-rising g m = rw (naked-cells g m) (all)
-  where
-    all : Rising (select (λ c. isSome (nakedAt g m c)) cells)
-    all = unfold cells in select-rises (λ c. isSome (nakedAt g m c)) 81 0
+      put : (c a : ℕ) → c < 81 → NakedSingle g m c a → Single (reportOf c a)
+      put c a h s d e =
+          let q : a ≡ d = omega arith in
+          (h, rw q at s)
 
 -- ---- hidden singles
 
@@ -164,33 +139,35 @@ module _ (g m : List ℕ) (u d : ℕ) (h : u < 27) where
       let o = one-single (single-one s) in
       sym (s .alone (unitCell u (lowest (spots g m u d))) (o .member) (o .holder))
 
-pub hidden-reports : (g m : List ℕ) (c d : ℕ) → List·Memᴰ (reportOf c d) (hiddenSingles g m) ↔ ((u : ℕ) × (u < 27) × (d < 9) × HiddenSingle g m u d c)
-unfolding hiddenSingles
-hidden-reports g m c d = (λ k. from (in-for (upTo 27) lists (reportOf c d) k), λ w. into (w .0) (w .1) (w .2) (w .3))
-  where
-    low : ℕ → ℕ → ℕ
-    low u k = unitCell u (lowest (spots g m u k))
+module _ (g m : List ℕ) where
+  abbrev hiddenAt : ℕ → ℕ → List Report
+  hiddenAt u d = reportIf (eqb (count (spots g m u d)) 1) (unitCell u (lowest (spots g m u d))) d
 
-    one : ℕ → ℕ → List Report
-    one u k = reportIf (eqb (count (spots g m u k)) 1) (low u k) k
+  hidden-turn : (u d : ℕ) → u < 27 → (rs ss : List Report) → HiddenSingleTurn g m u d rs ss ↔ (ss ≡ rs ++ hiddenAt u d)
+  hidden-turn u d h rs ss = report-turn (eqb (count (spots g m u d)) 1) (hidden-single g m u d h) rs ss (unitCell u (lowest (spots g m u d))) d (λ c s. ap (λ (c : ℕ). reportOf c d) (hidden-cell g m u d h s))
 
-    lists : ℕ → List Report
-    lists u = for (upTo 9) (one u)
+  pub hidden-singles : (rs : List Report) → HiddenSinglePass g m rs ↔ (rs ≡ hiddenSingles g m)
+  hidden-singles rs =
+      let pass = each-turns Any (upTo 27) (λ u p. each-turns Any (upTo 9) (λ d q ss z. (hidden-turn u d (in-upTo 27 u p) ss, tt))) [] tt .0 rs in
+      (λ w. pass .0 w ∙ all, λ e. pass .1 (e ∙ sym all))
+    where
+      all : each (λ u. each (λ d rs. rs ++ hiddenAt u d) (upTo 9)) (upTo 27) [] ≡ hiddenSingles g m
+      all =
+          unfold hiddenSingles in
+          each-same (λ u. each (λ d rs. rs ++ hiddenAt u d) (upTo 9)) (λ u rs. rs ++ for (upTo 9) (hiddenAt u)) (upTo 27) (λ u k. each-adds (hiddenAt u) (upTo 9)) []
+          ∙ each-adds (λ u. for (upTo 9) (hiddenAt u)) (upTo 27) []
 
-    into : (u : ℕ) → u < 27 → d < 9 → HiddenSingle g m u d c → List·Memᴰ (reportOf c d) (for (upTo 27) lists)
-    into u h l s =
-        for-in (upTo 27) lists u (reportOf c d) (upTo-in 27 u (omega arith))
-        (for-in (upTo 9) (one u) d (reportOf c d) (upTo-in 9 d (omega arith))
-        (one-report (eqb (count (spots g m u d)) 1) (low u d) d c d .1 (single-one g m u d h s, hidden-cell g m u d h s, refl)))
+  -- so a report is a hidden single
+  pub hidden-reports : {rs : List Report} → HiddenSinglePass g m rs → (c d : ℕ) → List·Memᴰ (reportOf c d) rs → (u : ℕ) × (u < 27) × (d < 9) × HiddenSingle g m u d c
+  hidden-reports {rs} w c d k =
+      turns-keep (AllAre Single) (upTo 27) (λ u p. turns-keep (AllAre Single) (upTo 9)
+      (λ d q rs ss. report-keeps (eqb (count (spots g m u d)) 1) (hidden-single g m u d (in-upTo 27 u p)) rs ss Single (λ c s. put u d c (in-upTo 27 u p) (in-upTo 9 d q) s)))
+      [] rs w (λ r k. absurd (List·Memᴰ·not-nil k)) (reportOf c d) k d refl
+    where
+      Single : Report → Type 0
+      Single r = (d : ℕ) → r .digit ≡ suc d → (u : ℕ) × (u < 27) × (d < 9) × HiddenSingle g m u d (r .cell)
 
-    back : (u : ℕ) → u < 27 → (k : ℕ) → k < 9 → List·Memᴰ (reportOf c d) (one u k) → (d < 9) × HiddenSingle g m u d c
-    back u h k l v =
-        let r = one-report (eqb (count (spots g m u k)) 1) (low u k) k c d .0 v in
-        rw (r .1, r .2) (l, one-single g m u k h (r .0))
-
-    from : (u : ℕ) × List·Memᴰ u (upTo 27) × List·Memᴰ (reportOf c d) (lists u) → (u : ℕ) × (u < 27) × (d < 9) × HiddenSingle g m u d c
-    from w =
-        let h : w .0 < 27 = in-upTo 27 (w .0) (w .1) in
-        let v = in-for (upTo 9) (one (w .0)) (reportOf c d) (w .2) in
-        let r = back (w .0) h (v .0) (in-upTo 9 (v .0) (v .1)) (v .2) in
-        (w .0, h, r .0, r .1)
+      put : (u k c : ℕ) → u < 27 → k < 9 → HiddenSingle g m u k c → Single (reportOf c k)
+      put u k c h l s d e =
+          let q : k ≡ d = omega arith in
+          (u, h, omega arith, rw q at s)

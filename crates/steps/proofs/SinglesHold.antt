@@ -1,31 +1,28 @@
 -- A reported single is the cell's digit in every correct filling that keeps the clues. Assumes nothing.
-use mathlib.Core.Path.{_≡_, refl, sym, ap, _∙_, subst}
-use mathlib.Core.Bool.{Bool, true, false}
+use mathlib.Core.Path.{_≡_, sym, ap, _∙_, subst, refl}
+use mathlib.Core.Bool.{true}
 use mathlib.Core.List.{List, List·Memᴰ}
 use Prim.Native.Nat.{ℕ, suc, _<_}
 use native.Mathlib.Omega.{arith}
-use borrow.Author.Tests.{eqb-true}
 use lib.IntN.{ℤ, pos}
 use lib.ListN.{length}
-use Rattle.candidates.specs.Masks.{bit}
 use Rattle.candidates.proofs.Held.{Held}
-use Rattle.grid.specs.Units.{Member}
 use Rattle.grid.specs.Fillings.{numberAt, verified, Correct}
 use Rattle.grid.proofs.Fillings.{number-of, verified-correct}
 use Rattle.grid.proofs.Units.{member-below}
-use Rattle.steps.specs.Boards.{at, givensOf, isOpen, Admissible}
+use Rattle.steps.specs.Boards.{at, givensOf, Admissible}
 use Rattle.steps.specs.Calls.{Call, withoutChain, opened, run}
-use Rattle.steps.specs.Demand3.{Clues, SinglesHold}
+use Rattle.steps.specs.SinglesHold.{SinglesHold}
+use Rattle.steps.specs.Calls.{Clues}
 use Rattle.steps.specs.Fillings.{KeepsClues, InMasks}
 use Rattle.steps.specs.Singles.{nakedSingles, hiddenSingles}
-use Rattle.steps.specs.Published.{NakedSingle, HiddenSingle}
+use Rattle.steps.specs.Published.{NakedSingle, HiddenSingle, reportOf}
 use Rattle.steps.proofs.Check.{clues-givens}
 use Rattle.steps.proofs.Clues.{correct-filling, keeps-in, placed}
 use Rattle.steps.proofs.Fresh.{mask-small}
-use Rattle.steps.proofs.Holders.{holder-guard}
+use Rattle.steps.proofs.Holders.{holder-open}
 use Rattle.steps.proofs.Lists.{Reached, ended, reached-admissible}
-use Rattle.steps.proofs.Reports.{reportOf, naked-reports, hidden-reports}
-use Rattle.steps.proofs.Spots.{holder-holds}
+use Rattle.steps.proofs.Reports.{naked-singles, naked-reports, hidden-singles, hidden-reports}
 
 module _ (clues : List ℤ) (m : List ℕ) (a : Admissible (givensOf clues) m) (f : List ℤ) (right : Correct f) (inside : InMasks m f) where
   abbrev g : List ℕ
@@ -39,13 +36,10 @@ module _ (clues : List ℤ) (m : List ℕ) (a : Admissible (givensOf clues) m) (
   hidden-true : (u d c : ℕ) → u < 27 → d < 9 → HiddenSingle g m u d c → numberAt f c ≡ pos (suc d)
   hidden-true u d c hu hd s =
       let w = correct-filling f right .every u d hu hd in
-      number-of (numberAt f c) d (ap (placed f) (sym (go (w .0) (w .1) (subst (λ (k : ℕ). Held (at m (w .0)) k) (w .2) (inside .held (w .0) (member-below hu (w .1)))) (isOpen g (w .0)) refl)) ∙ w .2) hd
-    where
       -- the digit's cell is open, since the reported cell holds the digit too; so it is the reported one
-      go : (e : ℕ) → Member u e → Held (at m e) d → (o : Bool) → isOpen g e ≡ o → e ≡ c
-      go e p t true o = s .alone e p (record { free = o; held = t })
-      go e p t false o =
-          absurd (omega (arith, eqb-true (bit (at m e) d) 1 t, holder-guard g (clues-givens clues) m a u d hu (s .member) p (holder-holds g m (s .holder)) o))
+      let held = subst (λ (k : ℕ). Held (at m (w .0)) k) (w .2) (inside .held (w .0) (member-below hu (w .1))) in
+      let same : w .0 ≡ c = s .alone (w .0) (w .1) (holder-open g (clues-givens clues) m a u d hu (s .member) (s .holder) (w .1) held) in
+      number-of (numberAt f c) d (ap (placed f) (sym same) ∙ w .2) hd
 
 module _ (clues : List ℤ) (ok : Clues clues) (ks : List Call) (n : withoutChain ks ≡ true) (f : List ℤ) (size : length f ≡ 81) (v : verified f ≡ true) (k : KeepsClues clues f) where
   right : Correct f
@@ -62,12 +56,13 @@ module _ (clues : List ℤ) (ok : Clues clues) (ks : List Call) (n : withoutChai
 
   naked : (c d : ℕ) → List·Memᴰ (reportOf c d) (nakedSingles (givensOf clues) (run ks (opened clues) .masks)) → numberAt f c ≡ pos (suc d)
   naked c d h =
-      let w = naked-reports (givensOf clues) (run ks (opened clues) .masks) (mask-small (givensOf clues) (clues-givens clues) (a .under)) c d .0 h in
+      let small = mask-small (givensOf clues) (clues-givens clues) (a .under) in
+      let w = naked-reports (givensOf clues) (run ks (opened clues) .masks) small (naked-singles (givensOf clues) (run ks (opened clues) .masks) small _ .1 refl) c d h in
       naked-true clues (run ks (opened clues) .masks) a f right inside c d (w .0) (w .1)
 
   hidden : (c d : ℕ) → List·Memᴰ (reportOf c d) (hiddenSingles (givensOf clues) (run ks (opened clues) .masks)) → numberAt f c ≡ pos (suc d)
   hidden c d h =
-      let w = hidden-reports (givensOf clues) (run ks (opened clues) .masks) c d .0 h in
+      let w = hidden-reports (givensOf clues) (run ks (opened clues) .masks) (hidden-singles (givensOf clues) (run ks (opened clues) .masks) _ .1 refl) c d h in
       hidden-true clues (run ks (opened clues) .masks) a f right inside (w .0) d c (w .1) (w .2) (w .3)
 
 pub singles-hold : SinglesHold

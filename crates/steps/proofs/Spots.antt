@@ -1,46 +1,19 @@
 -- The open cells of a unit that hold a digit, and the mask of their places. Assumes nothing.
-use mathlib.Core.Path.{_≡_, refl, sym, ap, _∙_, subst}
-use mathlib.Core.Logic.{_⊎_, _↔_, inl, inr, ⊎-elim}
-use mathlib.Core.Bool.{Bool, true, false, true≢false}
-use mathlib.Core.List.{List, _++_, List·Memᴰ, List·Memᴰ·append-cases, Memᴰ·append-left, Memᴰ·append-right}
+use mathlib.Core.Path.{_≡_, sym, ap, _∙_, subst}
+use mathlib.Core.Bool.{true}
+use mathlib.Core.List.{List}
 use Prim.Native.Nat.{ℕ, _^_, _<_}
 use native.Mathlib.Omega.{arith}
 use Rattle.candidates.specs.Masks.{has}
 use Rattle.candidates.proofs.Membership.{gather-lt}
-use Rattle.grid.specs.Units.{unit, unitCell, inUnit, Member}
+use Rattle.grid.specs.Units.{unitCell, Member}
 use Rattle.candidates.proofs.Tests.{both, both-left, both-right}
-use Rattle.grid.proofs.Units.{at-place, same-place, member-in, in-member, member-mem, mem-member}
+use Rattle.grid.proofs.Units.{at-place, same-place}
 use Rattle.steps.specs.Boards.{at, isOpen}
 use Rattle.steps.specs.Ported.{holds, spots}
 use Rattle.steps.specs.Published.{Holder, HiddenSingle}
 use Rattle.candidates.proofs.FewDigits.{One}
 use Rattle.candidates.proofs.Held.{Held, held-below, has-gather}
-
--- the cells of two units, named in either order
-pub in-either : {x y f s : ℕ} → x < 27 → y < 27 → ((x ≡ f) × (y ≡ s)) ⊎ ((x ≡ s) × (y ≡ f)) → (e : ℕ) → List·Memᴰ e (unit f ++ unit s) ↔ (Member x e ⊎ Member y e)
-in-either {x} {y} {f} {s} h k same e = go same
-  where
-    joined : (a b : ℕ) → a < 27 → b < 27 → List·Memᴰ e (unit a ++ unit b) ↔ (Member a e ⊎ Member b e)
-    joined a b h k = (
-      λ l. ⊎-elim (λ p. inl (mem-member h p)) (λ p. inr (mem-member k p)) (List·Memᴰ·append-cases (unit a) l),
-      ⊎-elim (λ p. Memᴰ·append-left (unit b) (member-mem h p)) (λ p. Memᴰ·append-right (unit a) (member-mem k p)),
-    )
-
-    swapped : List·Memᴰ e (unit y ++ unit x) ↔ (Member x e ⊎ Member y e)
-    swapped =
-        let j = joined y x k h in
-        (λ l. ⊎-elim (λ p. inr p) (λ p. inl p) (j .0 l), λ t. j .1 (⊎-elim (λ p. inr p) (λ p. inl p) t))
-
-    go : ((x ≡ f) × (y ≡ s)) ⊎ ((x ≡ s) × (y ≡ f)) → List·Memᴰ e (unit f ++ unit s) ↔ (Member x e ⊎ Member y e)
-    go (inl p) = rw (← p .0, ← p .1) (joined x y h k)
-    go (inr p) = rw (← p .0, ← p .1) swapped
-
-pub outside : (u e : ℕ) → u < 27 → e < 81 → (inUnit u e ≡ false) ↔ (¬ (Member u e))
-outside u e h k = (λ f p. true≢false (sym (member-in h p) ∙ f), λ n. go n (inUnit u e) refl)
-  where
-    go : ¬ (Member u e) → (t : Bool) → inUnit u e ≡ t → inUnit u e ≡ false
-    go n true t = absurd (n (in-member u e h k t))
-    go n false t = t
 
 module _ (g m : List ℕ) where
   pub holder-holds : {d c : ℕ} → Holder g m d c → holds g m d c ≡ true

@@ -15,7 +15,7 @@ use Rattle.candidates.proofs.Order.{sub-refl, minus-sub, minus-mono, minus-none
 use Rattle.candidates.proofs.Tests.{by-test}
 use Rattle.steps.specs.Boards.{at, Under}
 use Rattle.steps.specs.Loops.{each}
-use Rattle.steps.specs.Steps.{Step, lacks, applies, loseAt, loseAll, take}
+use Rattle.steps.specs.Steps.{Step, lacks, applies, loseAt, loseAll, stepTaken}
 use Rattle.steps.proofs.Loops.{each-idle, each-keeps, all-member, member-all}
 use Rattle.steps.proofs.Masks.{under-refl, under-trans}
 
@@ -109,41 +109,25 @@ module _ (free : ℕ → Bool) where
       (λ c k. eq-eqb (bitAnd (at m c) (s .bars c)) 0
       (apart-sub (s .bars c) (p .at c) (eqb-true (bitAnd (at n c) (s .bars c)) 0 (all-member (λ c. lacks n c (s .bars c)) (s .reads) t c k))))
 
-  pub take-under : (s : Step) (m : List ℕ) → Under (take free s m) m
-  unfolding take
+  pub take-under : (s : Step) (m : List ℕ) → Under (stepTaken free s m) m
+  unfolding stepTaken
   take-under s m =
       by-test (λ (n : List ℕ). Under n m) (applies s m) (loseAll free (s .hits) (s .loses) m) m (λ t. all-under (s .hits) (s .loses) m) (λ t. under-refl m)
 
-  pub take-length : (s : Step) (m : List ℕ) → length (take free s m) ≡ length m
-  unfolding take
+  pub take-length : (s : Step) (m : List ℕ) → length (stepTaken free s m) ≡ length m
+  unfolding stepTaken
   take-length s m =
       by-test (λ (n : List ℕ). length n ≡ length m) (applies s m) (loseAll free (s .hits) (s .loses) m) m (λ t. all-length (s .hits) (s .loses) m) (λ t. refl)
 
-  pub take-shut : (s : Step) (m : List ℕ) (e : ℕ) → free e ≡ false → at (take free s m) e ≡ at m e
-  unfolding take
+  pub take-shut : (s : Step) (m : List ℕ) (e : ℕ) → free e ≡ false → at (stepTaken free s m) e ≡ at m e
+  unfolding stepTaken
   take-shut s m e f =
       by-test (λ (n : List ℕ). at n e ≡ at m e) (applies s m) (loseAll free (s .hits) (s .loses) m) m (λ t. all-shut (s .hits) (s .loses) m e f) (λ t. refl)
 
-  pub take-mono : (s : Step) {m n : List ℕ} → Under m n → Under (take free s m) (take free s n)
-  unfolding take
+  pub take-mono : (s : Step) {m n : List ℕ} → Under m n → Under (stepTaken free s m) (stepTaken free s n)
+  unfolding stepTaken
   take-mono s {m} {n} p = go (applies s n) refl
     where
-      go : (t : Bool) → applies s n ≡ t → Under (take free s m) (take free s n)
+      go : (t : Bool) → applies s n ≡ t → Under (stepTaken free s m) (stepTaken free s n)
       go true t = rw (t, applies-down s p t) (all-mono (s .hits) (s .loses) p)
       go false t = rw t (under-trans (take-under s m) p)
-
-  -- what a step leaves alone stays below whatever the step makes of masks above it
-  pub record Closed (z : List ℕ) (s : Step) : Type 0 where
-    pub stays : Under z (take free s z)
-
-  pub closed-stays : {z m : List ℕ} (s : Step) → Closed z s → Under z m → Under z (take free s m)
-  closed-stays s c p = under-trans (c .stays) (take-mono s p)
-
-  -- it is enough that, where the condition holds, no cell that is hit has anything to lose
-  pub closed-by : (z : List ℕ) (s : Step) → (applies s z ≡ true → (c : ℕ) → List·Memᴰ c (s .hits) → free c ≡ true → bitAnd (at z c) (s .loses c) ≡ 0) → Closed z s
-  unfolding take
-  closed-by z s h = record {
-    stays =
-        by-test (λ (n : List ℕ). Under z n) (applies s z) (loseAll free (s .hits) (s .loses) z) z
-        (λ t. rw (all-none (s .hits) (s .loses) z (h t)) (under-refl z)) (λ t. under-refl z);
-  }

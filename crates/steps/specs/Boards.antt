@@ -7,7 +7,7 @@ use Prim.Native.Nat.{ℕ, _+_, _-_, _≤_}
 use lib.Dec.{eqb, leb}
 use lib.IntN.{ℤ, pos, negsuc}
 use lib.ListN.{length, getD}
-use Rattle.candidates.specs.Masks.{minus, union, count, single, Sub}
+use Rattle.candidates.specs.Masks.{minus, union, count, placeMask, Sub}
 use Rattle.grid.specs.Cells.{cells, peers}
 use Rattle.steps.specs.Loops.{each}
 
@@ -35,9 +35,9 @@ given g c = getD g c 0
 abbrev pub isOpen : List ℕ → ℕ → Bool
 isOpen g c = eqb (given g c) 0
 
--- the digit that a cell is given, as a mask
+-- the digit that a cell is given, as a mask; the code takes any givens
 abbrev pub givenMask : List ℕ → ℕ → ℕ
-givenMask g c = cond (isOpen g c) 0 (single (given g c - 1))
+givenMask g c = cond (isOpen g c) 0 (placeMask (given g c - 1))
 
 -- 81 cells, each open or given a digit
 pub record Givens (g : List ℕ) : Type 0 where

@@ -2,12 +2,13 @@
 use mathlib.Core.Path.{_≡_}
 use mathlib.Core.Bool.{Bool, true, false, cond, not, _&&_, _||_}
 use mathlib.Core.List.{List, [], _∷_, _++_}
-use mathlib.Core.Option.{Option, none, some}
-use Prim.Native.Nat.{ℕ}
+use mathlib.Core.Option.{Option}
+use Prim.Native.Nat.{ℕ, _<_}
 use lib.Dec.{eqb, leb}
 use lib.IntN.{ℤ, pos, negsuc}
 use lib.ListN.{length, getD}
-use Rattle.candidates.specs.Answer.{Answer, gives, stop}
+use Rattle.stops.specs.Answer.{Answer, gives, stop, passing, stopAt, then}
+use Rattle.stops.specs.declared.Stop.the-variants.{BadClue, BadMask}
 use Rattle.candidates.specs.Masks.{minus}
 use Rattle.grid.specs.Cells.{cells}
 use Rattle.steps.specs.Boards.{Board, at, givensOf, isOpen, freshAt, fresh}
@@ -24,6 +25,11 @@ abbrev pub badClue : ℤ → Bool
 badClue (pos n) = not (leb n 9)
 badClue (negsuc n) = true
 
+-- "any clue grid of 0 to 9": 81 clues
+pub record Clues (clues : List ℤ) : Type 0 where
+  pub size : length clues ≡ 81
+  pub good : (c : ℕ) → c < 81 → badClue (getD clues c (pos 0)) ≡ false
+
 -- "mask holding what the fresh one lacks, or a clue cell's mask not its digit": x is the mask, f the fresh one
 abbrev pub misfit : ℕ → ℕ → Bool → Bool
 misfit x f isFree = not (eqb (minus x f) 0 && (isFree || eqb x f))
@@ -31,29 +37,27 @@ misfit x f isFree = not (eqb (minus x f) 0 && (isFree || eqb x f))
 abbrev pub badMask : List ℕ → List ℕ → ℕ → Bool
 badMask g m c = misfit (at m c) (freshAt g c) (isOpen g c)
 
--- the first cell that fails a test, as the stop of that number
-abbrev pub firstStop : ℕ → Option ℕ → Option (ℕ × ℕ) → Option (ℕ × ℕ)
-firstStop n (some c) later = some (n, c)
-firstStop n none later = later
+-- "first clue outside 0 to 9"
+abbrev pub firstBadClue : List ℤ → Option ℕ
+firstBadClue clues = first (λ c. badClue (getD clues c (pos 0))) cells
 
--- stop 3, then stop 9, with the first such cell
-unfoldable pub refusal : Board → Option (ℕ × ℕ)
-refusal b =
-    firstStop 3 (first (λ c. badClue (getD (b .clues) c (pos 0))) cells)
-    (firstStop 9 (first (badMask (givensOf (b .clues)) (b .masks)) cells) none)
+-- the clues, "then" the masks, each with its first such cell
+unfoldable pub checkOf : Board → Answer (Unit {0})
+checkOf b =
+    then (stopAt BadClue (firstBadClue (b .clues))) λ _. stopAt BadMask (first (badMask (givensOf (b .clues)) (b .masks)) cells)
 
 -- "any board that no listed stop refuses": 81 clues and 81 masks, with neither stop 3 nor stop 9
 pub record Admitted (b : Board) : Type 0 where
   pub clues : length (b .clues) ≡ 81
   pub masks : length (b .masks) ≡ 81
-  pub taken : refusal b ≡ none
+  pub taken : checkOf b ≡ gives tt
 
 -- ---- the calls
 
 pub data Call : Type 0 where
   updateCandidates nakedPairsCall boxLineCall xWingCall nakedSinglesCall hiddenSinglesCall advancedCall : Call
   wide : Kind → Call
-  settling : Call
+  settlingCall : Call
   chainCall : Call
 
 abbrev pub isChain : Call → Bool
@@ -65,7 +69,7 @@ isChain nakedSinglesCall = false
 isChain hiddenSinglesCall = false
 isChain advancedCall = false
 isChain (wide k) = false
-isChain settling = false
+isChain settlingCall = false
 isChain chainCall = true
 
 -- a list "without the chain pass"
@@ -82,53 +86,49 @@ pub record Outcome : Type 0 where
   pub masks : List ℕ
 
 -- an elimination: "whether it removed anything"
-abbrev pub eliminated : List ℕ → List ℕ → Outcome
-eliminated m n = record { flag = changed m n; reports = []; sweeps = 0; removed = 0; masks = n }
+abbrev pub eliminationOutcome : List ℕ → List ℕ → Outcome
+eliminationOutcome m n = record { flag = changed m n; reports = []; sweeps = 0; removed = 0; masks = n }
 
 abbrev pub isSome : {A : Type 0} → List A → Bool
 isSome [] = false
 isSome (x ∷ xs) = true
 
 -- "A report is progress."
-abbrev pub reported : List Report → List ℕ → Outcome
-reported rs m = record { flag = isSome rs; reports = rs; sweeps = 0; removed = 0; masks = m }
+abbrev pub reportsOutcome : List Report → List ℕ → Outcome
+reportsOutcome rs m = record { flag = isSome rs; reports = rs; sweeps = 0; removed = 0; masks = m }
 
 -- "naked singles, hidden singles, naked pairs; with any progress, masks become fresh again"
-abbrev pub advanced : List ℕ → List ℕ → Outcome
-advanced g m =
+abbrev pub advancedOutcome : List ℕ → List ℕ → Outcome
+advancedOutcome g m =
     let rs = nakedSingles g m ++ hiddenSingles g m in
     let progress = isSome rs || changed m (nakedPairs g m) in
     record { flag = progress; reports = rs; sweeps = 0; removed = 0; masks = cond progress (fresh g) m }
 
-abbrev pub settled : List ℕ → List ℕ → Outcome
-settled g m =
+abbrev pub settlingOutcome : List ℕ → List ℕ → Outcome
+settlingOutcome g m =
     let s = settle g m in
     record { flag = false; reports = []; sweeps = s .sweeps; removed = removedBy m (s .left); masks = s .left }
 
 unfoldable pub outcome : Call → List ℕ → List ℕ → Outcome
 outcome updateCandidates g m = record { flag = false; reports = []; sweeps = 0; removed = 0; masks = fresh g }
-outcome nakedPairsCall g m = eliminated m (nakedPairs g m)
-outcome boxLineCall g m = eliminated m (boxLines g m)
-outcome xWingCall g m = eliminated m (xWings g m)
-outcome nakedSinglesCall g m = reported (nakedSingles g m) m
-outcome hiddenSinglesCall g m = reported (hiddenSingles g m) m
-outcome advancedCall g m = advanced g m
-outcome (wide k) g m = eliminated m (pass g k m)
-outcome settling g m = settled g m
-outcome chainCall g m = eliminated m (chains g m)
+outcome nakedPairsCall g m = eliminationOutcome m (nakedPairs g m)
+outcome boxLineCall g m = eliminationOutcome m (boxLines g m)
+outcome xWingCall g m = eliminationOutcome m (xWings g m)
+outcome nakedSinglesCall g m = reportsOutcome (nakedSingles g m) m
+outcome hiddenSinglesCall g m = reportsOutcome (hiddenSingles g m) m
+outcome advancedCall g m = advancedOutcome g m
+outcome (wide k) g m = eliminationOutcome m (pass g k m)
+outcome settlingCall g m = settlingOutcome g m
+outcome chainCall g m = eliminationOutcome m (chains g m)
 
--- a call's answer: the stop with its cell, or the outcome
-abbrev pub checked : {A : Type 0} → Option (ℕ × ℕ) → A → Answer A
-checked none a = gives a
-checked (some r) a = stop (r .0) (pos (r .1))
-
+-- a call's answer: the stop of the check, or the outcome
 unfoldable pub answer : Call → Board → Answer Outcome
-answer k b = checked (refusal b) (outcome k (givensOf (b .clues)) (b .masks))
+answer k b = passing (checkOf b) (outcome k (givensOf (b .clues)) (b .masks))
 
 -- the board that an answer leaves: "a call that is refused" hands its board on as it was
 abbrev pub left : Board → Answer Outcome → Board
 left b (gives o) = record { clues = b .clues; masks = o .masks }
-left b (stop n z) = b
+left b (stop s) = b
 
 -- "The first call gets the fresh board, each later one the board that the last returned"
 unfoldable pub run : List Call → Board → Board

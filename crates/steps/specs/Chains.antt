@@ -5,10 +5,10 @@ use mathlib.Core.Option.{Option, none, some}
 use Prim.Native.Nat.{ℕ, zero, suc, _+_}
 use lib.Dec.{eqb, leb}
 use lib.ListN.{length}
+use Rattle.candidates.specs.Masks.{single}
 use Rattle.grid.specs.Cells.{row, col, box, sees, cells, peers}
 use Rattle.grid.specs.Units.{unit}
 use Rattle.steps.specs.Boards.{isOpen}
-use Rattle.steps.specs.Instances.{only}
 use Rattle.steps.specs.Loops.{each, for, first, select, upTo}
 use Rattle.steps.specs.Ported.{holds}
 use Rattle.steps.specs.Steps.{loseAt}
@@ -27,19 +27,19 @@ abbrev pub onPath : ℕ → List ℕ → Bool
 onPath c [] = false
 onPath c (x ∷ xs) = eqb c x || onPath c xs
 
+-- a list of just two
+abbrev pub twoOf : List ℕ → List ℕ
+twoOf xs = cond (eqb (length xs) 2) xs []
+
 module _ (g m : List ℕ) (d : ℕ) where
   -- "weak links (other open holders seen, cells rising)"
   unfoldable pub weakLinks : ℕ → List ℕ
   weakLinks c = select (holds g m d) (peers c)
 
-  -- the open holders of a unit, if there are just two
-  abbrev pub twoHolders : List ℕ → List ℕ
-  twoHolders hs = cond (eqb (length hs) 2) hs []
-
   -- "strong (row, column, box with exactly two open holders; repeats kept)"
   unfoldable pub strongLinks : ℕ → List ℕ
   strongLinks c =
-      for (row c ∷ (9 + col c) ∷ (18 + box c) ∷ []) λ u. select (λ e. not (eqb e c)) (twoHolders (select (holds g m d) (unit u)))
+      for (row c ∷ (9 + col c) ∷ (18 + box c) ∷ []) λ u. select (λ e. not (eqb e c)) (twoOf (select (holds g m d) (unit u)))
 
   abbrev pub links : Bool → ℕ → List ℕ
   links weak c = cond weak (weakLinks c) (strongLinks c)
@@ -63,7 +63,7 @@ module _ (g m : List ℕ) (d : ℕ) where
 -- "the first elimination ends that digit"
 abbrev pub loseFound : List ℕ → ℕ → List ℕ → Option ℕ → List ℕ
 loseFound g d m none = m
-loseFound g d m (some e) = loseAt (isOpen g) e (only d) m
+loseFound g d m (some e) = loseAt (isOpen g) e (single d) m
 
 unfoldable pub chainDigit : List ℕ → ℕ → List ℕ → List ℕ
 chainDigit g d m = loseFound g d m (chainEnd g m d)

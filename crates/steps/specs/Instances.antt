@@ -1,9 +1,9 @@
 -- The instances of the five wide passes (module 8): each is a kind and its numbers, in the paper's order, and has one step.
 use mathlib.Core.Bool.{cond, _||_}
 use mathlib.Core.List.{List, [], _∷_, _++_}
-use Prim.Native.Nat.{ℕ, _+_, _-_, _*_, _/_, _%_, _^_}
+use Prim.Native.Nat.{ℕ, _+_, _-_, _*_, _/_, _%_}
 use lib.Dec.{eqb, ltb}
-use Rattle.candidates.specs.Masks.{union}
+use Rattle.candidates.specs.Masks.{minus, union, single}
 use Rattle.grid.specs.Cells.{peers}
 use Rattle.grid.specs.Units.{unit, unitCell, inUnit}
 use Rattle.steps.specs.Loops.{for, upTo, above}
@@ -18,16 +18,9 @@ pub data Instance : Type 0 where
   cross : (d r₁ r₂ c₁ c₂ : ℕ) → Instance
   exchanged : (d c₁ c₂ r₁ r₂ : ℕ) → Instance
 
--- ---- masks of one digit, two digits, and all the others
-
-abbrev pub only : ℕ → ℕ
-only d = 2 ^ d
-
+-- the mask of two digits
 abbrev pub both : ℕ → ℕ → ℕ
-both a b = union (2 ^ a) (2 ^ b)
-
-abbrev pub except : ℕ → ℕ
-except k = 511 - k
+both a b = union (single a) (single b)
 
 -- ---- units by their number: rows 0 to 8, columns 9 to 17, boxes 18 to 26
 
@@ -37,37 +30,37 @@ lineOf b k = cond (ltb k 3) (3 * (b / 3) + k) (9 + (3 * (b % 3) + (k - 3)))
 
 -- ---- the steps
 
--- "Lone: cell, digit d. The cell holds nothing but d (or nothing): its peers lose d."
+-- "Lone: cell, digit d. The cell holds nothing but d (or nothing): its peers lose d." The field: what a naked single eliminates.
 abbrev pub loneStep : ℕ → ℕ → Step
-loneStep c d = record { reads = c ∷ []; bars = λ _. except (only d); hits = peers c; loses = λ _. only d }
+loneStep c d = record { reads = c ∷ []; bars = λ _. minus 511 (single d); hits = peers c; loses = λ _. single d }
 
--- "Place: unit, digit d, cell of it. No other cell of the unit holds d: the cell loses all but d."
+-- "Place: unit, digit d, cell of it. No other cell of the unit holds d: the cell loses all but d." The field: hidden single.
 abbrev pub placeStep : ℕ → ℕ → ℕ → Step
-placeStep u d c = record { reads = unit u; bars = λ e. cond (eqb e c) 0 (only d); hits = c ∷ []; loses = λ _. except (only d) }
+placeStep u d c = record { reads = unit u; bars = λ e. cond (eqb e c) 0 (single d); hits = c ∷ []; loses = λ _. minus 511 (single d) }
 
--- "Pair: unit, two cells, digits a < b. Both hold nothing outside a, b: the unit's other cells lose both."
+-- "Pair: unit, two cells, digits a < b. Both hold nothing outside a, b: the unit's other cells lose both." The field: naked pair.
 abbrev pub pairStep : ℕ → ℕ → ℕ → ℕ → ℕ → Step
 pairStep u c e a b =
     record {
       reads = c ∷ e ∷ [];
-      bars = λ _. except (both a b);
+      bars = λ _. minus 511 (both a b);
       hits = unit u;
       loses = λ x. cond (eqb x c || eqb x e) 0 (both a b);
     }
 
--- The step of Pointing, over any two units: all cells of u that hold d lie in v, so the cells of v outside u lose d.
+-- The step of Pointing (the field: locked candidates), over any two units: all cells of u that hold d lie in v, so the cells of v outside u lose d.
 abbrev pub lockedStep : ℕ → ℕ → ℕ → Step
 lockedStep u v d =
-    record { reads = unit u; bars = λ e. cond (inUnit v e) 0 (only d); hits = unit v; loses = λ e. cond (inUnit u e) 0 (only d) }
+    record { reads = unit u; bars = λ e. cond (inUnit v e) 0 (single d); hits = unit v; loses = λ e. cond (inUnit u e) 0 (single d) }
 
--- The step of Cross, over any lines u, v and crossing lines x, y: all cells of u and v that hold d lie in x or y, so the cells of x and y outside u and v lose d.
+-- The step of Cross (the field: X-wing), over any lines u, v and crossing lines x, y: all cells of u and v that hold d lie in x or y, so the cells of x and y outside u and v lose d.
 abbrev pub crossStep : ℕ → ℕ → ℕ → ℕ → ℕ → Step
 crossStep d u v x y =
     record {
       reads = unit u ++ unit v;
-      bars = λ e. cond (inUnit x e || inUnit y e) 0 (only d);
+      bars = λ e. cond (inUnit x e || inUnit y e) 0 (single d);
       hits = unit x ++ unit y;
-      loses = λ e. cond (inUnit u e || inUnit v e) 0 (only d);
+      loses = λ e. cond (inUnit u e || inUnit v e) 0 (single d);
     }
 
 -- "Pointing: box, digit, its three rows then three columns. All cells of the box holding d are on that line: the line's cells outside the box lose d."

@@ -7,6 +7,8 @@ pub mod Ported
 pub mod Singles
 pub mod Chains
 pub mod Published
+pub mod Wide
 pub mod Calls
 pub mod Fillings
-pub mod Demand3
+pub mod Demand2
+pub mod SinglesHold

@@ -6,7 +6,7 @@ use Prim.Native.Nat.{ℕ, zero, suc, _+_, _-_}
 use Rattle.steps.specs.Boards.{isOpen, sameMasks, total}
 use Rattle.steps.specs.Instances.{Instance, stepOf, lones, places, pairs, pointings, crosses}
 use Rattle.steps.specs.Loops.{each}
-use Rattle.steps.specs.Steps.{take}
+use Rattle.steps.specs.Steps.{stepTaken}
 
 -- the wide passes (the paper's term for the passes that read clue cells too)
 pub data Kind : Type 0 where
@@ -25,7 +25,7 @@ instances Cross = crosses
 
 -- the masks after one instance
 abbrev pub instanceTaken : List ℕ → Instance → List ℕ → List ℕ
-instanceTaken g x m = take (isOpen g) (stepOf x) m
+instanceTaken g x m = stepTaken (isOpen g) (stepOf x) m
 
 -- the masks after a pass
 unfoldable pub pass : List ℕ → Kind → List ℕ → List ℕ

@@ -3,10 +3,10 @@ use mathlib.Core.Bool.{Bool, cond, not, _&&_, _||_}
 use mathlib.Core.List.{List, _++_}
 use Prim.Native.Nat.{ℕ, _+_}
 use lib.Dec.{eqb, leb}
-use Rattle.candidates.specs.Masks.{has, count, lowest, tail, gather}
+use Rattle.candidates.specs.Masks.{has, count, lowest, single, tail, gather}
 use Rattle.grid.specs.Units.{unit, unitCell, inUnit}
 use Rattle.steps.specs.Boards.{at, isOpen}
-use Rattle.steps.specs.Instances.{only, lineOf}
+use Rattle.steps.specs.Instances.{lineOf}
 use Rattle.steps.specs.Loops.{each, all, upTo, above}
 use Rattle.steps.specs.Steps.{loseAll}
 
@@ -44,7 +44,7 @@ isBoxLine g m u v d = leb 2 (count (spots g m u d)) && all (λ e. not (holds g m
 
 -- "open cells of that row outside the box lose d"
 unfoldable pub boxLineAt : List ℕ → ℕ → ℕ → ℕ → List ℕ → List ℕ
-boxLineAt g u v d m = cond (isBoxLine g m u v d) (loseAll (isOpen g) (unit v) (λ e. cond (inUnit u e) 0 (only d)) m) m
+boxLineAt g u v d m = cond (isBoxLine g m u v d) (loseAll (isOpen g) (unit v) (λ e. cond (inUnit u e) 0 (single d)) m) m
 
 -- "box, then digit. .. Then columns likewise": the box's three rows and then its three columns
 unfoldable pub boxLines : List ℕ → List ℕ → List ℕ
@@ -68,7 +68,7 @@ unfoldable pub xWingAt : List ℕ → List ℕ → ℕ → ℕ → ℕ → ℕ �
 xWingAt g n across d u v m =
     cond (isXWing g n u v d)
     (loseAll (isOpen g) (unit (firstAcross across (spots g n u d)) ++ unit (secondAcross across (spots g n u d)))
-    (λ e. cond (inUnit u e || inUnit v e) 0 (only d)) m)
+    (λ e. cond (inUnit u e || inUnit v e) 0 (single d)) m)
     m
 
 -- "The list is not renewed between": the test reads the masks at the digit's start

@@ -1,17 +1,18 @@
--- The published descriptions of the ported steps, by "there is" and "for all" over cells and digits of a unit: when a step is there, and what it loses.
--- g are the givens, m the masks; digits are places. Laws in proofs (FreshDigits, Reports, Published, PublishedPasses) tie the fresh masks, each ported test, its removals and the whole passes to these.
+-- The published descriptions of the ported steps, by "there is" and "for all" over cells and digits of a unit: when a step is there, and what it reports or loses.
+-- g are the givens, m the masks; digits are places. That the engine's fresh masks and its ported calls are these is demand 2 (Demand2).
 use mathlib.Core.Path.{_≡_}
 use mathlib.Core.Logic.{_≢_, _⊎_, _↔_}
-use mathlib.Core.Bool.{true}
-use mathlib.Core.List.{List, [], _∷_}
+use mathlib.Core.Bool.{true, false}
+use mathlib.Core.List.{List, [], _∷_, _++_}
 use Prim.Native.Nat.{ℕ, suc, _+_, _≤_, _<_}
-use lib.ListN.{length, getD}
+use lib.ListN.{length}
 use Rattle.candidates.specs.Masks.{has}
-use Rattle.grid.specs.Cells.{sees}
+use Rattle.grid.specs.Cells.{sees, cells}
 use Rattle.grid.specs.Units.{unitCell, Member}
 use Rattle.steps.specs.Boards.{at, given, isOpen}
 use Rattle.steps.specs.Instances.{lineOf}
 use Rattle.steps.specs.Loops.{upTo, above}
+use Rattle.steps.specs.Singles.{Report}
 
 -- the cell has no given digit
 abbrev pub Open : List ℕ → ℕ → Type 0
@@ -38,6 +39,14 @@ pub record FreshCandidate (g : List ℕ) (c d : ℕ) : Type 0 where
   pub digit : d < 9
   pub unseen : (e : ℕ) → e < 81 → sees c e ≡ true → given g e ≢ suc d
 
+-- the 81 masks of a fresh board
+pub record FreshMasks (g n : List ℕ) : Type 0 where
+  pub size : length n ≡ 81
+  -- "an open cell holds d exactly if no peer's clue is d"
+  pub openCells : (c d : ℕ) → c < 81 → Open g c → Candidate n c d ↔ FreshCandidate g c d
+  -- "A clue cell's mask is its digit alone"
+  pub clueCells : (c d : ℕ) → c < 81 → isOpen g c ≡ false → Candidate n c d ↔ (given g c ≡ suc d)
+
 -- ---- singles
 
 -- Naked single: d is the only candidate of an open cell.
@@ -51,9 +60,9 @@ pub record HiddenSingle (g m : List ℕ) (u d c : ℕ) : Type 0 where
   pub holder : Holder g m d c
   pub alone : (e : ℕ) → Member u e → Holder g m d e → e ≡ c
 
--- Cells are reported rising: each number of the list is below all those after it.
-pub record Rising (l : List ℕ) : Type 0 where
-  pub rise : (i j : ℕ) → i < j → j < length l → getD l i 0 < getD l j 0
+-- the report of d in cell c
+abbrev pub reportOf : ℕ → ℕ → Report
+reportOf c d = record { cell = c; digit = suc d }
 
 -- ---- naked pair
 
@@ -89,8 +98,8 @@ pub record Pointing (g m : List ℕ) (u v d : ℕ) : Type 0 where
   pub holder₂ : Holder g m d two
   pub inside : (e : ℕ) → Member u e → Holder g m d e → Member v e
 
--- the open cells of the line outside the box lose d
-pub record PointingLoss (g : List ℕ) (u v d : ℕ) (x k : ℕ) : Type 0 where
+-- the open cells of v outside u lose d
+pub record LockedLoss (g : List ℕ) (u v d : ℕ) (x k : ℕ) : Type 0 where
   pub member : Member v x
   pub free : Open g x
   pub outside : ¬ (Member u x)
@@ -104,11 +113,15 @@ Rows u v = (u < 9) × (v < 9)
 abbrev pub Columns : ℕ → ℕ → Type 0
 Columns u v = (9 ≤ u) × (u < 18) × (9 ≤ v) × (v < 18)
 
--- Two rows u and v and two columns x and y, or the other way round. Of the open cells of u just those in x and y hold d, and of v likewise.
-pub record XWing (g m : List ℕ) (u v x y d : ℕ) : Type 0 where
+-- Two different rows u and v and two different columns x and y, or the other way round.
+pub record Crossing (u v x y : ℕ) : Type 0 where
   pub lines : (Rows u v × Columns x y) ⊎ (Columns u v × Rows x y)
   pub apart₁ : u ≢ v
   pub apart₂ : x ≢ y
+
+-- Of the open cells of u just those in x and y hold d, and of v likewise.
+pub record XWing (g m : List ℕ) (u v x y d : ℕ) : Type 0 where
+  pub crossing : Crossing u v x y
   pub corner₁ : (e : ℕ) → Member u e → Holder g m d e ↔ (Member x e ⊎ Member y e)
   pub corner₂ : (e : ℕ) → Member v e → Holder g m d e ↔ (Member x e ⊎ Member y e)
 
@@ -122,25 +135,41 @@ pub record XWingLoss (g : List ℕ) (u v x y d : ℕ) (e k : ℕ) : Type 0 where
 
 -- ---- passes
 
--- One turn of a pass, from masks m to n: where the pattern is there, n is m without what the pattern loses; where it is not, n is m.
-pub record Turn {A : Type 0} (pattern : A → Type 0) (loss : A → ℕ → ℕ → Type 0) (m n : List ℕ) : Type 0 where
-  pub some : (a : A) → pattern a → Without m (loss a) n
-  pub none : ((a : A) → ¬ (pattern a)) → n ≡ m
+-- One turn of a pass, from s to t: where the pattern is there, t is what the pattern makes of s; where it is not, t is s.
+pub record Turn {A S : Type 0} (pattern : A → Type 0) (makes : A → S → Type 0) (s t : S) : Type 0 where
+  pub some : (a : A) → pattern a → makes a t
+  pub none : ((a : A) → ¬ (pattern a)) → t ≡ s
 
 -- turns one after the other, one for each member of a list
-pub data Turns {A : Type 0} (turn : A → List ℕ → List ℕ → Type 0) : List A → List ℕ → List ℕ → Type 0 where
-  done : {m : List ℕ} → Turns turn [] m m
-  next : {x : A} {xs : List A} {m n o : List ℕ} → turn x m n → Turns turn xs n o → Turns turn (x ∷ xs) m o
+pub data Turns {A S : Type 0} (turn : A → S → S → Type 0) : List A → S → S → Type 0 where
+  done : {s : S} → Turns turn [] s s
+  next : {x : A} {xs : List A} {s t o : S} → turn x s t → Turns turn xs t o → Turns turn (x ∷ xs) s o
 
+-- a single is one report more, behind those that there are
+abbrev pub NakedSingleTurn : List ℕ → List ℕ → ℕ → List Report → List Report → Type 0
+NakedSingleTurn g m c rs ss = Turn (λ d. NakedSingle g m c d) (λ d ss. ss ≡ rs ++ reportOf c d ∷ []) rs ss
+
+abbrev pub HiddenSingleTurn : List ℕ → List ℕ → ℕ → ℕ → List Report → List Report → Type 0
+HiddenSingleTurn g m u d rs ss = Turn (λ c. HiddenSingle g m u d c) (λ c ss. ss ≡ rs ++ reportOf c d ∷ []) rs ss
+
+-- an elimination loses what its pattern names
 abbrev pub NakedPairTurn : List ℕ → ℕ → ℕ → ℕ → List ℕ → List ℕ → Type 0
-NakedPairTurn g u c e m n = Turn (λ (w : ℕ × ℕ). NakedPair g m u c e (w .0) (w .1)) (λ w. NakedPairLoss g u c e (w .0) (w .1)) m n
+NakedPairTurn g u c e m n = Turn (λ (w : ℕ × ℕ). NakedPair g m u c e (w .0) (w .1)) (λ w. Without m (NakedPairLoss g u c e (w .0) (w .1))) m n
 
 abbrev pub PointingTurn : List ℕ → ℕ → ℕ → ℕ → List ℕ → List ℕ → Type 0
-PointingTurn g u v d m n = Turn (λ (w : Unit {0}). Pointing g m u v d) (λ w. PointingLoss g u v d) m n
+PointingTurn g u v d m n = Turn (λ (w : Unit {0}). Pointing g m u v d) (λ w. Without m (LockedLoss g u v d)) m n
 
 -- the pattern is sought in the masks o
 abbrev pub XWingTurn : List ℕ → List ℕ → ℕ → ℕ → ℕ → List ℕ → List ℕ → Type 0
-XWingTurn g o d u v m n = Turn (λ (w : ℕ × ℕ). XWing g o u v (w .0) (w .1) d) (λ w. XWingLoss g u v (w .0) (w .1) d) m n
+XWingTurn g o d u v m n = Turn (λ (w : ℕ × ℕ). XWing g o u v (w .0) (w .1) d) (λ w. Without m (XWingLoss g u v (w .0) (w .1) d)) m n
+
+-- "open cells rising with one candidate", from no reports on
+abbrev pub NakedSinglePass : List ℕ → List ℕ → List Report → Type 0
+NakedSinglePass g m rs = Turns (NakedSingleTurn g m) cells [] rs
+
+-- "rows, columns, boxes, in each unit digits rising, where one open cell holds it; .. repeats kept"
+abbrev pub HiddenSinglePass : List ℕ → List ℕ → List Report → Type 0
+HiddenSinglePass g m rs = Turns (λ u. Turns (HiddenSingleTurn g m u) (upTo 9)) (upTo 27) [] rs
 
 -- "rows, columns, boxes. First cell rising, second above it, .. tested when reached"
 abbrev pub NakedPairPass : List ℕ → List ℕ → List ℕ → Type 0

@@ -35,5 +35,5 @@ abbrev pub loseAll : (ℕ → Bool) → List ℕ → (ℕ → ℕ) → List ℕ 
 loseAll free cs k m = each (λ c. loseAt free c (k c)) cs m
 
 -- the masks after the step
-unfoldable pub take : (ℕ → Bool) → Step → List ℕ → List ℕ
-take free s m = cond (applies s m) (loseAll free (s .hits) (s .loses) m) m
+unfoldable pub stepTaken : (ℕ → Bool) → Step → List ℕ → List ℕ
+stepTaken free s m = cond (applies s m) (loseAll free (s .hits) (s .loses) m) m

@@ -7,26 +7,26 @@ use native.Mathlib.Decide.{decLt}
 use native.Mathlib.Omega.{arith}
 use borrow.Author.Tests.{eq-eqb, ne-eqb, le-leb, lt-leb}
 use lib.Dec.{eqb, leb}
-use Rattle.candidates.specs.Masks.{minus, count, single, tail}
+use Rattle.candidates.specs.Masks.{minus, count, single, placeMask, tail}
 use Rattle.candidates.proofs.Counts.{count-none, count-tail}
 use Rattle.candidates.proofs.Tests.{by-test, cond-true}
 use Rattle.grid.specs.Units.{unit, unitCell, inUnit}
 use Rattle.grid.proofs.Units.{cell-in}
 use Rattle.grid.proofs.Lists.{each-same}
 use Rattle.steps.specs.Boards.{at, isOpen}
-use Rattle.steps.specs.Instances.{only, lineOf}
+use Rattle.steps.specs.Instances.{lineOf}
 use Rattle.steps.specs.Loops.{each, all, upTo}
 use Rattle.steps.specs.Ported.{holds, spots, isBoxLine, boxLineAt, boxLines}
 use Rattle.steps.specs.Steps.{loseAll}
 use Rattle.steps.proofs.Loops.{in-upTo}
 use Rattle.steps.proofs.Spots.{spots-small}
 use Rattle.steps.proofs.Turns.{each-alike, each-unless}
-use Rattle.cells.specs.Places.{losePlaces, unitMasks, placesOf}
-use Rattle.cells.specs.Lines.{linePlaces, outsideBox, lineUnit, lineTurn, lineTurns}
+use Rattle.cells.specs.code.Places.{losePlaces, unitMasks, spotsIn}
+use Rattle.cells.specs.code.Lines.{linePlaces, outsideBox, lineUnit, lineTurn, lineTurns}
 use Rattle.cells.proofs.Places.{all-kept, unit-masks-same, spots-are}
 use Rattle.cells.proofs.HeldPlaces.{within}
 use Rattle.cells.proofs.LineTurns.{on-line, line-lose}
-use Rattle.techniques.specs.BoxLines.{digitLines, blockLines, blockTurn}
+use Rattle.techniques.specs.code.BoxLines.{digitLines, blockLines, blockTurn}
 
 -- ---- the test
 
@@ -60,7 +60,7 @@ module _ (g : List ℕ) (b d k : ℕ) (hb : b < 9) (hk : k < 6) (m : List ℕ) w
   passes e = not (holds g m d e) || inUnit v e
 
   abbrev loss : ℕ → ℕ
-  loss e = cond (inUnit u e) 0 (only d)
+  loss e = cond (inUnit u e) 0 (single d)
 
   u-below : u < 27
   u-below = omega arith
@@ -77,7 +77,7 @@ module _ (g : List ℕ) (b d k : ℕ) (hb : b < 9) (hk : k < 6) (m : List ℕ) w
   unfolding boxLineAt lineTurn
   line-is hd = ap (λ (t : Bool). cond t (loseAll (isOpen g) (unit v) loss m) m) same-test ∙ go (eqb (count (tail s)) 0) (eqb (minus s (linePlaces k)) 0)
     where
-      go : (few on : Bool) → cond (not few && on) (loseAll (isOpen g) (unit v) loss m) m ≡ cond few m (cond on (losePlaces (isOpen g) (lineUnit b k) (outsideBox b k) (single d) m) m)
+      go : (few on : Bool) → cond (not few && on) (loseAll (isOpen g) (unit v) loss m) m ≡ cond few m (cond on (losePlaces (isOpen g) (lineUnit b k) (outsideBox b k) (placeMask d) m) m)
       go true on = refl
       go false true = sym (line-lose b k hb hk g d hd m)
       go false false = refl
@@ -87,7 +87,7 @@ module _ (g : List ℕ) (b d k : ℕ) (hb : b < 9) (hk : k < 6) (m : List ℕ) w
   box-kept =
       unit-masks-same g (cond (isBoxLine g m u v d) (loseAll (isOpen g) (unit v) loss m) m) m u
       (λ i h. by-test (λ (n : List ℕ). at n (unitCell u i) ≡ at m (unitCell u i)) (isBoxLine g m u v d) (loseAll (isOpen g) (unit v) loss m) m
-      (λ t. all-kept (isOpen g) loss (unitCell u i) (cond-true (inUnit u (unitCell u i)) 0 (only d) (cell-in u i u-below h)) (unit v) m) (λ t. refl))
+      (λ t. all-kept (isOpen g) loss (unitCell u i) (cond-true (inUnit u (unitCell u i)) 0 (single d) (cell-in u i u-below h)) (unit v) m) (λ t. refl))
 
 -- ---- the loops
 
@@ -99,26 +99,26 @@ module _ (g nine : List ℕ) (b : ℕ) (hb : b < 9) where
   abbrev lines : ℕ → List ℕ → List ℕ
   lines d m = each (λ k. boxLineAt g (18 + b) (lineOf b k) d) (upTo 6) m
 
-  digit-is : (d : ℕ) → d < 9 → (m : List ℕ) → Kept m → (digitLines g b d (placesOf nine d) m ≡ lines d m) × Kept (lines d m)
+  digit-is : (d : ℕ) → d < 9 → (m : List ℕ) → Kept m → (digitLines g b d (spotsIn nine d) m ≡ lines d m) × Kept (lines d m)
   unfolding digitLines lineTurns
-  digit-is d hd m p = (each-unless few (lineTurn g b d (placesOf nine d)) (upTo 6) m ∙ w .0, w .1)
+  digit-is d hd m p = (each-unless few (lineTurn g b d (spotsIn nine d)) (upTo 6) m ∙ w .0, w .1)
     where
       few : Bool
-      few = eqb (count (tail (placesOf nine d))) 0
+      few = eqb (count (tail (spotsIn nine d))) 0
 
-      same : (k : ℕ) → k < 6 → (n : List ℕ) → Kept n → cond few n (lineTurn g b d (placesOf nine d) k n) ≡ boxLineAt g (18 + b) (lineOf b k) d n
+      same : (k : ℕ) → k < 6 → (n : List ℕ) → Kept n → cond few n (lineTurn g b d (spotsIn nine d) k n) ≡ boxLineAt g (18 + b) (lineOf b k) d n
       same k hk n q =
-          let e : spots g n (18 + b) d ≡ placesOf nine d = sym (spots-are g n (18 + b) d (omega arith)) ∙ ap (λ (x : List ℕ). placesOf x d) q in
+          let e : spots g n (18 + b) d ≡ spotsIn nine d = sym (spots-are g n (18 + b) d (omega arith)) ∙ ap (λ (x : List ℕ). spotsIn x d) q in
           sym (line-is g b d k hb hk n hd ∙ ap (λ (s : ℕ). cond (eqb (count (tail s)) 0) n (lineTurn g b d s k n)) e)
 
-      w : (each (λ k n. cond few n (lineTurn g b d (placesOf nine d) k n)) (upTo 6) m ≡ lines d m) × Kept (lines d m)
+      w : (each (λ k n. cond few n (lineTurn g b d (spotsIn nine d) k n)) (upTo 6) m ≡ lines d m) × Kept (lines d m)
       w =
-          each-alike (λ k n. cond few n (lineTurn g b d (placesOf nine d) k n)) (λ k. boxLineAt g (18 + b) (lineOf b k) d) Kept (upTo 6)
+          each-alike (λ k n. cond few n (lineTurn g b d (spotsIn nine d) k n)) (λ k. boxLineAt g (18 + b) (lineOf b k) d) Kept (upTo 6)
           (λ k l n q. (same k (in-upTo 6 k l) n q, box-kept g b d k hb (in-upTo 6 k l) n ∙ q)) m p
 
   block-is : (m : List ℕ) → Kept m → blockLines g b nine m ≡ each lines (upTo 9) m
   unfolding blockLines
-  block-is m p = each-alike (λ d. digitLines g b d (placesOf nine d)) lines Kept (upTo 9) (λ d l n q. digit-is d (in-upTo 9 d l) n q) m p .0
+  block-is m p = each-alike (λ d. digitLines g b d (spotsIn nine d)) lines Kept (upTo 9) (λ d l n q. digit-is d (in-upTo 9 d l) n q) m p .0
 
 pub boxes-are : (g m : List ℕ) → each (blockTurn g) (upTo 9) m ≡ boxLines g m
 unfolding boxLines blockTurn

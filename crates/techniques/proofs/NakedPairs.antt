@@ -17,10 +17,10 @@ use Rattle.steps.specs.Loops.{each, all, range, upTo, above}
 use Rattle.steps.specs.Ported.{isNakedPair, nakedPairLoss, nakedPairAt, nakedPairs}
 use Rattle.steps.specs.Steps.{loseAll}
 use Rattle.steps.proofs.Loops.{in-upTo, in-above, all-member, member-all, each-idle}
-use Rattle.cells.specs.Places.{losePlaces, openMask, unitMasks, allBut}
+use Rattle.cells.specs.code.Places.{losePlaces, openMask, unitMasks, allBut}
 use Rattle.cells.proofs.Places.{open-mask, unit-mask}
 use Rattle.cells.proofs.UnitPlaces.{two-spared}
-use Rattle.techniques.specs.NakedPairs.{isPair, noTwin, pairAt, unitPairs}
+use Rattle.techniques.specs.code.NakedPairs.{isPair, noTwin, pairAt, unitPairs}
 
 -- ---- tests
 

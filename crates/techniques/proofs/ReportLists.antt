@@ -21,7 +21,8 @@ use Rattle.steps.specs.Loops.{each, for, upTo}
 use Rattle.steps.specs.Ported.{spots}
 use Rattle.steps.specs.Singles.{Report, reportIf, reportOnly, nakedAt, nakedSingles, hiddenSingles}
 use Rattle.techniques.specs.declared.singles.Reports.{Reports}
-use Rattle.techniques.specs.Reports.{filled, reportsOf, pushed, append}
+use Rattle.techniques.specs.Reports.{filled, reportsOf}
+use Rattle.techniques.specs.code.Pushes.{pushed, append}
 
 -- ---- one report
 

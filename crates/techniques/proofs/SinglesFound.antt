@@ -19,11 +19,11 @@ use Rattle.steps.specs.Loops.{each, for, upTo}
 use Rattle.steps.specs.Ported.{spots}
 use Rattle.steps.specs.Singles.{Report, reportOnly, nakedAt, nakedSingles, hiddenSingles}
 use Rattle.steps.proofs.Loops.{each-for, for-same, in-upTo}
-use Rattle.cells.specs.Places.{openMask, unitMasks, placesOf}
+use Rattle.cells.specs.code.Places.{openMask, unitMasks, spotsIn}
 use Rattle.cells.proofs.Places.{open-mask, spots-are}
 use Rattle.techniques.specs.declared.singles.Reports.{Reports}
-use Rattle.techniques.specs.Reports.{pushed, append}
-use Rattle.techniques.specs.Singles.{hiddenAt, hiddenIn}
+use Rattle.techniques.specs.code.Pushes.{pushed, append}
+use Rattle.techniques.specs.code.Singles.{hiddenAt, hiddenIn}
 use Rattle.techniques.proofs.ReportLists.{append-one}
 
 -- ---- naked singles
@@ -79,9 +79,9 @@ module _ (u d : ℕ) (q : Reports) {s p : ℕ} (spot : s ≡ p) where
   hidden-none t =
       sym (append-one (eqb (count p) 1) (unitCell u (lowest p)) d q ∙ cond-false (eqb (count p) 1) (pushed q (unitCell u (lowest p)) (d + 1)) q (ap (λ (x : ℕ). eqb (count x) 1) (sym spot) ∙ t))
 
-pub hidden-loop : (g m : List ℕ) (u : ℕ) (q : Reports) → each (λ d. append (hiddenAt u (placesOf (unitMasks g m u) d) d)) (upTo 9) q ≡ append (hiddenIn g m u) q
+pub hidden-loop : (g m : List ℕ) (u : ℕ) (q : Reports) → each (λ d. append (hiddenAt u (spotsIn (unitMasks g m u) d) d)) (upTo 9) q ≡ append (hiddenIn g m u) q
 unfolding append hiddenIn
-hidden-loop g m u q = sym (each-for (λ r q. pushed q (r .cell) (r .digit)) (upTo 9) (λ d. hiddenAt u (placesOf (unitMasks g m u) d) d) q)
+hidden-loop g m u q = sym (each-for (λ r q. pushed q (r .cell) (r .digit)) (upTo 9) (λ d. hiddenAt u (spotsIn (unitMasks g m u) d) d) q)
 
 pub units-loop : (g m : List ℕ) (q : Reports) → each (λ u. append (hiddenIn g m u)) (upTo 27) q ≡ append (hiddenSingles g m) q
 unfolding append hiddenSingles hiddenIn
@@ -89,5 +89,5 @@ units-loop g m q =
     sym (each-for (λ r q. pushed q (r .cell) (r .digit)) (upTo 27) (hiddenIn g m) q)
     ∙ ap (λ (rs : List Report). append rs q)
     (for-same (hiddenIn g m) (λ u. for (upTo 9) λ d. hiddenAt u (spots g m u d) d) (upTo 27)
-    (λ u k. for-same (λ d. hiddenAt u (placesOf (unitMasks g m u) d) d) (λ d. hiddenAt u (spots g m u d) d) (upTo 9)
+    (λ u k. for-same (λ d. hiddenAt u (spotsIn (unitMasks g m u) d) d) (λ d. hiddenAt u (spots g m u d) d) (upTo 9)
     (λ d l. ap (λ (s : ℕ). hiddenAt u s d) (spots-are g m u d (in-upTo 27 u k)))))

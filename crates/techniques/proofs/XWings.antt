@@ -7,23 +7,22 @@ use Prim.Native.Nat.{ℕ, _+_, _≤_, _<_}
 use native.Mathlib.Omega.{arith}
 use borrow.Author.Tests.{eq-eqb, ne-eqb, eqb-true}
 use lib.Dec.{eqb, lit≤}
-use Rattle.candidates.specs.Masks.{count, single, lowest, tail}
+use Rattle.candidates.specs.Masks.{count, single, placeMask, lowest, tail}
 use Rattle.candidates.proofs.FewDigits.{count-two}
 use Rattle.candidates.proofs.Tests.{by-test, cond-true, cond-false}
 use Rattle.grid.specs.Units.{unit, inUnit}
 use Rattle.grid.proofs.Lists.{at-upTo, each-end, each-same}
 use Rattle.steps.specs.Boards.{at, isOpen}
-use Rattle.steps.specs.Instances.{only}
 use Rattle.steps.specs.Loops.{each, upTo, above}
 use Rattle.steps.specs.Ported.{spots, xWingAt, xWingDigit, xWings}
 use Rattle.steps.specs.Steps.{loseAll}
 use Rattle.steps.proofs.Loops.{in-upTo, in-above}
 use Rattle.steps.proofs.Spots.{spots-small, spot-below}
 use Rattle.steps.proofs.Turns.{each-when}
-use Rattle.cells.specs.Places.{losePlaces, unitMasks, placesOf, allBut, lineSpots}
+use Rattle.cells.specs.code.Places.{losePlaces, unitMasks, spotsIn, allBut, lineSpots}
 use Rattle.cells.proofs.Places.{spots-are}
 use Rattle.cells.proofs.Crossings.{Crossing, rows, columns, two-across}
-use Rattle.techniques.specs.XWings.{linesFrom, acrossFrom, wingAt, wingsFrom, wingDigit}
+use Rattle.techniques.specs.code.XWings.{linesFrom, acrossFrom, wingAt, wingsFrom, wingDigit}
 
 pub lines-le : (columns : Bool) → linesFrom columns ≤ 9
 lines-le true = lit≤ tt
@@ -36,17 +35,17 @@ across-le false = lit≤ tt
 -- ---- one turn of the code
 
 module _ (g : List ℕ) (columns : Bool) (d i j s t : ℕ) (m : List ℕ) where
-  pub wing-lost : {a x rest y others lost : ℕ} → a ≡ acrossFrom columns → x ≡ lowest s → rest ≡ tail s → y ≡ lowest rest → others ≡ allBut i j → lost ≡ single d → s ≡ t
+  pub wing-lost : {a x rest y others lost : ℕ} → a ≡ acrossFrom columns → x ≡ lowest s → rest ≡ tail s → y ≡ lowest rest → others ≡ allBut i j → lost ≡ placeMask d → s ≡ t
       → losePlaces (isOpen g) (a + y) others lost (losePlaces (isOpen g) (a + x) others lost m) ≡ wingAt g columns d i j s t m
   unfolding wingAt
   wing-lost {a} {x} {rest} {y} {others} {lost} p q r z o l e =
       ap (λ (w : ℕ). losePlaces (isOpen g) (a + w) others lost (losePlaces (isOpen g) (a + x) others lost m)) (z ∙ ap lowest r)
-      ∙ rw (p, q, o, l) (sym (cond-true (eqb s t) (losePlaces (isOpen g) (acrossFrom columns + lowest (tail s)) (allBut i j) (single d) (losePlaces (isOpen g) (acrossFrom columns + lowest s) (allBut i j) (single d) m)) m (eq-eqb s t e)))
+      ∙ rw (p, q, o, l) (sym (cond-true (eqb s t) (losePlaces (isOpen g) (acrossFrom columns + lowest (tail s)) (allBut i j) (placeMask d) (losePlaces (isOpen g) (acrossFrom columns + lowest s) (allBut i j) (placeMask d) m)) m (eq-eqb s t e)))
 
   pub wing-kept : (s ≡ t → ⊥) → m ≡ wingAt g columns d i j s t m
   unfolding wingAt
   wing-kept n =
-      sym (cond-false (eqb s t) (losePlaces (isOpen g) (acrossFrom columns + lowest (tail s)) (allBut i j) (single d) (losePlaces (isOpen g) (acrossFrom columns + lowest s) (allBut i j) (single d) m)) m (ne-eqb s t n))
+      sym (cond-false (eqb s t) (losePlaces (isOpen g) (acrossFrom columns + lowest (tail s)) (allBut i j) (placeMask d) (losePlaces (isOpen g) (acrossFrom columns + lowest s) (allBut i j) (placeMask d) m)) m (ne-eqb s t n))
 
 module _ (g : List ℕ) (columns : Bool) (d : ℕ) (list : List ℕ) (i : ℕ) (m : List ℕ) where
   abbrev wings : List ℕ
@@ -74,7 +73,7 @@ across false = columns
 
 module _ (g : List ℕ) (columns : Bool) (d i j : ℕ) (hd : d < 9) (hi : i < 9) (hj : j < 9) where
   abbrev loss : ℕ → ℕ
-  loss e = cond (inUnit (linesFrom columns + i) e || inUnit (linesFrom columns + j) e) 0 (only d)
+  loss e = cond (inUnit (linesFrom columns + i) e || inUnit (linesFrom columns + j) e) 0 (single d)
 
   -- n are the masks when the list was made
   wing-is : (n m : List ℕ) → cond (eqb (count (spots g n (linesFrom columns + i) d)) 2) (wingAt g columns d i j (spots g n (linesFrom columns + i) d) (spots g n (linesFrom columns + j) d) m) m
@@ -92,7 +91,7 @@ module _ (g : List ℕ) (columns : Bool) (d i j : ℕ) (hd : d < 9) (hi : i < 9)
       a = acrossFrom columns
 
       twice : eqb (count s) 2 ≡ true
-          → losePlaces (isOpen g) (a + lowest (tail s)) (allBut i j) (single d) (losePlaces (isOpen g) (a + lowest s) (allBut i j) (single d) m)
+          → losePlaces (isOpen g) (a + lowest (tail s)) (allBut i j) (placeMask d) (losePlaces (isOpen g) (a + lowest s) (allBut i j) (placeMask d) m)
           ≡ loseAll (isOpen g) (unit (a + lowest s) ++ unit (a + lowest (tail s))) loss m
       twice e =
           let w = count-two s (spots-small g n (linesFrom columns + i) d) (eqb-true (count s) 2 e) in
@@ -101,7 +100,7 @@ module _ (g : List ℕ) (columns : Bool) (d i j : ℕ) (hd : d < 9) (hi : i < 9)
           two-across g (linesFrom columns) (acrossFrom columns) d i j (across columns) hd hi hj (lowest s) (lowest (tail s)) h k m
 
       go : (two : Bool) → eqb (count s) 2 ≡ two → (same : Bool)
-          → cond two (cond same (losePlaces (isOpen g) (a + lowest (tail s)) (allBut i j) (single d) (losePlaces (isOpen g) (a + lowest s) (allBut i j) (single d) m)) m) m
+          → cond two (cond same (losePlaces (isOpen g) (a + lowest (tail s)) (allBut i j) (placeMask d) (losePlaces (isOpen g) (a + lowest s) (allBut i j) (placeMask d) m)) m) m
           ≡ cond (two && same) (loseAll (isOpen g) (unit (a + lowest s) ++ unit (a + lowest (tail s))) loss m) m
       go true e true = twice e
       go true e false = refl
@@ -113,7 +112,7 @@ module _ (g : List ℕ) (columns : Bool) (d : ℕ) (hd : d < 9) where
   listed : (n : List ℕ) (i : ℕ) → i < 9 → at (lineSpots g n (linesFrom columns) d) i ≡ spots g n (linesFrom columns + i) d
   unfolding lineSpots
   listed n i h =
-      at-upTo (λ i. placesOf (unitMasks g n (linesFrom columns + i)) d) 0 9 i h
+      at-upTo (λ i. spotsIn (unitMasks g n (linesFrom columns + i)) d) 0 9 i h
       ∙ spots-are g n (linesFrom columns + i) d (omega (arith, lines-le columns))
 
   digit-is : (m : List ℕ) → wingDigit g columns d m ≡ xWingDigit g (linesFrom columns) (acrossFrom columns) d m

@@ -1,6 +1,3 @@
-pub mod NakedPairs
-pub mod BoxLines
-pub mod XWings
 pub mod Techniques
 pub mod Reports
-pub mod Singles
+pub mod code

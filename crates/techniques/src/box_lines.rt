@@ -1,7 +1,7 @@
 // Box-line (module 4): where the open cells of a box that hold a digit, two or more, lie on one line, the line's open cells outside the box lose it.
 ghost use mathlib.Core.Path.{_≡_};
 ghost use Rattle.steps.specs.Ported.{boxLines};
-ghost use Rattle.techniques.specs.BoxLines.{digitLines, blockLines};
+ghost use Rattle.techniques.specs.code.BoxLines.{digitLines, blockLines};
 use candidates::masks;
 use cells::lines::lose_lines;
 use cells::places_of;

@@ -2,7 +2,7 @@
 ghost use mathlib.Core.Path.{_≡_};
 ghost use Rattle.steps.specs.Loops.{each, above};
 ghost use Rattle.steps.specs.Ported.{nakedPairs};
-ghost use Rattle.techniques.specs.NakedPairs.{noTwin, pairAt, unitPairs};
+ghost use Rattle.techniques.specs.code.NakedPairs.{noTwin, pairAt, unitPairs};
 use candidates::masks;
 use cells::all_but;
 use cells::lose_places;

@@ -3,7 +3,7 @@
 ghost use mathlib.Core.Path.{_≡_};
 ghost use Rattle.steps.specs.Loops.{each, upTo};
 ghost use Rattle.steps.specs.Ported.{xWings};
-ghost use Rattle.techniques.specs.XWings.{linesFrom, acrossFrom, wingAt, wingsFrom, wingDigit};
+ghost use Rattle.techniques.specs.code.XWings.{linesFrom, acrossFrom, wingAt, wingsFrom, wingDigit};
 use candidates::masks;
 use cells::all_but;
 use cells::line_spots;

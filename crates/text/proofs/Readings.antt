@@ -11,20 +11,21 @@ use lib.Dec.{T, eqb, eqb→eq}
 use lib.IntN.{ℤ, pos}
 use lib.ListN.{length, getD, take, drop, length-map, List·getD-map}
 use lib.Seq.{ext-getD, take-at}
-use Rattle.candidates.specs.Answer.{Answer, gives}
-use Rattle.candidates.proofs.Answers.{stop-gives}
+use Rattle.stops.specs.Answer.{Answer, gives, passing, stopAt}
+use Rattle.stops.specs.declared.Stop.the-variants.{OtherByte, BadClue}
+use Rattle.stops.proofs.Answers.{stop-gives}
 use Rattle.candidates.proofs.Tests.{cond-false, T-true, allBelow, below, implies, implied}
 use Rattle.grid.specs.Cells.{cells}
 use Rattle.grid.proofs.Cells.{at-cells}
 use Rattle.steps.specs.Boards.{digitOf}
 use Rattle.steps.specs.Calls.{badClue, opened}
-use Rattle.steps.specs.Demand3.{Clues}
+use Rattle.steps.specs.Calls.{Clues}
 use Rattle.steps.proofs.Check.{digit-small, good-digit}
 use Rattle.steps.proofs.Searches.{cells-none, none-cells}
 use Rattle.board.specs.Boards.{openOf}
-use Rattle.text.specs.Texts.{byteCell, noCell, isOther, cellClue, byteClue, firstOther, cluesOf, readCells, parseOf, clueByte, textOf, writeOf, written, plainByte, canonical}
+use Rattle.text.specs.Texts.{byteCell, noCell, isOther, cellClue, byteClue, firstOther, cluesOf, parseOf, clueByte, textOf, writeOf, written, plainByte, canonical}
 use Rattle.board.proofs.Checks.{clues-open}
-use Rattle.text.proofs.Texts.{wrong-length, reading, read, over, digit, writes}
+use Rattle.text.proofs.Texts.{wrong-length, right-length, long-enough, over, digit}
 
 -- ---- what the reader accepts
 
@@ -39,18 +40,18 @@ module _ (t : List ℕ) (z : List ℤ) where
   unfolding parseOf
   accepted e = go (ℕ-discrete (length t) 81)
     where
-      cells-read : (r : Option ℕ) → readCells r (cluesOf t) ≡ gives z → (r ≡ none) × (cluesOf t ≡ z)
+      cells-read : (r : Option ℕ) → passing (stopAt OtherByte r) (cluesOf t) ≡ gives z → (r ≡ none) × (cluesOf t ≡ z)
       cells-read none e = (refl, cc)
       cells-read (some i) e = absurd (stop-gives e)
 
       go : Dec (length t ≡ 81) → Reads t z
       go (yes h) =
-          let w = cells-read (firstOther t) (reading t h refl ∙ e) in
+          let w = cells-read (firstOther t) (right-length t h ∙ e) in
           record { size = h; plain = none-cells (λ i. isOther (getD t i 0)) (w .0); is = w .1 }
       go (no h) = absurd (stop-gives (wrong-length t h ∙ e))
 
   pub accepts : Reads t z → parseOf t ≡ gives z
-  accepts r = sym (read t (r .size) (cells-none (λ i. isOther (getD t i 0)) (r .plain))) ∙ ap gives (r .is)
+  accepts r = sym (right-length t (r .size)) ∙ ap (λ (o : Option ℕ). passing (stopAt OtherByte o) (cluesOf t)) (cells-none (λ i. isOther (getD t i 0)) (r .plain)) ∙ ap gives (r .is)
 
 -- ---- a byte that stands for a cell, and the byte of a clue
 
@@ -128,5 +129,5 @@ module _ (z : List ℤ) (ok : Clues z) where
   pub written-read : (lent : List ℕ) → 81 ≤ length lent → parseOf (take 81 (written (writeOf z (length lent)) z lent)) ≡ gives z
   unfolding cells
   written-read lent h =
-      ap (λ (w : Answer ℕ). parseOf (take 81 (written w z lent))) (sym (writes z (length lent) h (cells-none (λ c. badClue (getD z c (pos 0))) (ok .good))))
+      ap (λ (w : Answer ℕ). parseOf (take 81 (written w z lent))) (sym (long-enough z (length lent) h) ∙ ap (λ (o : Option ℕ). passing (stopAt BadClue o) 81) (cells-none (λ c. badClue (getD z c (pos 0))) (ok .good)))
       ∙ ap parseOf (take-at (textOf z) (drop 81 lent) 81 refl) ∙ writes-read

@@ -1,16 +1,17 @@
 -- Grids as text: what a byte stands for, and what the reader and the writer answer. Assumes nothing.
-use mathlib.Core.Path.{_≡_, sym, ap, _∙_}
+use mathlib.Core.Path.{_≡_, sym}
 use mathlib.Core.List.{List}
-use mathlib.Core.Option.{Option, none, some}
+use mathlib.Core.Option.{none, some}
 use Prim.Native.Nat.{ℕ, _-_, _≤_, _<_}
 use borrow.Author.Tests.{eq-eqb, ne-eqb, le-leb, lt-leb}
 use lib.Dec.{eqb, leb}
 use lib.IntN.{ℤ, pos}
 use lib.ListN.{length}
-use Rattle.candidates.specs.Answer.{gives, stop}
+use Rattle.stops.specs.Answer.{stop, passing, stopAt}
+use Rattle.stops.specs.declared.Stop.the-variants.{TextLength, OtherByte, BadClue, TooFewBytes}
 use Rattle.candidates.proofs.Tests.{cond-true, cond-false}
-use Rattle.board.specs.Boards.{firstBadClue}
-use Rattle.text.specs.Texts.{byteCell, firstOther, cluesOf, readCells, parseOf, writeCells, writeOf}
+use Rattle.steps.specs.Calls.{firstBadClue}
+use Rattle.text.specs.Texts.{byteCell, firstOther, cluesOf, parseOf, writeOf}
 
 -- ---- a byte
 
@@ -31,37 +32,21 @@ module _ (b : ℕ) where
 -- ---- the reader
 
 module _ (t : List ℕ) where
-  pub wrong-length : (length t ≡ 81 → ⊥) → stop 1 (pos (length t)) ≡ parseOf t
+  pub wrong-length : (length t ≡ 81 → ⊥) → stop (TextLength (pos (length t))) ≡ parseOf t
   unfolding parseOf
-  wrong-length n = sym (cond-false (eqb (length t) 81) (readCells (firstOther t) (cluesOf t)) (stop 1 (pos (length t))) (ne-eqb (length t) 81 n))
+  wrong-length n = sym (cond-false (eqb (length t) 81) _ (stop (TextLength (pos (length t)))) (ne-eqb (length t) 81 n))
 
-  module _ (h : length t ≡ 81) where
-    pub reading : {r : Option ℕ} → firstOther t ≡ r → readCells r (cluesOf t) ≡ parseOf t
-    unfolding parseOf
-    reading e =
-        ap (λ (r : Option ℕ). readCells r (cluesOf t)) (sym e)
-        ∙ sym (cond-true (eqb (length t) 81) (readCells (firstOther t) (cluesOf t)) (stop 1 (pos (length t))) (eq-eqb (length t) 81 h))
-
-    pub bad-byte : {i : ℕ} → firstOther t ≡ some i → stop 2 (pos i) ≡ parseOf t
-    bad-byte e = reading e
-
-    pub read : firstOther t ≡ none → gives (cluesOf t) ≡ parseOf t
-    read e = reading e
+  pub right-length : length t ≡ 81 → passing (stopAt OtherByte (firstOther t)) (cluesOf t) ≡ parseOf t
+  unfolding parseOf
+  right-length h = sym (cond-true (eqb (length t) 81) _ (stop (TextLength (pos (length t)))) (eq-eqb (length t) 81 h))
 
 -- ---- the writer
 
 module _ (z : List ℤ) (n : ℕ) where
-  pub too-short : n < 81 → stop 6 (pos n) ≡ writeOf z n
+  pub too-short : n < 81 → stop (TooFewBytes (pos n)) ≡ writeOf z n
   unfolding writeOf
-  too-short h = sym (cond-false (leb 81 n) (writeCells (firstBadClue z)) (stop 6 (pos n)) (lt-leb 81 n h))
+  too-short h = sym (cond-false (leb 81 n) _ (stop (TooFewBytes (pos n))) (lt-leb 81 n h))
 
-  module _ (h : 81 ≤ n) where
-    writing : {r : Option ℕ} → firstBadClue z ≡ r → writeCells r ≡ writeOf z n
-    unfolding writeOf
-    writing e = ap writeCells (sym e) ∙ sym (cond-true (leb 81 n) (writeCells (firstBadClue z)) (stop 6 (pos n)) (le-leb 81 n h))
-
-    pub bad-clue : {c : ℕ} → firstBadClue z ≡ some c → stop 3 (pos c) ≡ writeOf z n
-    bad-clue e = writing e
-
-    pub writes : firstBadClue z ≡ none → gives 81 ≡ writeOf z n
-    writes e = writing e
+  pub long-enough : 81 ≤ n → passing (stopAt BadClue (firstBadClue z)) 81 ≡ writeOf z n
+  unfolding writeOf
+  long-enough h = sym (cond-true (leb 81 n) _ (stop (TooFewBytes (pos n))) (le-leb 81 n h))

@@ -6,11 +6,19 @@ use Prim.Native.Nat.{ℕ, _+_, _-_}
 use lib.Dec.{eqb, leb}
 use lib.IntN.{ℤ, pos}
 use lib.ListN.{length, getD, drop}
-use Rattle.candidates.specs.Answer.{Answer, gives, stop}
+use Rattle.stops.specs.Answer.{Answer, gives, stop, passing, stopAt}
+use Rattle.stops.specs.declared.Stop.the-variants.{TextLength, OtherByte, BadClue, TooFewBytes}
 use Rattle.grid.specs.Cells.{cells}
 use Rattle.steps.specs.Boards.{digitOf}
+use Rattle.steps.specs.Calls.{firstBadClue}
 use Rattle.steps.specs.Loops.{first}
-use Rattle.board.specs.Boards.{firstBadClue}
+use Rattle.text.specs.declared.TextByte.the-variants as text
+use Rattle.text.specs.declared.TextByte.{TextByte}
+
+-- what a byte of a text is in code: a cell's digit, 0 where it is open, or no cell
+abbrev pub textCell : TextByte → Option ℕ
+textCell (text.Cell d) = some d
+textCell text.Other = none
 
 -- what a byte stands for: a digit, 0 for an open cell, or nothing
 abbrev pub byteCell : ℕ → Option ℕ
@@ -33,19 +41,17 @@ byteClue b = cellClue (byteCell b)
 
 -- ---- the reader
 
--- stop 1, "length not 81", with the length; then stop 2, "first other byte", with its index
+-- "first other byte"
 abbrev pub firstOther : List ℕ → Option ℕ
 firstOther text = first (λ i. isOther (getD text i 0)) cells
 
 abbrev pub cluesOf : List ℕ → List ℤ
 cluesOf text = map (λ i. byteClue (getD text i 0)) cells
 
-abbrev pub readCells : Option ℕ → List ℤ → Answer (List ℤ)
-readCells none clues = gives clues
-readCells (some i) clues = stop 2 (pos i)
-
+-- "length not 81", then the first other byte
 unfoldable pub parseOf : List ℕ → Answer (List ℤ)
-parseOf text = cond (eqb (length text) 81) (readCells (firstOther text) (cluesOf text)) (stop 1 (pos (length text)))
+parseOf text =
+    cond (eqb (length text) 81) (passing (stopAt OtherByte (firstOther text)) (cluesOf text)) (stop (TextLength (pos (length text))))
 
 -- ---- the writer
 
@@ -57,18 +63,14 @@ clueByte z = cond (eqb (digitOf z) 0) 46 (digitOf z + 48)
 abbrev pub textOf : List ℤ → List ℕ
 textOf clues = map (λ c. clueByte (getD clues c (pos 0))) cells
 
--- "6: lent bytes too few", with their length; "then 3", with the cell; else 81
-abbrev pub writeCells : Option ℕ → Answer ℕ
-writeCells none = gives 81
-writeCells (some c) = stop 3 (pos c)
-
+-- "lent bytes too few"; "then" the first bad clue; else it "returns 81"
 unfoldable pub writeOf : List ℤ → ℕ → Answer ℕ
-writeOf clues lent = cond (leb 81 lent) (writeCells (firstBadClue clues)) (stop 6 (pos lent))
+writeOf clues lent = cond (leb 81 lent) (passing (stopAt BadClue (firstBadClue clues)) 81) (stop (TooFewBytes (pos lent)))
 
 -- "puts `.` for open into the first 81 lent bytes ..; later bytes keep"; a refusal leaves all of them
 abbrev pub written : Answer ℕ → List ℤ → List ℕ → List ℕ
 written (gives n) clues lent = textOf clues ++ drop 81 lent
-written (stop n z) clues lent = lent
+written (stop s) clues lent = lent
 
 -- a text as the writer would write its cells: `.` for `0`
 abbrev pub plainByte : ℕ → ℕ

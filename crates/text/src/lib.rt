@@ -3,41 +3,29 @@ ghost use mathlib.Core.Path.{_≡_};
 ghost use Prim.Native.Nat.{_≤_};
 ghost use lib.ListN.{drop, getD, length};
 ghost use mathlib.Core.List.{_++_};
-ghost use Rattle.board.specs.Answers.{beside, foundCell};
+ghost use Rattle.stops.specs.Answer.{checkAnswer, passing, stopAt, valueOr, writingAnswer};
+ghost use Rattle.stops.specs.declared.Stop.the-variants.{OtherByte};
 ghost use Rattle.board.specs.Boards.{noClues};
-ghost use Rattle.text.specs.Answers.{parsingAnswer, textCell, writingAnswer};
-ghost use Rattle.text.specs.Texts.{byteCell, isOther, byteClue, firstOther, cluesOf, parseOf, clueByte, textOf, writeOf, written};
-use board::Found;
+ghost use Rattle.text.specs.Texts.{textCell, byteCell, isOther, byteClue, firstOther, cluesOf, parseOf, clueByte, textOf, writeOf, written};
 use board::clues;
+use stops::Check;
+use stops::Stop;
+use stops::Writing;
 
 // What a byte of a text is: a cell, with its digit or 0 where it is open, or any other byte.
-pub enum TextByte {
+enum TextByte {
     Cell(u8),
     Other,
 }
 
-// What `parse_string` answers: the clues are read, or the length, or the index of the first other byte.
-pub enum Parsing {
-    Read,
-    WrongLength(usize),
-    BadByte(usize),
-}
-
 // A text that was read; zeros beside a refusal.
 pub struct Parsed {
-    pub answer: Parsing,
+    pub answer: Check,
     pub clues: [i32; 81],
 }
 
-// What `write_text` answers: the bytes written, the lent length that is too short, or the first cell of stop 3.
-pub enum Writing {
-    Written(usize),
-    TooShort(usize),
-    BadClue(usize),
-}
-
 // What a byte stands for.
-pub fn text_byte(byte: u8) -> TextByte
+fn text_byte(byte: u8) -> TextByte
     ensures { λ r. ⌜ textCell r ≡ byteCell byte ⌝ }
 {
     if byte == b'.' {
@@ -71,7 +59,7 @@ fn byte_clue(byte: u8) -> i32
 }
 
 // The byte at an index; 0 past the text.
-fn byte_at(text: &[u8], index: usize) -> u8
+pub fn byte_at(text: &[u8], index: usize) -> u8
     ensures { λ r. ⌜ r ≡ getD (now (text .entry)) index 0 ⌝ }
 {
     if index < text.len() {
@@ -80,18 +68,18 @@ fn byte_at(text: &[u8], index: usize) -> u8
     0
 }
 
-// The first other byte of 81.
-fn first_other(text: &[u8]) -> Found
-    ensures { λ r. ⌜ foundCell r ≡ firstOther (now (text .entry)) ⌝ }
+// Stop 2 with the first other byte of 81.
+fn check_bytes(text: &[u8]) -> Check
+    ensures { λ r. ⌜ checkAnswer r ≡ stopAt OtherByte (firstOther (now (text .entry))) ⌝ }
 {
     let mut index: usize = 0;
     while index < 81 {
         if is_other(byte_at(text, index)) {
-            return Found::At(index);
+            return Check::Refused(Stop::OtherByte(index as i64));
         }
         index += 1;
     }
-    Found::Nothing
+    Check::Passed
 }
 
 fn clues_of(text: &[u8]) -> [i32; 81]
@@ -108,23 +96,24 @@ fn clues_of(text: &[u8]) -> [i32; 81]
 
 // The clues of a text: stop 1 with a length that is not 81, then stop 2 with the index of the first other byte.
 pub fn parse_string(text: &[u8]) -> Parsed
-    ensures { λ r. ⌜ (parsingAnswer (r .answer) (r .clues) ≡ parseOf (now (text .entry))) × (r .clues ≡ beside (parseOf (now (text .entry))) noClues) ⌝ }
+    ensures { λ r. ⌜ (passing (checkAnswer (r .answer)) (r .clues) ≡ parseOf (now (text .entry))) × (r .clues ≡ valueOr noClues (parseOf (now (text .entry)))) ⌝ }
 {
     if text.len() != 81 {
         return Parsed {
-            answer: Parsing::WrongLength(text.len()),
+            answer: Check::Refused(Stop::TextLength(text.len() as i64)),
             clues: [0; 81],
         };
     }
-    match first_other(text) {
-        Found::At(index) => Parsed {
-            answer: Parsing::BadByte(index),
+    let answer = check_bytes(text);
+    let Check::Passed = answer else {
+        return Parsed {
+            answer,
             clues: [0; 81],
-        },
-        Found::Nothing => Parsed {
-            answer: Parsing::Read,
-            clues: clues_of(text),
-        },
+        };
+    };
+    Parsed {
+        answer,
+        clues: clues_of(text),
     }
 }
 
@@ -155,11 +144,11 @@ pub fn write_text(grid: &[i32; 81], out: &mut [u8]) -> Writing
     ensures { λ r. ⌜ (writingAnswer r ≡ writeOf (now (grid .entry)) (length (now (out .entry)))) × (now (out .exit) ≡ written (writeOf (now (grid .entry)) (length (now (out .entry)))) (now (grid .entry)) (now (out .entry))) ⌝ }
 {
     if out.len() < 81 {
-        return Writing::TooShort(out.len());
+        return Writing::Refused(Stop::TooFewBytes(out.len() as i64));
     }
-    match clues::first_bad(grid) {
-        Found::At(cell) => Writing::BadClue(cell),
-        Found::Nothing => {
+    match clues::check_clues(grid) {
+        Check::Refused(stop) => Writing::Refused(stop),
+        Check::Passed => {
             put_text(grid, out);
             Writing::Written(81)
         }

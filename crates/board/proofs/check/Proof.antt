@@ -22,4 +22,5 @@ returns c =
     c .check-beside .ensures ∙ checks (a .clues .now) (a .masks .now) (g .givens-of .ensures) (f .fresh-masks .ensures)
 
 pub check-spec : {M : Type 1} → statement M
-check-spec = tie.close (tie.spec givens-of-requires fresh-masks-requires check-beside-requires returns)
+check-spec =
+    tie.close (tie.spec givens-of-requires fresh-masks-requires check-beside-requires returns)

@@ -4,19 +4,20 @@ use borrow.Author.Needs.{needs}
 use Rattle.board.proofs.check_beside.Statement.{statement}
 use Rattle.board.proofs.check_beside.Tie as tie
 
-first-bad-requires : tie.Need-first-bad-requires
-first-bad-requires c κs = search needs
+check-clues-requires : tie.Need-check-clues-requires
+check-clues-requires c κs = search needs
 
-first-misfit-requires : tie.Need-first-misfit-requires
-first-misfit-requires c κs = search needs
+check-masks-requires : tie.Need-check-masks-requires
+check-masks-requires c κs = search needs
 
-first-stop-requires : tie.Need-first-stop-requires
-first-stop-requires c κs = search needs
+then-requires : tie.Need-then-requires
+then-requires c κs = search needs
 
 returns : tie.Need-returns
 returns c =
     let m = c .before in
-    c .first-stop .ensures ∙ rw (m .before .first-bad .ensures, m .first-misfit .ensures)
+    c .then .ensures ∙ rw (m .before .check-clues .ensures, m .check-masks .ensures)
 
 pub check-beside-spec : {M : Type 1} → statement M
-check-beside-spec = tie.close (tie.spec first-bad-requires first-misfit-requires first-stop-requires returns)
+check-beside-spec =
+    tie.close (tie.spec check-clues-requires check-masks-requires then-requires returns)

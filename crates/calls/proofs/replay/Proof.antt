@@ -1,14 +1,14 @@
 -- `calls::replay` meets its contract. Assumes nothing.
-use mathlib.Core.Path.{sym, ap, _∙_}
+use mathlib.Core.Path.{refl, sym, ap, _∙_}
 use borrow.Author.Needs.{needs}
-use Rattle.candidates.specs.Answer.{gives}
-use Rattle.steps.specs.Calls.{run}
-use Rattle.board.specs.Answers.{foundCell, openingAnswer}
+use Rattle.steps.specs.Boards as S
+use Rattle.board.specs.Answers.{foundCell}
 use Rattle.board.specs.Boards.{boardOf}
-use Rattle.board.specs.declared.Opening.{Opening}
-use Rattle.calls.specs.Replays.{callsOf, replayingAnswer}
 use Rattle.calls.specs.declared.Replaying.{Replaying}
-use Rattle.calls.proofs.Runs.{replays, clue-refused, run-replayed}
+use Rattle.stops.specs.Answer.{checkAnswer, passing, gives}
+use Rattle.stops.specs.declared.Check.{Check}
+use Rattle.calls.specs.Replays.{ran, replayingAnswer}
+use Rattle.calls.proofs.Runs.{replays, run-replayed}
 use Rattle.calls.proofs.replay.Statement.{statement}
 use Rattle.calls.proofs.replay.Tie as tie
 
@@ -45,7 +45,7 @@ returns c =
     let a = new .before .before .args in
     let b = boardOf (new .new .result .board) in
     replays (a .clues) (a .steps .now) _
-    (clue-refused (a .clues) (a .steps .now) (ap (λ (o : Opening). openingAnswer o b) (sym (c .before .before .opening .given .1)) ∙ new .new .ensures .0))
+    (run-replayed (a .clues) (a .steps .now) (ap (λ (k : Check). passing (checkAnswer k) b) (sym (c .before .before .opening .given .1)) ∙ new .new .ensures .0) refl)
     (ap (λ (o : Replaying). replayingAnswer o (boardOf (c .refused .result .board))) (c .refused .ensures .0))
     (c .refused .ensures .1)
 
@@ -57,7 +57,7 @@ returns-2 c =
     let a = new .before .before .args in
     let b = boardOf (new .new .result .board) in
     replays (a .clues) (a .steps .now) _
-    (run-replayed (a .clues) (a .steps .now) {b = b} (ap (λ (o : Opening). openingAnswer o b) (sym (told .enum-told .given .1)) ∙ new .new .ensures .0)
+    (run-replayed (a .clues) (a .steps .now) (ap (λ (k : Check). passing (checkAnswer k) b) (sym (told .enum-told .given .1)) ∙ new .new .ensures .0)
     (ap foundCell (sym (c .before .before .index .given .1)) ∙ found .first-no-step .ensures))
     (ap (λ (o : Replaying). replayingAnswer o (boardOf (c .refused2 .result .board))) (c .refused2 .ensures .0))
     (c .refused2 .ensures .1)
@@ -69,10 +69,10 @@ returns-3 c =
     let new = told .before .before .before in
     let a = new .before .before .args in
     let b = boardOf (new .new .result .board) in
-    replays (a .clues) (a .steps .now) (gives (run (callsOf (a .steps .now)) b))
-    (run-replayed (a .clues) (a .steps .now) {b = b} (ap (λ (o : Opening). openingAnswer o b) (sym (told .enum-told .given .1)) ∙ new .new .ensures .0)
+    replays (a .clues) (a .steps .now) _
+    (run-replayed (a .clues) (a .steps .now) (ap (λ (k : Check). passing (checkAnswer k) b) (sym (told .enum-told .given .1)) ∙ new .new .ensures .0)
     (ap foundCell (sym (c .before .enum-told2 .given .1)) ∙ found .first-no-step .ensures))
-    (ap gives (c .run .ensures))
+    (ap (λ (x : S.Board). gives (ran x)) (c .run .ensures))
     (c .run .ensures)
 
 pub replay-spec : {M : Type 1} → statement M

@@ -2,7 +2,7 @@
 use mathlib.Core.Path.{refl, subst}
 use Prim.Native.Nat.{zero-le}
 use borrow.Author.Needs.{needs}
-use Rattle.steps.specs.Calls.{updateCandidates, nakedPairsCall, boxLineCall, xWingCall, nakedSinglesCall, hiddenSinglesCall, advancedCall, wide, settling, chainCall}
+use Rattle.steps.specs.Calls.{updateCandidates, nakedPairsCall, boxLineCall, xWingCall, nakedSinglesCall, hiddenSinglesCall, advancedCall, wide, settlingCall, chainCall}
 use Rattle.steps.specs.Passes.{Lone, Place, Pair, Pointing, Cross}
 use Rattle.board.specs.Boards.{boardOf}
 use Rattle.calls.specs.StepNumbers.{HandsBack}
@@ -162,7 +162,7 @@ returns-12 c =
 returns-13 : tie.Need-returns-13
 returns-13 c =
     let b = boardOf (c .before .before .before .args .board) in
-    settling-hands b (step-is b settling 12 (c .before .before .match .keys13) refl) (c .before .apply-settling .result) (c .before .apply-settling .ensures) (c .of-settling .ensures)
+    settling-hands b (step-is b settlingCall 12 (c .before .before .match .keys13) refl) (c .before .apply-settling .result) (c .before .apply-settling .ensures) (c .of-settling .ensures)
 
 returns-14 : tie.Need-returns-14
 returns-14 c =

@@ -2,23 +2,18 @@
 use mathlib.Core.Path.{sym, ap, _∙_}
 use native.Mathlib.Omega.{arith}
 use lib.ListN.{length}
-use Rattle.card.specs.declared.Carding.{Carding}
-use Rattle.card.specs.Answers.{cardingAnswer, refusalLine, stopOf}
 use Rattle.card.specs.Layout.{refusalBytes}
-use Rattle.card.specs.Lines.{over}
+use Rattle.card.specs.Layout.{over}
 use Rattle.card.proofs.Joins.{room, copied}
 use borrow.Author.Needs.{needs}
+use Rattle.stops.specs.Answer.{writingAnswer}
+use Rattle.stops.specs.declared.Writing.{Writing}
+use Rattle.card.specs.Cards.{refusalLine}
 use Rattle.card.proofs.write_refusal.Statement.{statement}
 use Rattle.card.proofs.write_refusal.Tie as tie
 
 enum-known-answer : tie.Need-enum-known-answer
 enum-known-answer c = search needs
-
-enum-told : tie.Need-enum-told
-enum-told c = search needs
-
-returns : tie.Need-returns
-returns c = search needs
 
 refusal-lines-requires : tie.Need-refusal-lines-requires
 refusal-lines-requires c κs = search needs
@@ -26,28 +21,34 @@ refusal-lines-requires c κs = search needs
 copy-out-requires : tie.Need-copy-out-requires
 copy-out-requires c κs =
     let l = c .before in
-    room (refusalBytes (stopOf (l .before .before .answer .given .0 .0))) (l .refusal-lines .ensures .0) (l .refusal-lines .ensures .1)
+    room (refusalBytes (l .before .before .answer .given .0 .0)) (l .refusal-lines .ensures .0) (l .refusal-lines .ensures .1)
 
-returns-2 : tie.Need-returns-2
-returns-2 c =
+enum-told : tie.Need-enum-told
+enum-told c = search needs
+
+returns : tie.Need-returns
+returns c =
     let l = c .before .before in
     let a = l .before .before in
     let lent = a .before .before .args .out .now in
     let e = sym (a .answer .given .1) in
-    let bytes = refusalBytes (stopOf (a .answer .given .0 .0)) in
+    let bytes = refusalBytes (a .answer .given .0 .0) in
     let w = copied bytes (l .refusal-lines .ensures .0) lent (c .copy-out .ensures .0) (c .copy-out .ensures .1) in (
-      w .0 ∙ ap (λ (q : Carding). length (refusalLine (cardingAnswer q))) e,
-      w .1 ∙ ap (λ (q : Carding). over (refusalLine (cardingAnswer q)) lent) e,
+      w .0 ∙ ap (λ (q : Writing). length (refusalLine (writingAnswer q))) e,
+      w .1 ∙ ap (λ (q : Writing). over (refusalLine (writingAnswer q)) lent) e,
       omega (arith, w .0, l .refusal-lines .ensures .1),
     )
+
+returns-2 : tie.Need-returns-2
+returns-2 c = search needs
 
 pub write-refusal-spec : {M : Type 1} → statement M
 write-refusal-spec =
     tie.close
     (tie.spec
     enum-known-answer
-    enum-told
-    returns
     refusal-lines-requires
     copy-out-requires
+    enum-told
+    returns
     returns-2)

@@ -6,7 +6,7 @@ use borrow.Author.Needs.{needs}
 use lib.ListN.{replicate}
 use Rattle.grid.specs.Units.{unitCell}
 use Rattle.grid.proofs.Fills.{filled, fill-start, fill-on, fill-end}
-use Rattle.cells.specs.Places.{maskAt, allMasks}
+use Rattle.cells.specs.code.Places.{maskAt, allMasks}
 use Rattle.cells.proofs.all_masks.Statement.{statement}
 use Rattle.cells.proofs.all_masks.Tie as tie
 

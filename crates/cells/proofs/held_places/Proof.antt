@@ -3,7 +3,7 @@ use mathlib.Core.Path.{ap, _∙_}
 use mathlib.Core.List.{List}
 use Prim.Native.Nat.{ℕ}
 use borrow.Author.Needs.{needs}
-use Rattle.cells.specs.Places.{placesOf, heldPlaces}
+use Rattle.cells.specs.code.Places.{spotsIn, heldPlaces}
 use Rattle.cells.proofs.held_places.Statement.{statement}
 use Rattle.cells.proofs.held_places.Tie as tie
 
@@ -15,7 +15,7 @@ places-of-requires c κs = search needs
 
 returns : tie.Need-returns
 unfolding heldPlaces
-returns c = c .places-of .ensures ∙ ap (λ (nine : List ℕ). placesOf nine (c .before .before .before .args .digit)) (c .before .before .all-masks .ensures)
+returns c = c .places-of .ensures ∙ ap (λ (nine : List ℕ). spotsIn nine (c .before .before .before .args .digit)) (c .before .before .all-masks .ensures)
 
 pub held-places-spec : {M : Type 1} → statement M
 held-places-spec = tie.close (tie.spec all-masks-requires places-of-requires returns)

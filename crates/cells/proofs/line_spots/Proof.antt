@@ -6,13 +6,13 @@ use native.Mathlib.Omega.{arith}
 use borrow.Author.Needs.{needs}
 use lib.ListN.{replicate}
 use Rattle.grid.proofs.Fills.{filled, fill-start, fill-on, fill-end}
-use Rattle.cells.specs.Places.{unitMasks, placesOf, lineSpots}
+use Rattle.cells.specs.code.Places.{unitMasks, spotsIn, lineSpots}
 use Rattle.cells.proofs.HeldPlaces.{spots-past}
 use Rattle.cells.proofs.line_spots.Statement.{statement}
 use Rattle.cells.proofs.line_spots.Tie as tie
 
 abbrev Inv-loop : tie.InvT-loop
-Inv-loop givens masks first digit list₀ line₀ list line = filled (λ i. placesOf (unitMasks givens masks (first + i)) digit) 9 line list ≡ lineSpots givens masks first digit
+Inv-loop givens masks first digit list₀ line₀ list line = filled (λ i. spotsIn (unitMasks givens masks (first + i)) digit) 9 line list ≡ lineSpots givens masks first digit
 
 abbrev μ-loop : tie.MeasureT-loop
 μ-loop givens masks first digit list₀ line₀ list line = 9 - line
@@ -51,7 +51,7 @@ loop-again : tie.Need-loop-again Inv-loop μ-loop
 loop-again c =
     let l = c .before .before .before .before in
     fill-on _ 9 (l .loop .line) (l .loop .list) (l .loop .inv) (omega arith)
-    (c .places-of .ensures ∙ ap (λ (nine : List ℕ). placesOf nine (l .before .before .args .digit)) (c .before .before .unit-masks .ensures))
+    (c .places-of .ensures ∙ ap (λ (nine : List ℕ). spotsIn nine (l .before .before .args .digit)) (c .before .before .unit-masks .ensures))
 
 returns-2 : tie.Need-returns-2 Inv-loop μ-loop
 returns-2 c = fill-end _ 9 (c .before .loop .line) (c .before .loop .list) (c .before .loop .inv) (c .loop-test .left)

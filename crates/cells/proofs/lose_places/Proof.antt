@@ -12,7 +12,7 @@ use Rattle.grid.specs.Units.{unitCell}
 use Rattle.steps.specs.Boards.{isOpen}
 use Rattle.steps.specs.Loops.{each, range}
 use Rattle.grid.proofs.Lists.{turn-done, turns-over}
-use Rattle.cells.specs.Places.{loseIn, losePlaces}
+use Rattle.cells.specs.code.Places.{loseIn, losePlaces}
 use Rattle.cells.proofs.lose_places.Statement.{statement}
 use Rattle.cells.proofs.lose_places.Tie as tie
 

@@ -2,7 +2,7 @@
 use mathlib.Core.Path.{sym, _∙_}
 use borrow.Author.Needs.{needs}
 use Rattle.candidates.proofs.Tests.{cond-true, cond-false}
-use Rattle.cells.specs.Places.{maskAt, openAt}
+use Rattle.cells.specs.code.Places.{maskAt, openAt}
 use Rattle.cells.proofs.open_mask.Statement.{statement}
 use Rattle.cells.proofs.open_mask.Tie as tie
 

@@ -6,9 +6,9 @@ use Prim.Native.Nat.{ℕ, _+_, _-_, _≤_}
 use native.Mathlib.Omega.{arith}
 use borrow.Author.Needs.{needs}
 use Rattle.candidates.specs.Masks.{has, union, gather}
-use Rattle.candidates.proofs.Membership.{gather-here, gather-not}
+use Rattle.candidates.proofs.Membership.{place-single, gather-here, gather-not}
 use Rattle.steps.specs.Boards.{at}
-use Rattle.cells.specs.Places.{placesOf}
+use Rattle.cells.specs.code.Places.{spotsIn}
 use Rattle.cells.proofs.places_of.Statement.{statement}
 use Rattle.cells.proofs.places_of.Tie as tie
 
@@ -61,13 +61,13 @@ loop-again c = (omega arith, found)
     found : c .if1 .found ≡ gather test (i + 1)
     found =
         ⊎-elim
-        (λ w. w .3 ∙ w .2 .ensures ∙ ap (λ (x : ℕ). union x (w .1 .result)) sofar ∙ ap (union (gather test i)) (w .1 .ensures)
-        ∙ gather-here test i (omega arith) (sym tested ∙ w .0 .taken))
+        (λ w. w .3 ∙ w .2 .ensures ∙ ap (λ (x : ℕ). union x (w .1 .result)) sofar ∙ ap (union (gather test i)) (w .1 .ensures ∙ place-single i (omega arith))
+        ∙ gather-here test i (sym tested ∙ w .0 .taken))
         (λ w. w .1 ∙ sofar ∙ gather-not test i (sym tested ∙ w .0 .left))
         (c .if1 .came)
 
 returns : tie.Need-returns Inv-loop μ-loop
-unfolding placesOf
+unfolding spotsIn
 returns c =
     let e : c .before .loop .place ≡ 9 = omega arith in
     c .before .loop .inv .1 ∙ ap (gather (λ i. has (at (c .before .before .args .nine .now) i) (c .before .before .args .digit))) e

@@ -6,7 +6,7 @@ use borrow.Author.Needs.{needs}
 use lib.ListN.{replicate}
 use Rattle.grid.specs.Units.{unitCell}
 use Rattle.grid.proofs.Fills.{filled, fill-start, fill-on, fill-end}
-use Rattle.cells.specs.Places.{openMask, unitMasks}
+use Rattle.cells.specs.code.Places.{openMask, unitMasks}
 use Rattle.cells.proofs.unit_masks.Statement.{statement}
 use Rattle.cells.proofs.unit_masks.Tie as tie
 

@@ -8,7 +8,7 @@ use mir.Facts.{toZ-ofZ}
 use mir.Syntax.{w32}
 use Rattle.grid.specs.Cells.{cells}
 use Rattle.grid.specs.Fillings.{numberAt}
-use Rattle.grid.specs.Seen.{numberMask, numberMasks}
+use Rattle.grid.specs.code.Seen.{numberMask, numberMasks}
 use Rattle.grid.proofs.Fills.{filled, fill-start, fill-on, fill-end}
 use Rattle.grid.proofs.number_masks.Statement.{statement}
 use Rattle.grid.proofs.number_masks.Tie as tie

@@ -1,23 +1,24 @@
 -- `grid::verify_solution` meets its contract. The invariant: the answer is that for the units that are left. Assumes nothing.
-use mathlib.Core.Path.{_≡_, sym, ap, _∙_}
+use mathlib.Core.Path.{_≡_, refl, sym, ap, _∙_}
 use mathlib.Core.List.{List}
 use Prim.Native.Nat.{ℕ, _-_, _≤_}
 use native.Mathlib.Omega.{arith}
 use borrow.Author.Needs.{needs}
 use borrow.Author.Tests.{not-true, not-false}
 use Rattle.grid.specs.Lists.{range, all}
+use Rattle.grid.specs.Units.{units}
 use Rattle.grid.specs.Fillings.{verified}
-use Rattle.grid.specs.Seen.{complete}
+use Rattle.grid.specs.code.Seen.{complete}
 use Rattle.grid.proofs.Lists.{all-on, all-stop, all-end}
 use Rattle.grid.proofs.Verifier.{by-units}
 use Rattle.grid.proofs.verify_solution.Statement.{statement}
 use Rattle.grid.proofs.verify_solution.Tie as tie
 
 abbrev Inv-loop : tie.InvT-loop
-Inv-loop grid masks unit₀ unit = (unit ≤ 27) × (all (complete masks) (range (27 - unit) unit) ≡ verified grid)
+Inv-loop grid units masks unit₀ unit = (unit ≤ 27) × (all (complete masks) (range (27 - unit) unit) ≡ verified grid)
 
 abbrev μ-loop : tie.MeasureT-loop
-μ-loop grid masks unit₀ unit = 27 - unit
+μ-loop grid units masks unit₀ unit = 27 - unit
 
 number-masks-requires : tie.Need-number-masks-requires Inv-loop μ-loop
 number-masks-requires c κs = search needs
@@ -29,12 +30,13 @@ loop-holds c = (
 )
 
 unit-complete-requires : tie.Need-unit-complete-requires Inv-loop μ-loop
-unit-complete-requires c κs = search needs
+unfolding units
+unit-complete-requires c κs = (refl, omega arith)
 
 returns : tie.Need-returns Inv-loop μ-loop
 returns c =
-    sym (all-stop (complete (c .before .before .before .before .before .number-masks .result)) 27 (c .before .before .before .before .loop .unit) (omega arith) (sym (c .before .unit-complete .ensures) ∙ not-true (c .before .unit-complete .result) (c .if1 .taken)))
-    ∙ c .before .before .before .before .loop .inv .1
+    sym (all-stop (complete (c .before .before .before .before .before .before .number-masks .result)) 27 (c .before .before .before .before .before .loop .unit) (omega arith) (sym (c .before .unit-complete .ensures) ∙ not-true (c .before .unit-complete .result) (c .if1 .taken)))
+    ∙ c .before .before .before .before .before .loop .inv .1
 
 add-unit : tie.Need-add-unit Inv-loop μ-loop
 add-unit c = omega arith
@@ -45,8 +47,8 @@ loop-less c = omega arith
 loop-again : tie.Need-loop-again Inv-loop μ-loop
 loop-again c = (
   omega arith,
-  sym (all-on (complete (c .before .before .before .before .before .number-masks .result)) 27 (c .before .before .before .before .loop .unit) (omega arith) (sym (c .before .unit-complete .ensures) ∙ not-false (c .before .unit-complete .result) (c .if1 .left)))
-      ∙ c .before .before .before .before .loop .inv .1,
+  sym (all-on (complete (c .before .before .before .before .before .before .number-masks .result)) 27 (c .before .before .before .before .before .loop .unit) (omega arith) (sym (c .before .unit-complete .ensures) ∙ not-false (c .before .unit-complete .result) (c .if1 .left)))
+      ∙ c .before .before .before .before .before .loop .inv .1,
 )
 
 returns-2 : tie.Need-returns-2 Inv-loop μ-loop

@@ -1,10 +1,10 @@
 -- The check's answer, coded, and the clues in what was lent.
-use mathlib.Core.Path.{ap, _∙_}
 use borrow.Author.Needs.{needs}
-use Rattle.board.specs.Boards.{handed, noClues}
-use Rattle.host.specs.Boards.{checkCode}
 use Rattle.host.proofs.Cases.{handed-out}
-use Rattle.host.proofs.Fitting.{check-fits}
+use mathlib.Core.Path.{ap, _∙_}
+use Rattle.stops.specs.Answer.{Answer, map}
+use Rattle.board.specs.Boards.{noClues}
+use Rattle.host.specs.Codes.{coded, noNumber}
 use Rattle.host.proofs.sudoku_original_puzzle.Statement.{statement}
 use Rattle.host.proofs.sudoku_original_puzzle.Tie as tie
 
@@ -12,13 +12,10 @@ original-puzzle-requires : tie.Need-original-puzzle-requires
 original-puzzle-requires c κs = search needs
 
 of-check-requires : tie.Need-of-check-requires
-of-check-requires c κs =
-    let f = c .before in
-    let a = f .before .before .before .args in
-    check-fits (handed (a .clues .now) (a .masks .now)) (f .original-puzzle .ensures .0)
+of-check-requires c κs = search needs
 
-puzzle-into-requires : tie.Need-puzzle-into-requires
-puzzle-into-requires c κs = search needs
+clues-kept-requires : tie.Need-clues-kept-requires
+clues-kept-requires c κs = search needs
 
 returns : tie.Need-returns
 returns c =
@@ -26,7 +23,8 @@ returns c =
     let f = o .before .before in
     let a = f .before .before .before .args in
     let e = f .original-puzzle .ensures in
-    (o .of-check .ensures ∙ ap checkCode (e .0), handed-out (a .clues .now) noClues (a .puzzle .now) (e .0) (e .1) (c .puzzle-into .ensures))
+    (o .of-check .ensures ∙ ap (λ (k : Answer (Unit {0})). coded (map noNumber k) 0) (e .0), handed-out (a .clues .now) noClues (a .puzzle .now) (e .0) (e .1) (c .clues-kept .ensures))
 
 pub sudoku-original-puzzle-spec : {M : Type 1} → statement M
-sudoku-original-puzzle-spec = tie.close (tie.spec original-puzzle-requires of-check-requires puzzle-into-requires returns)
+sudoku-original-puzzle-spec =
+    tie.close (tie.spec original-puzzle-requires of-check-requires clues-kept-requires returns)

@@ -1,35 +1,42 @@
 -- The reader's answer, coded, and its clues in what was lent.
-use mathlib.Core.Path.{sym, ap, subst, _∙_}
-use mathlib.Core.List.{List}
-use native.Mathlib.Omega.{arith}
 use borrow.Author.Needs.{needs}
-use lib.IntN.{ℤ}
-use Rattle.candidates.specs.Answer.{Answer}
-use Rattle.host.specs.Boards.{clueNumber, kept}
-use Rattle.host.specs.Codes.{Fitting, coded}
-use Rattle.host.proofs.Fitting.{parse-fits}
+use mir.Facts.{toZ-ofZ}
+use Rattle.host.specs.Boards.{clueNumber}
+use mathlib.Core.Path.{ap, _∙_}
+use Rattle.stops.specs.Answer.{checkAnswer, valueOr}
+use Rattle.host.proofs.Cases.{coded-value}
 use Rattle.host.proofs.sudoku_read.Statement.{statement}
 use Rattle.host.proofs.sudoku_read.Tie as tie
 
 parse-string-requires : tie.Need-parse-string-requires
 parse-string-requires c κs = search needs
 
-of-parsing-requires : tie.Need-of-parsing-requires
-of-parsing-requires c κs =
-    let p = c .before in
-    subst (Fitting clueNumber) (sym (p .parse-string .ensures .0)) (parse-fits (p .before .before .args .text .now) (omega arith))
+clue-number-requires : tie.Need-clue-number-requires
+clue-number-requires c κs = search needs
 
-read-into-requires : tie.Need-read-into-requires
-read-into-requires c κs = search needs
+of-check-requires : tie.Need-of-check-requires
+of-check-requires c κs = search needs
+
+clues-kept-requires : tie.Need-clues-kept-requires
+clues-kept-requires c κs = search needs
 
 returns : tie.Need-returns
 returns c =
     let o = c .before .before in
-    let p = o .before .before in
+    let n = o .before in
+    let p = n .before .before .before in
+    let k = checkAnswer (p .parse-string .result .answer) in
     let e = p .parse-string .ensures .0 in (
-      o .of-parsing .ensures ∙ ap (λ (a : Answer (List ℤ)). coded clueNumber a 0) e,
-      c .read-into .ensures ∙ ap (λ (a : Answer (List ℤ)). kept (λ clues. clues) a (p .before .before .args .clues .now)) e,
+      o .of-check .ensures ∙ coded-value k (p .parse-string .result .clues) e clueNumber (toZ-ofZ (record { sfits = n .clue-number .ok }) ∙ n .clue-number .ensures),
+      c .clues-kept .ensures ∙ ap (valueOr (p .before .before .args .clues .now)) e,
     )
 
 pub sudoku-read-spec : {M : Type 1} → statement M
-sudoku-read-spec = tie.close (tie.spec parse-string-requires of-parsing-requires read-into-requires returns)
+sudoku-read-spec =
+    tie.close
+    (tie.spec
+    parse-string-requires
+    clue-number-requires
+    of-check-requires
+    clues-kept-requires
+    returns)

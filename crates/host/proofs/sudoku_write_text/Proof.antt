@@ -1,13 +1,13 @@
 -- The writer's answer, coded; the text stands as it wrote it.
+use borrow.Author.Needs.{needs}
+use lib.ListN.{length}
+use Rattle.host.proofs.Fitting.{text-fits}
 use mathlib.Core.Path.{sym, ap, subst, _∙_}
 use Prim.Native.Nat.{ℕ}
-use native.Mathlib.Omega.{arith}
-use borrow.Author.Needs.{needs}
 use lib.IntN.{pos}
-use lib.ListN.{length}
-use Rattle.candidates.specs.Answer.{Answer}
-use Rattle.host.specs.Codes.{Fitting, coded}
-use Rattle.host.proofs.Fitting.{text-fits}
+use Rattle.stops.specs.Answer.{Answer, map}
+use Rattle.host.specs.Codes.{coded}
+use Rattle.host.specs.code.Fitting.{Fitting}
 use Rattle.host.proofs.sudoku_write_text.Statement.{statement}
 use Rattle.host.proofs.sudoku_write_text.Tie as tie
 
@@ -18,7 +18,7 @@ of-writing-requires : tie.Need-of-writing-requires
 of-writing-requires c κs =
     let w = c .before .before in
     let a = w .before .before .before .args in
-    subst (Fitting pos) (sym (w .write-text .ensures .0)) (text-fits (a .clues .now) (length (a .text .now)) (omega arith))
+    subst (λ (x : Answer ℕ). Fitting (map pos x)) (sym (w .write-text .ensures .0)) (text-fits (a .clues .now) (length (a .text .now)))
 
 same-length : tie.Need-same-length
 same-length c = search needs
@@ -26,7 +26,8 @@ same-length c = search needs
 returns : tie.Need-returns
 returns c =
     let e = c .before .before .before .write-text .ensures in
-    (c .of-writing .ensures ∙ ap (λ (a : Answer ℕ). coded pos a 0) (e .0), e .1)
+    (c .of-writing .ensures ∙ ap (λ (a : Answer ℕ). coded (map pos a) 0) (e .0), e .1)
 
 pub sudoku-write-text-spec : {M : Type 1} → statement M
-sudoku-write-text-spec = tie.close (tie.spec write-text-requires of-writing-requires same-length returns)
+sudoku-write-text-spec =
+    tie.close (tie.spec write-text-requires of-writing-requires same-length returns)

@@ -7,8 +7,8 @@ use borrow.Author.Needs.{needs}
 use Rattle.candidates.specs.Masks.{union}
 use Rattle.grid.proofs.Lists.{turn-done, turns-over}
 use Rattle.steps.specs.Loops.{each, range}
-use Rattle.cells.specs.Places.{allMasks}
-use Rattle.locked.specs.Pointing.{lineDue, boxDue}
+use Rattle.cells.specs.code.Places.{allMasks}
+use Rattle.locked.specs.code.Pointing.{lineDue, boxDue}
 use Rattle.locked.proofs.due_digits.Statement.{statement}
 use Rattle.locked.proofs.due_digits.Tie as tie
 

@@ -1,7 +1,7 @@
 -- `locked::due_on` meets its contract. Assumes nothing.
 use mathlib.Core.Path.{_∙_}
 use borrow.Author.Needs.{needs}
-use Rattle.locked.specs.Pointing.{lineDue}
+use Rattle.locked.specs.code.Pointing.{lineDue}
 use Rattle.locked.proofs.due_on.Statement.{statement}
 use Rattle.locked.proofs.due_on.Tie as tie
 

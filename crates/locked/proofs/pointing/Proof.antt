@@ -5,7 +5,7 @@ use native.Mathlib.Omega.{arith}
 use Rattle.grid.proofs.Lists.{turn-done, turns-over}
 use Rattle.steps.specs.Loops.{each, range}
 use Rattle.steps.specs.Passes.{pass, Pointing}
-use Rattle.locked.specs.Pointing.{pointingBox}
+use Rattle.locked.specs.code.Pointing.{pointingBox}
 use Rattle.locked.proofs.PointingTurns.{pointing-pass}
 use Rattle.locked.proofs.pointing.Statement.{statement}
 use Rattle.locked.proofs.pointing.Tie as tie

@@ -8,7 +8,7 @@ use borrow.Author.Needs.{needs}
 use Rattle.candidates.specs.Masks.{has}
 use Rattle.grid.proofs.Lists.{turn-done, turns-over}
 use Rattle.steps.specs.Loops.{each, range}
-use Rattle.locked.specs.Pointing.{pointingDigit, pointingBox, boxDue}
+use Rattle.locked.specs.code.Pointing.{pointingDigit, pointingBox, boxDue}
 use Rattle.locked.proofs.PointingDue.{not-due}
 use Rattle.locked.proofs.pointing_box.Statement.{statement}
 use Rattle.locked.proofs.pointing_box.Tie as tie

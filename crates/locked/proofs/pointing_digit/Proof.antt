@@ -3,7 +3,7 @@ use mathlib.Core.Path.{sym, ap, _∙_}
 use Prim.Native.Nat.{ℕ}
 use native.Mathlib.Omega.{arith}
 use borrow.Author.Needs.{needs}
-use Rattle.cells.specs.Lines.{lineTurns}
+use Rattle.cells.specs.code.Lines.{lineTurns}
 use Rattle.locked.proofs.PointingTurns.{pointing-digit}
 use Rattle.locked.proofs.pointing_digit.Statement.{statement}
 use Rattle.locked.proofs.pointing_digit.Tie as tie

@@ -7,8 +7,8 @@ use borrow.Author.Needs.{needs}
 use Rattle.grid.proofs.Lists.{turn-done, turns-over}
 use Rattle.steps.specs.Loops.{each, range}
 use Rattle.steps.specs.Passes.{pass, Lone}
-use Rattle.lone_place.specs.Turns.{loneCell}
-use Rattle.lone_place.specs.Due.{Covers}
+use Rattle.lone_place.specs.code.Turns.{loneCell}
+use Rattle.lone_place.specs.code.Due.{Covers}
 use Rattle.lone_place.proofs.LoneDue.{sets-cover, lone-covers}
 use Rattle.lone_place.proofs.Taking.{lone-pass}
 use Rattle.lone_place.proofs.lone.Statement.{statement}

@@ -5,7 +5,7 @@ use native.Mathlib.Omega.{arith}
 use Rattle.grid.proofs.Lists.{turn-done, turns-over}
 use Rattle.steps.specs.Loops.{each, range}
 use Rattle.steps.specs.Passes.{pass, Place}
-use Rattle.lone_place.specs.Turns.{placeUnit}
+use Rattle.lone_place.specs.code.Turns.{placeUnit}
 use Rattle.lone_place.proofs.PlaceTurns.{place-pass}
 use Rattle.lone_place.proofs.place.Statement.{statement}
 use Rattle.lone_place.proofs.place.Tie as tie

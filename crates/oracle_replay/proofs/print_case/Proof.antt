@@ -35,12 +35,6 @@ enum-known-parsing c = search needs
 refused-requires : tie.Need-refused-requires
 refused-requires c κs = search needs
 
-enum-known-parsing-2 : tie.Need-enum-known-parsing-2
-enum-known-parsing-2 c = search needs
-
-refused-requires-2 : tie.Need-refused-requires-2
-refused-requires-2 c κs = search needs
-
 enum-told : tie.Need-enum-told
 enum-told c = search needs
 
@@ -52,9 +46,6 @@ returns c = search needs
 
 returns-2 : tie.Need-returns-2
 returns-2 c = search needs
-
-returns-3 : tie.Need-returns-3
-returns-3 c = search needs
 
 pub print-case-spec : {M : Type 1} → statement M
 print-case-spec =
@@ -70,10 +61,7 @@ print-case-spec =
     parse-string-requires
     enum-known-parsing
     refused-requires
-    enum-known-parsing-2
-    refused-requires-2
     enum-told
     print-opened-requires
     returns
-    returns-2
-    returns-3)
+    returns-2)

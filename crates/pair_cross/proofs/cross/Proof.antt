@@ -1,7 +1,7 @@
 -- `pair_cross::cross` meets its contract. Assumes nothing.
 use mathlib.Core.Path.{refl, sym, ap, _∙_}
 use mathlib.Core.Logic.{inl, inr}
-use Rattle.pair_cross.specs.Twos.{crossLines}
+use Rattle.pair_cross.specs.code.Twos.{crossLines}
 use Rattle.pair_cross.proofs.FramePasses.{cross-pass}
 use Rattle.pair_cross.proofs.cross.Statement.{statement}
 use Rattle.pair_cross.proofs.cross.Tie as tie

@@ -4,7 +4,7 @@ use Prim.Native.Nat.{_-_, _≤_}
 use native.Mathlib.Omega.{arith}
 use Rattle.grid.proofs.Lists.{turn-done, turns-over}
 use Rattle.steps.specs.Loops.{each, range}
-use Rattle.pair_cross.specs.Twos.{frameTaken, crossLines}
+use Rattle.pair_cross.specs.code.Twos.{frameTaken, crossLines}
 use Rattle.pair_cross.specs.declared.twos.Frame.the-variants.{Lines}
 use Rattle.pair_cross.proofs.cross_lines.Statement.{statement}
 use Rattle.pair_cross.proofs.cross_lines.Tie as tie

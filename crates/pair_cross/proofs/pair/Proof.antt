@@ -5,7 +5,7 @@ use native.Mathlib.Omega.{arith}
 use Rattle.grid.proofs.Lists.{turn-done, turns-over}
 use Rattle.steps.specs.Loops.{each, range}
 use Rattle.steps.specs.Passes.{pass, Pair}
-use Rattle.pair_cross.specs.Twos.{frameTaken}
+use Rattle.pair_cross.specs.code.Twos.{frameTaken}
 use Rattle.pair_cross.specs.declared.twos.Frame.the-variants.{Unit}
 use Rattle.pair_cross.proofs.FramePasses.{pair-pass}
 use Rattle.pair_cross.proofs.pair.Statement.{statement}

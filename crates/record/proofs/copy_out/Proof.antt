@@ -2,19 +2,24 @@
 use mathlib.Core.Path.{ap, _∙_}
 use Prim.Native.Nat.{ℕ}
 use lib.ListN.{length}
-use Rattle.candidates.specs.Answer.{Answer}
+use Rattle.stops.specs.Answer.{Answer}
+use Rattle.stops.specs.declared.Stop.the-variants.{TooFewBytes}
 use Rattle.record.specs.Records.{written}
 use Rattle.record.specs.Sections.{leading}
+use Rattle.record.proofs.Entries.{placed}
 use Rattle.record.proofs.Writing.{write-short, write-whole}
 use borrow.Author.Needs.{needs}
 use native.Mathlib.Omega.{arith}
 use Rattle.record.proofs.copy_out.Statement.{statement}
 use Rattle.record.proofs.copy_out.Tie as tie
 
+cast-t7 : tie.Need-cast-t7
+cast-t7 c = search needs
+
 returns : tie.Need-returns
 returns c =
     let a = c .before .before .args in
-    let e = write-short (a .count) (length (a .out .now)) (c .if1 .taken) in
+    let e = placed TooFewBytes (omega arith) ∙ write-short (a .count) (length (a .out .now)) (c .if1 .taken) in
     (e, ap (λ (w : Answer ℕ). written w (leading (a .count) (a .bytes .now)) (a .out .now)) e)
 
 copy-requires : tie.Need-copy-requires
@@ -30,4 +35,4 @@ returns-2 c =
     (e, c .before .before .copy .ensures ∙ ap (λ (w : Answer ℕ). written w (leading (a .count) (a .bytes .now)) (a .out .now)) e)
 
 pub copy-out-spec : {M : Type 1} → statement M
-copy-out-spec = tie.close (tie.spec returns copy-requires same-length returns-2)
+copy-out-spec = tie.close (tie.spec cast-t7 returns copy-requires same-length returns-2)

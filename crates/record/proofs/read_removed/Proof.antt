@@ -1,28 +1,20 @@
 -- `record::read_removed` meets its contract. Assumes nothing.
-use mathlib.Core.Path.{_≡_, ap, _∙_}
-use Prim.Native.Nat.{ℕ}
+use mathlib.Core.Path.{_≡_, refl, ap, _∙_}
 use mathlib.Core.List.{List}
-use Rattle.candidates.specs.Answer.{Answer, gives}
-use Rattle.steps.specs.Boards as S
+use Prim.Native.Nat.{ℕ}
+use native.Mathlib.Omega.{arith}
+use Rattle.stops.specs.Answer.{gives, map, valueOr}
+use Rattle.stops.specs.declared.Stop.the-variants.{RecordBytes}
 use Rattle.steps.specs.Boards.{fresh}
-use Rattle.board.specs.Answers.{beside}
 use Rattle.board.specs.Boards.{noBoard}
 use Rattle.record.specs.declared.sections.Section.the-variants.{Removed}
-use Rattle.record.specs.Answers.{readingAnswer, withSets}
 use Rattle.record.specs.Records.{openSets}
-use Rattle.record.specs.Sections.{readSection}
-use Rattle.record.proofs.SectionsRead.{refused-beside, removed-stop, removed-over, removed-read, board-from}
+use Rattle.record.specs.Sections.{readingAnswer, withSets, readSection}
+use Rattle.record.proofs.Entries.{placed}
+use Rattle.record.proofs.SectionsRead.{section-told, refused-beside, from-removed, removed-over, removed-read, board-from}
 use borrow.Author.Needs.{needs}
 use Rattle.record.proofs.read_removed.Statement.{statement}
 use Rattle.record.proofs.read_removed.Tie as tie
-
--- the section, measured from the fresh masks
-is-section : (c : tie.After-read-section) → withSets (readingAnswer (c .read-section .result)) (c .read-section .last .1 .1 .1 .1 .0) ≡ readSection Removed (openSets (c .before .before .before .before .before .before .before .args .givens .now) (fresh (c .before .before .before .before .before .before .before .args .givens .now))) (c .before .before .before .before .before .before .before .args .bytes .now) (c .before .before .before .before .before .before .before .args .start)
-is-section c =
-    let o = c .before .before .before in
-    let f = o .before .before in
-    let a = f .before .before .args in
-    c .read-section .ensures ∙ ap (λ (x : List ℕ). readSection Removed x (a .bytes .now) (a .start)) (o .open-sets .ensures ∙ ap (openSets (a .givens .now)) (f .fresh-masks .ensures))
 
 fresh-masks-requires : tie.Need-fresh-masks-requires
 fresh-masks-requires c κs = search needs
@@ -36,15 +28,29 @@ read-section-requires c κs = search needs
 enum-known-reading : tie.Need-enum-known-reading
 enum-known-reading c = search needs
 
+enum-told : tie.Need-enum-told
+enum-told c = search needs
+
 refused-requires : tie.Need-refused-requires
 refused-requires c κs = search needs
 
+-- the section, measured from the fresh masks
+is-section : (c : tie.After-read-section) → map (withSets (c .read-section .last .1 .1 .1 .1 .0)) (readingAnswer (c .read-section .result)) ≡ readSection Removed (openSets (c .before .before .before .before .before .before .before .args .givens .now) (fresh (c .before .before .before .before .before .before .before .args .givens .now))) (c .before .before .before .before .before .before .before .args .bytes .now) (c .before .before .before .before .before .before .before .args .start)
+is-section c =
+    let o = c .before .before .before in
+    let f = o .before .before in
+    let a = f .before .before .args in
+    c .read-section .ensures ∙ ap (λ (x : List ℕ). readSection Removed x (a .bytes .now) (a .start)) (o .open-sets .ensures ∙ ap (openSets (a .givens .now)) (f .fresh-masks .ensures))
+
 returns : tie.Need-returns
 returns c =
-    let r = c .before .before in
+    let is = c .before .enum-told .given .1 in
+    let r = c .before .before .before in
     let a = r .before .before .before .before .before .before .before .args in
-    let e = removed-stop (a .givens .now) (a .bytes .now) (a .start) (r .read-section .result) (r .read-section .last .1 .1 .1 .1 .0) (is-section r) (c .before .match .keys2) in
-    (c .refused .ensures .0 ∙ e, c .refused .ensures .1 ∙ refused-beside (readingAnswer (r .read-section .result)) ∙ ap (λ (x : Answer S.Board). beside x noBoard) e)
+    refused-beside is (from-removed (a .givens .now) (a .bytes .now) (a .start) (section-told is (r .read-section .last .1 .1 .1 .1 .0) (is-section r))) (c .refused .ensures)
+
+cast-t18 : tie.Need-cast-t18
+cast-t18 c = search needs
 
 refused-requires-2 : tie.Need-refused-requires-2
 refused-requires-2 c κs = search needs
@@ -53,9 +59,12 @@ returns-2 : tie.Need-returns-2
 returns-2 c =
     let t = c .before .before .before in
     let r = t .before .before in
-    let a = r .before .before .before .before .before .before .before .args in
-    let e = removed-over (a .givens .now) (a .bytes .now) (a .start) (r .read-section .result) (r .read-section .last .1 .1 .1 .1 .0) (is-section r) (t .reading .given .1) (c .before .if1 .taken) in
-    (c .refused2 .ensures .0 ∙ e, c .refused2 .ensures .1 ∙ refused-beside (gives (t .reading .given .0 .0)) ∙ ap (λ (x : Answer S.Board). beside x noBoard) e)
+    let start = r .before .before .before .before .before .before .before in
+    let a = start .args in
+    refused-beside refl
+    (placed RecordBytes (omega (arith, start .good .1 .0 .1))
+    ∙ removed-over (a .givens .now) (a .bytes .now) (a .start) (section-told (t .reading .given .1) (r .read-section .last .1 .1 .1 .1 .0) (is-section r)) (c .before .if1 .taken))
+    (c .refused2 .ensures)
 
 clues-from-requires : tie.Need-clues-from-requires
 clues-from-requires c κs = search needs
@@ -70,10 +79,11 @@ returns-3 c =
     let r = t .before .before in
     let f = r .before .before .before .before .before in
     let a = f .before .before .args in
+    let sets = r .read-section .last .1 .1 .1 .1 .0 in
     let e =
-    ap gives (board-from (a .givens .now) (r .read-section .last .1 .1 .1 .1 .0) (f .fresh-masks .ensures) (k .clues-from .ensures) (c .lacking-sets .ensures))
-    ∙ removed-read (a .givens .now) (a .bytes .now) (a .start) (r .read-section .result) (r .read-section .last .1 .1 .1 .1 .0) (is-section r) (t .reading .given .1) (k .before .if1 .left) in
-    (e, ap (λ (x : Answer S.Board). beside x noBoard) e)
+    ap gives (board-from (a .givens .now) sets (f .fresh-masks .ensures) (k .clues-from .ensures) (c .lacking-sets .ensures))
+    ∙ removed-read (a .givens .now) (a .bytes .now) (a .start) (section-told (t .reading .given .1) sets (is-section r)) (k .before .if1 .left) in
+    (e, ap (valueOr noBoard) e)
 
 pub read-removed-spec : {M : Type 1} → statement M
 read-removed-spec =
@@ -83,8 +93,10 @@ read-removed-spec =
     open-sets-requires
     read-section-requires
     enum-known-reading
+    enum-told
     refused-requires
     returns
+    cast-t18
     refused-requires-2
     returns-2
     clues-from-requires

@@ -1,14 +1,14 @@
 -- `record::write_record` meets its contract. Assumes nothing.
-use mathlib.Core.Path.{sym, ap, _∙_}
+use mathlib.Core.Path.{ap, _∙_}
 use mathlib.Core.List.{List}
 use Prim.Native.Nat.{ℕ}
 use lib.ListN.{length, replicate, length-replicate}
-use Rattle.candidates.specs.Answer.{Answer, gives}
-use Rattle.board.specs.Answers.{refusalOf}
+use Rattle.stops.specs.Answer.{Answer}
+use Rattle.stops.proofs.Answers.{told}
 use Rattle.board.specs.Boards.{boardOf}
 use Rattle.record.specs.Records.{recordOf, writeIn, writeOf, written}
 use Rattle.record.specs.Sections.{leading}
-use Rattle.record.proofs.Writing.{record-leads, unwritten-same, write-checked}
+use Rattle.record.proofs.Writing.{record-leads, write-checked}
 use borrow.Author.Needs.{needs}
 use native.Mathlib.Omega.{arith}
 use Rattle.record.proofs.write_record.Statement.{statement}
@@ -17,27 +17,25 @@ use Rattle.record.proofs.write_record.Tie as tie
 check-requires : tie.Need-check-requires
 check-requires c κs = search needs
 
+enum-known-stop : tie.Need-enum-known-stop
+enum-known-stop c = search needs
+
 enum-told : tie.Need-enum-told
 enum-told c = search needs
-
-unwritten-requires : tie.Need-unwritten-requires
-unwritten-requires c κs = search needs
-
-returns : tie.Need-returns
-returns c =
-    let k = c .before .before in
-    let a = k .before .before .before .before .before .before .args in
-    let b = boardOf (a .board) in
-    let n = length (a .out .now) in
-    let u = unwritten-same (k .check .result) (c .before .match .keys2) (gives 0) (writeIn (length (recordOf b)) n) (recordOf b) (a .out .now) in
-    let e = write-checked b n (k .check .ensures) in
-    (c .unwritten .ensures ∙ u .0 ∙ e, u .1 ∙ ap (λ (w : Answer ℕ). written w (recordOf b) (a .out .now)) e)
 
 put-record-requires : tie.Need-put-record-requires
 put-record-requires c κs = search needs
 
 copy-out-requires : tie.Need-copy-out-requires
 copy-out-requires c κs = search needs
+
+returns : tie.Need-returns
+returns c =
+    let k = c .before .before .before in
+    let a = k .before .before .before .before .before .before .args in
+    let b = boardOf (a .board) in
+    let e = write-checked b (length (a .out .now)) (told (k .check .ensures) (c .before .stop .given .1)) in
+    (e, ap (λ (w : Answer ℕ). written w (recordOf b) (a .out .now)) e)
 
 same-length : tie.Need-same-length
 same-length c = search needs
@@ -54,7 +52,7 @@ returns-2 c =
     let n = p .put-record .ensures .1 in
     let e =
     ap (λ (m : ℕ). writeIn m (length (a .out .now))) n
-    ∙ write-checked b (length (a .out .now)) (sym (ap refusalOf (t .enum-told .given .1)) ∙ k .check .ensures) in
+    ∙ write-checked b (length (a .out .now)) (told (k .check .ensures) (t .enum-told .given .1)) in
     let r = record-leads b zeros (omega (arith, length-replicate {A = ℕ} 2919 0)) n (p .put-record .ensures .0) in (
       o .copy-out .ensures .0 ∙ e,
       o .copy-out .ensures .1 ∙ ap (λ (w : Answer ℕ). written w (leading (p .put-record .result) (p .put-record .last .1 .1 .0)) (a .out .now)) e
@@ -66,10 +64,10 @@ write-record-spec =
     tie.close
     (tie.spec
     check-requires
+    enum-known-stop
     enum-told
-    unwritten-requires
-    returns
     put-record-requires
     copy-out-requires
+    returns
     same-length
     returns-2)

@@ -2,8 +2,9 @@
 use mathlib.Core.Path.{sym, ap, _∙_}
 use borrow.Author.Needs.{needs}
 use Rattle.steps.specs.Singles.{nakedSingles, hiddenSingles}
-use Rattle.techniques.specs.Reports.{reportsOf, append}
-use Rattle.techniques.specs.Techniques.{reported}
+use Rattle.techniques.specs.Reports.{reportsOf}
+use Rattle.techniques.specs.code.Pushes.{append}
+use Rattle.techniques.specs.code.Searches.{reportsFound}
 use Rattle.techniques.specs.declared.Search.{Search}
 use Rattle.techniques.proofs.ReportLists.{naked-stand, hidden-stand}
 use Rattle.techniques.proofs.find.Statement.{statement}
@@ -32,14 +33,14 @@ returns c =
     let told = c .before .before in
     let a = told .before .before .args in
     c .naked-singles .ensures ∙ ap (append (nakedSingles (a .givens .now) (a .masks .now))) (c .before .new .ensures) ∙ naked-stand (a .givens .now) (a .masks .now)
-    ∙ ap (λ (s : Search). reportsOf (reported s (a .givens .now) (a .masks .now))) (sym (told .enum-told .given .1))
+    ∙ ap (λ (s : Search). reportsOf (reportsFound s (a .givens .now) (a .masks .now))) (sym (told .enum-told .given .1))
 
 returns-2 : tie.Need-returns-2
 returns-2 c =
     let told = c .before .before in
     let a = told .before .before .args in
     c .hidden-singles .ensures ∙ ap (append (hiddenSingles (a .givens .now) (a .masks .now))) (c .before .new2 .ensures) ∙ hidden-stand (a .givens .now) (a .masks .now)
-    ∙ ap (λ (s : Search). reportsOf (reported s (a .givens .now) (a .masks .now))) (sym (told .enum-told2 .given .1))
+    ∙ ap (λ (s : Search). reportsOf (reportsFound s (a .givens .now) (a .masks .now))) (sym (told .enum-told2 .given .1))
 
 pub find-spec : {M : Type 1} → statement M
 find-spec =

@@ -4,7 +4,7 @@ use native.Mathlib.Omega.{arith}
 use borrow.Author.Needs.{needs}
 use mir.Facts.{toZ-pos}
 use mir.Syntax.{w32}
-use Rattle.text.specs.Answers.{textCell}
+use Rattle.text.specs.Texts.{textCell}
 use Rattle.text.specs.Texts.{cellClue}
 use Rattle.text.proofs.byte_clue.Statement.{statement}
 use Rattle.text.proofs.byte_clue.Tie as tie

@@ -1,7 +1,7 @@
 -- `text::is_other` meets its contract. Assumes nothing.
 use mathlib.Core.Path.{sym, ap, _∙_}
 use borrow.Author.Needs.{needs}
-use Rattle.text.specs.Answers.{textCell}
+use Rattle.text.specs.Texts.{textCell}
 use Rattle.text.specs.Texts.{noCell}
 use Rattle.text.proofs.is_other.Statement.{statement}
 use Rattle.text.proofs.is_other.Tie as tie

@@ -3,55 +3,65 @@ use mathlib.Core.Path.{sym, ap, _∙_}
 use mathlib.Core.List.{List}
 use borrow.Author.Needs.{needs}
 use lib.IntN.{ℤ}
-use Rattle.candidates.specs.Answer.{Answer, gives}
-use Rattle.board.specs.Answers.{foundCell, beside}
 use Rattle.board.specs.Boards.{noClues}
-use Rattle.text.proofs.Texts.{wrong-length, bad-byte, read}
+use native.Mathlib.Omega.{arith}
+use Rattle.stops.specs.Answer.{Answer, stop, passing, valueOr}
+use Rattle.stops.specs.declared.Stop.the-variants.{TextLength}
+use Rattle.stops.proofs.Answers.{told, refused-beside, passed-beside}
+use Rattle.stops.proofs.Numbers.{small}
+use Rattle.text.specs.Texts.{cluesOf}
+use Rattle.text.proofs.Texts.{wrong-length, right-length}
 use Rattle.text.proofs.parse_string.Statement.{statement}
 use Rattle.text.proofs.parse_string.Tie as tie
 
+cast-t6 : tie.Need-cast-t6
+cast-t6 c = search needs
+
 returns : tie.Need-returns
 returns c =
-    let e = wrong-length (c .before .before .args .text .now) (c .if1 .taken) in
-    (e, ap (λ (a : Answer (List ℤ)). beside a noClues) e)
+    let e = ap (λ (z : ℤ). stop (TextLength z)) (small (omega arith)) ∙ wrong-length (c .before .before .args .text .now) (c .if1 .taken) in
+    (e, ap (valueOr noClues) e)
 
-first-other-requires : tie.Need-first-other-requires
-first-other-requires c κs = search needs
-
-enum-known-index : tie.Need-enum-known-index
-enum-known-index c = search needs
+check-bytes-requires : tie.Need-check-bytes-requires
+check-bytes-requires c κs = search needs
 
 enum-told : tie.Need-enum-told
 enum-told c = search needs
 
-clues-of-requires : tie.Need-clues-of-requires
-clues-of-requires c κs = search needs
+enum-told-2 : tie.Need-enum-told-2
+enum-told-2 c = search needs
 
 returns-2 : tie.Need-returns-2
 returns-2 c =
-    let f = c .before .before .before in
-    let e =
-    bad-byte (f .before .before .before .args .text .now) (f .before .if1 .left)
-    (sym (f .first-other .ensures) ∙ ap foundCell (c .before .index .given .1)) in
-    (e, ap (λ (a : Answer (List ℤ)). beside a noClues) e)
+    let k = c .before .before in
+    let t = k .before .before .before .args .text .now in
+    let e = right-length t (k .before .if1 .left) in (
+      refused-beside (k .check-bytes .result) (k .check-bytes .ensures) (c .enum-told2 .given .1) noClues (cluesOf t) ∙ e,
+      ap (λ (a : Answer (Unit {0})). valueOr noClues (passing a (cluesOf t))) (told (k .check-bytes .ensures) (c .enum-told2 .given .1)) ∙ ap (valueOr noClues) e,
+    )
+
+clues-of-requires : tie.Need-clues-of-requires
+clues-of-requires c κs = search needs
 
 returns-3 : tie.Need-returns-3
 returns-3 c =
-    let f = c .before .before .before in
-    let e =
-    ap gives (c .clues-of .ensures)
-    ∙ read (f .before .before .before .args .text .now) (f .before .if1 .left)
-    (sym (f .first-other .ensures) ∙ ap foundCell (c .before .enum-told .given .1)) in
-    (e, ap (λ (a : Answer (List ℤ)). beside a noClues) e)
+    let m = c .before in
+    let k = m .before .before in
+    let t = k .before .before .before .args .text .now in
+    let e = right-length t (k .before .if1 .left) in (
+      passed-beside (k .check-bytes .result) (k .check-bytes .ensures) (c .clues-of .ensures) ∙ e,
+      c .clues-of .ensures ∙ ap (λ (a : Answer (Unit {0})). valueOr noClues (passing a (cluesOf t))) (told (k .check-bytes .ensures) (m .enum-told .given .1)) ∙ ap (valueOr noClues) e,
+    )
 
 pub parse-string-spec : {M : Type 1} → statement M
 parse-string-spec =
     tie.close
     (tie.spec
+    cast-t6
     returns
-    first-other-requires
-    enum-known-index
+    check-bytes-requires
     enum-told
-    clues-of-requires
+    enum-told-2
     returns-2
+    clues-of-requires
     returns-3)

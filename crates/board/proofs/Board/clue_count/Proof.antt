@@ -1,14 +1,12 @@
 -- `board::Board::clue_count` meets its contract. Assumes nothing.
-use mathlib.Core.Path.{sym, ap, _∙_}
+use mathlib.Core.Path.{ap, _∙_}
 use mathlib.Core.List.{List}
-use mathlib.Core.Option.{Option}
 use Prim.Native.Nat.{ℕ}
 use borrow.Author.Needs.{needs}
-use Rattle.candidates.specs.Answer.{gives}
+use Rattle.stops.specs.Answer.{Answer, gives, passing}
+use Rattle.stops.proofs.Answers.{told}
 use Rattle.grid.specs.Cells.{cells}
 use Rattle.steps.specs.Boards.{givensOf}
-use Rattle.steps.specs.Calls.{checked}
-use Rattle.board.specs.Answers.{refusalOf}
 use Rattle.board.specs.Boards.{clueCount}
 use Rattle.board.proofs.Board.clue_count.Statement.{statement}
 use Rattle.board.proofs.Board.clue_count.Tie as tie
@@ -16,11 +14,8 @@ use Rattle.board.proofs.Board.clue_count.Tie as tie
 check-requires : tie.Need-check-requires
 check-requires c κs = search needs
 
-enum-known-cell : tie.Need-enum-known-cell
-enum-known-cell c = search needs
-
-enum-known-cell-2 : tie.Need-enum-known-cell-2
-enum-known-cell-2 c = search needs
+enum-known-stop : tie.Need-enum-known-stop
+enum-known-stop c = search needs
 
 enum-told : tie.Need-enum-told
 enum-told c = search needs
@@ -35,32 +30,24 @@ returns : tie.Need-returns
 returns c =
     let k = c .before .before .before in
     let n = clueCount (givensOf (k .before .before .before .before .before .args .self .clues)) cells in
-    ap (λ (o : Option (ℕ × ℕ)). checked o n) (ap refusalOf (sym (c .before .cell .given .1)) ∙ k .check .ensures)
+    ap (λ (a : Answer (Unit {0})). passing a n) (told (k .check .ensures) (c .before .stop .given .1))
 
 returns-2 : tie.Need-returns-2
 returns-2 c =
-    let k = c .before .before .before in
-    let n = clueCount (givensOf (k .before .before .before .before .before .args .self .clues)) cells in
-    ap (λ (o : Option (ℕ × ℕ)). checked o n) (ap refusalOf (sym (c .before .cell2 .given .1)) ∙ k .check .ensures)
-
-returns-3 : tie.Need-returns-3
-returns-3 c =
     let e = c .before .before .before .before in
     let k = e .before .before in
     let n = clueCount (givensOf (k .before .before .before .before .before .args .self .clues)) cells in
     ap gives (c .count-clues .ensures ∙ ap (λ (g : List ℕ). clueCount g cells) (c .before .before .givens-of .ensures))
-    ∙ ap (λ (o : Option (ℕ × ℕ)). checked o n) (ap refusalOf (sym (e .enum-told .given .1)) ∙ k .check .ensures)
+    ∙ ap (λ (a : Answer (Unit {0})). passing a n) (told (k .check .ensures) (e .enum-told .given .1))
 
 pub clue-count-spec : {M : Type 1} → statement M
 clue-count-spec =
     tie.close
     (tie.spec
     check-requires
-    enum-known-cell
-    enum-known-cell-2
+    enum-known-stop
     enum-told
     givens-of-requires
     count-clues-requires
     returns
-    returns-2
-    returns-3)
+    returns-2)

@@ -1,11 +1,12 @@
 -- `board::Board::update_candidates` meets its contract. Assumes nothing.
 use mathlib.Core.Path.{_≡_, ap, _∙_}
 use borrow.Author.Needs.{needs}
+use Rattle.stops.specs.Answer.{checkAnswer}
+use Rattle.stops.proofs.Answers.{told}
 use Rattle.steps.specs.Boards.{fresh}
-use Rattle.steps.specs.Calls.{refusal, updateCandidates}
-use Rattle.board.specs.Answers.{refusalOf}
-use Rattle.board.specs.Boards.{boardOf}
-use Rattle.board.proofs.Answered.{was-good, was-refused, refused-left, updated}
+use Rattle.steps.specs.Calls.{checkOf, updateCandidates, outcome, left}
+use Rattle.board.specs.Boards.{boardOf, handed}
+use Rattle.board.proofs.Answered.{answers}
 use Rattle.board.proofs.Checks.{checks}
 use Rattle.board.proofs.Board.update_candidates.Statement.{statement}
 use Rattle.board.proofs.Board.update_candidates.Tie as tie
@@ -19,12 +20,15 @@ fresh-masks-requires c κs = search needs
 check-beside-requires : tie.Need-check-beside-requires
 check-beside-requires c κs = search needs
 
-is-good-requires : tie.Need-is-good-requires
-is-good-requires c κs = search needs
+enum-told : tie.Need-enum-told
+enum-told c = search needs
+
+enum-told-2 : tie.Need-enum-told-2
+enum-told-2 c = search needs
 
 -- the check is that of the board
-refuses : (c : tie.After-check-beside) → refusalOf (c .check-beside .result) ≡ refusal (boardOf (c .before .before .before .before .before .before .before .before .before .before .before .args .self))
-refuses c =
+checked : (c : tie.After-check-beside) → checkAnswer (c .check-beside .result) ≡ checkOf (boardOf (c .before .before .before .before .before .before .before .before .before .before .before .args .self))
+checked c =
     let f = c .before .before .before .before .before in
     let g = f .before .before in
     let s = g .before .before .before .before .args .self in
@@ -32,18 +36,26 @@ refuses c =
 
 returns : tie.Need-returns
 returns c =
-    let g = c .before in
-    let e = refuses (g .before) in
-    (e, refused-left updateCandidates _ (was-refused e (g .is-good .ensures) (c .if1 .taken)))
+    let e = checked (c .before .before) in
+    (e, ap (left _) (answers updateCandidates _ (told e (c .enum-told2 .given .1))))
 
 returns-2 : tie.Need-returns-2
+unfolding outcome
 returns-2 c =
-    let g = c .before in
-    let e = refuses (g .before) in
-    let f = g .before .before .before .before .before .before in
-    (e, updated _ (was-good e (g .is-good .ensures) (c .if1 .left)) (f .fresh-masks .ensures ∙ ap fresh (f .before .before .givens-of .ensures)))
+    let k = c .before .before in
+    let e = checked k in
+    let f = k .before .before .before .before .before in
+    let s = f .before .before .before .before .before .before .args .self in
+    (e, ap (handed (s .clues)) (f .fresh-masks .ensures ∙ ap fresh (f .before .before .givens-of .ensures)) ∙ ap (left (boardOf s)) (answers updateCandidates (boardOf s) (told e (c .enum-told .given .1))))
 
 pub update-candidates-spec : {M : Type 1} → statement M
 update-candidates-spec =
     tie.close
-    (tie.spec givens-of-requires fresh-masks-requires check-beside-requires is-good-requires returns returns-2)
+    (tie.spec
+    givens-of-requires
+    fresh-masks-requires
+    check-beside-requires
+    enum-told
+    enum-told-2
+    returns
+    returns-2)

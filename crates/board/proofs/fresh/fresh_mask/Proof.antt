@@ -5,7 +5,7 @@ use borrow.Author.Tests.{eq-eqb, ne-eqb}
 use lib.Dec.{eqb}
 use Rattle.candidates.specs.Masks.{minus}
 use Rattle.candidates.proofs.Tests.{cond-true, cond-false}
-use Rattle.board.specs.Fresh.{digitMask}
+use Rattle.board.specs.code.Fresh.{digitMask}
 use Rattle.board.proofs.fresh.fresh_mask.Statement.{statement}
 use Rattle.board.proofs.fresh.fresh_mask.Tie as tie
 

@@ -8,7 +8,7 @@ use lib.ListN.{replicate}
 use Rattle.grid.specs.Lists.{each, range}
 use Rattle.grid.proofs.Lists.{turn-done, turns-over}
 use Rattle.steps.specs.Boards.{fresh}
-use Rattle.board.specs.Fresh.{freshRow}
+use Rattle.board.specs.code.Fresh.{freshRow}
 use Rattle.board.proofs.Taken.{fresh-rows}
 use Rattle.board.proofs.fresh.fresh_masks.Statement.{statement}
 use Rattle.board.proofs.fresh.fresh_masks.Tie as tie

@@ -9,7 +9,7 @@ use Rattle.grid.specs.Cells.{cell}
 use Rattle.grid.specs.Lists.{each, range}
 use Rattle.grid.proofs.Lists.{turn-done, turns-over}
 use Rattle.steps.specs.Boards.{given}
-use Rattle.board.specs.Fresh.{seen, freshMask, freshRow}
+use Rattle.board.specs.code.Fresh.{seen, freshMask, freshRow}
 use Rattle.board.proofs.fresh.fresh_row.Statement.{statement}
 use Rattle.board.proofs.fresh.fresh_row.Tie as tie
 

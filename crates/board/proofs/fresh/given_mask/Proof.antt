@@ -4,7 +4,7 @@ use Prim.Native.Nat.{_-_}
 use borrow.Author.Needs.{needs}
 use borrow.Author.Tests.{eq-eqb, ne-eqb}
 use lib.Dec.{eqb}
-use Rattle.candidates.specs.Masks.{single}
+use Rattle.candidates.specs.Masks.{placeMask}
 use Rattle.candidates.proofs.Tests.{cond-true, cond-false}
 use Rattle.board.proofs.fresh.given_mask.Statement.{statement}
 use Rattle.board.proofs.fresh.given_mask.Tie as tie
@@ -21,7 +21,7 @@ digit-mask-requires c κs = search needs
 returns-2 : tie.Need-returns-2
 returns-2 c =
     let d = c .before .before .args .digit in
-    c .digit-mask .ensures ∙ sym (cond-false (eqb d 0) 0 (single (d - 1)) (ne-eqb d 0 (c .before .if1 .left)))
+    c .digit-mask .ensures ∙ sym (cond-false (eqb d 0) 0 (placeMask (d - 1)) (ne-eqb d 0 (c .before .if1 .left)))
 
 pub given-mask-spec : {M : Type 1} → statement M
 given-mask-spec = tie.close (tie.spec returns sub-digit-mask digit-mask-requires returns-2)

@@ -11,7 +11,7 @@ use Rattle.grid.specs.Cells.{cell}
 use Rattle.grid.specs.Lists.{each, range}
 use Rattle.grid.proofs.Lists.{turn-done, turns-over}
 use Rattle.steps.specs.Boards.{given, givenMask, isOpen}
-use Rattle.board.specs.Fresh.{joinUnits, joinGiven, joinRow}
+use Rattle.board.specs.code.Fresh.{joinUnits, joinGiven, joinRow}
 use Rattle.board.proofs.fresh.join_row.Statement.{statement}
 use Rattle.board.proofs.fresh.join_row.Tie as tie
 

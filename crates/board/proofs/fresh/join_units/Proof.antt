@@ -1,7 +1,7 @@
 -- `board::fresh::join_units` meets its contract. Assumes nothing.
 use mathlib.Core.Path.{_∙_}
 use borrow.Author.Needs.{needs}
-use Rattle.board.specs.Fresh.{joinUnits}
+use Rattle.board.specs.code.Fresh.{joinUnits}
 use Rattle.board.proofs.fresh.join_units.Statement.{statement}
 use Rattle.board.proofs.fresh.join_units.Tie as tie
 

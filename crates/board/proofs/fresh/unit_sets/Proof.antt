@@ -4,7 +4,7 @@ use Prim.Native.Nat.{_-_, _≤_}
 use native.Mathlib.Omega.{arith}
 use Rattle.grid.specs.Lists.{each, range}
 use Rattle.grid.proofs.Lists.{turn-done, turns-over}
-use Rattle.board.specs.Fresh.{joinRow, unitSets}
+use Rattle.board.specs.code.Fresh.{joinRow, unitSets}
 use Rattle.board.proofs.fresh.unit_sets.Statement.{statement}
 use Rattle.board.proofs.fresh.unit_sets.Tie as tie
 

@@ -2,7 +2,7 @@
 use mathlib.Core.Path.{sym, ap, _∙_}
 use borrow.Author.Needs.{needs}
 use borrow.Author.Tests.{eq-eqb, ne-eqb}
-use Rattle.candidates.specs.Masks.{nine, count}
+use Rattle.candidates.specs.Masks.{lowNine, count}
 use Rattle.candidates.specs.Sets.{onlyAnswer}
 use Rattle.candidates.proofs.FewDigits.{one-count}
 use Rattle.candidates.proofs.Only.{single-says}
@@ -21,12 +21,12 @@ enum-told-2 c = search needs
 returns : tie.Need-returns
 returns c =
     let m = c .before .before .before .args .mask in
-    sym (eq-eqb (count (nine m)) 1 (one-count (single-says m (sym (ap onlyAnswer (c .enum-told .given .1)) ∙ c .before .before .single-candidate .ensures) .one)))
+    sym (eq-eqb (count (lowNine m)) 1 (one-count (single-says m (sym (ap onlyAnswer (c .enum-told .given .1)) ∙ c .before .before .single-candidate .ensures) .one)))
 
 returns-2 : tie.Need-returns-2
 returns-2 c =
     let m = c .before .before .before .args .mask in
-    sym (ne-eqb (count (nine m)) 1 (single-says m (sym (ap onlyAnswer (c .enum-told2 .given .1)) ∙ c .before .before .single-candidate .ensures)))
+    sym (ne-eqb (count (lowNine m)) 1 (single-says m (sym (ap onlyAnswer (c .enum-told2 .given .1)) ∙ c .before .before .single-candidate .ensures)))
 
 pub is-single-spec : {M : Type 1} → statement M
 is-single-spec =

@@ -5,7 +5,7 @@ use Prim.Native.Nat.{_-_}
 use native.Mathlib.Omega.{arith}
 use borrow.Author.Needs.{needs}
 use lib.Dec.{eqb}
-use Rattle.candidates.specs.Masks.{nine, count}
+use Rattle.candidates.specs.Masks.{lowNine, count}
 use Rattle.grid.specs.Cells.{cells}
 use Rattle.grid.specs.Lists.{range, all}
 use Rattle.grid.proofs.Lists.{all-on, all-stop, all-end}
@@ -15,7 +15,7 @@ use Rattle.board.proofs.verdicts.none_empty.Statement.{statement}
 use Rattle.board.proofs.verdicts.none_empty.Tie as tie
 
 abbrev Inv-loop : tie.InvT-loop
-Inv-loop masks cell₀ cell = all (λ c. not (eqb (count (nine (at masks c))) 0)) (range (81 - cell) cell) ≡ noneEmpty masks
+Inv-loop masks cell₀ cell = all (λ c. not (eqb (count (lowNine (at masks c))) 0)) (range (81 - cell) cell) ≡ noneEmpty masks
 
 abbrev μ-loop : tie.MeasureT-loop
 μ-loop masks cell₀ cell = 81 - cell
@@ -36,7 +36,7 @@ is-empty-requires c κs = search needs
 returns : tie.Need-returns Inv-loop μ-loop
 returns c =
     let l = c .before .before .before .before in
-    sym (all-stop (λ c. not (eqb (count (nine (at (l .before .args .masks .now) c))) 0)) 81 (l .loop .cell) (omega arith) (ap not (sym (c .before .is-empty .ensures) ∙ c .if1 .taken))) ∙ l .loop .inv
+    sym (all-stop (λ c. not (eqb (count (lowNine (at (l .before .args .masks .now) c))) 0)) 81 (l .loop .cell) (omega arith) (ap not (sym (c .before .is-empty .ensures) ∙ c .if1 .taken))) ∙ l .loop .inv
 
 add-cell : tie.Need-add-cell Inv-loop μ-loop
 add-cell c = omega arith
@@ -47,12 +47,12 @@ loop-less c = omega arith
 loop-again : tie.Need-loop-again Inv-loop μ-loop
 loop-again c =
     let l = c .before .before .before .before in
-    sym (all-on (λ c. not (eqb (count (nine (at (l .before .args .masks .now) c))) 0)) 81 (l .loop .cell) (omega arith) (ap not (sym (c .before .is-empty .ensures) ∙ c .if1 .left))) ∙ l .loop .inv
+    sym (all-on (λ c. not (eqb (count (lowNine (at (l .before .args .masks .now) c))) 0)) 81 (l .loop .cell) (omega arith) (ap not (sym (c .before .is-empty .ensures) ∙ c .if1 .left))) ∙ l .loop .inv
 
 returns-2 : tie.Need-returns-2 Inv-loop μ-loop
 returns-2 c =
     let l = c .before in
-    sym (all-end (λ c. not (eqb (count (nine (at (l .before .args .masks .now) c))) 0)) 81 (l .loop .cell) (c .loop-test .left)) ∙ l .loop .inv
+    sym (all-end (λ c. not (eqb (count (lowNine (at (l .before .args .masks .now) c))) 0)) 81 (l .loop .cell) (c .loop-test .left)) ∙ l .loop .inv
 
 pub none-empty-spec : {M : Type 1} → statement M
 none-empty-spec =

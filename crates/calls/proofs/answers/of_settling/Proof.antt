@@ -1,9 +1,12 @@
 -- `calls::answers::of_settling` meets its contract. Assumes nothing.
-use mathlib.Core.Path.{sym, ap, _∙_}
 use borrow.Author.Needs.{needs}
 use Rattle.passes.specs.Settlings.{settlingAnswer}
-use Rattle.passes.specs.declared.calls.Settling.{Settling}
-use Rattle.calls.specs.StepNumbers.{idle, sweepsOf, removedOf}
+use mathlib.Core.Bool.{false}
+use mathlib.Core.Option.{some}
+use Rattle.stops.specs.Answer.{map, valueOr}
+use Rattle.passes.specs.declared.Counts.{Counts}
+use Rattle.passes.specs.declared.Settling.{Settling}
+use mathlib.Core.Path.{refl, sym, ap, _∙_}
 use Rattle.calls.proofs.answers.of_settling.Statement.{statement}
 use Rattle.calls.proofs.answers.of_settling.Tie as tie
 
@@ -19,26 +22,28 @@ enum-known-settling-2 c = search needs
 quiet-requires : tie.Need-quiet-requires
 quiet-requires c κs = search needs
 
-enum-known-settling-3 : tie.Need-enum-known-settling-3
-enum-known-settling-3 c = search needs
-
-quiet-requires-2 : tie.Need-quiet-requires-2
-quiet-requires-2 c κs = search needs
-
 returns : tie.Need-returns
-returns c = search needs
+returns c =
+    let is = sym (c .before .before .settling .given .1) in
+    record {
+      flag = ap (λ (s : Settling). some (map (λ (k : Counts). false) (settlingAnswer s))) is;
+      board = refl;
+      reports = c .new .ensures;
+      sweeps = ap (λ (s : Settling). valueOr 0 (map (λ (k : Counts). k .sweeps) (settlingAnswer s))) is;
+      removed = ap (λ (s : Settling). valueOr 0 (map (λ (k : Counts). k .removed) (settlingAnswer s))) is;
+    }
 
 returns-2 : tie.Need-returns-2
 returns-2 c =
-    let told = sym (c .before .before .settling2 .given .1) in
+    let is = sym (c .before .before .settling2 .given .1) in
     let h = c .quiet .ensures in
-    record { answer = h .answer ∙ ap (λ (s : Settling). idle (settlingAnswer s)) told; board = h .board; reports = h .reports; sweeps = h .sweeps ∙ ap (λ (s : Settling). sweepsOf (settlingAnswer s)) told; removed = h .removed ∙ ap (λ (s : Settling). removedOf (settlingAnswer s)) told }
-
-returns-3 : tie.Need-returns-3
-returns-3 c =
-    let told = sym (c .before .before .settling3 .given .1) in
-    let h = c .quiet2 .ensures in
-    record { answer = h .answer ∙ ap (λ (s : Settling). idle (settlingAnswer s)) told; board = h .board; reports = h .reports; sweeps = h .sweeps ∙ ap (λ (s : Settling). sweepsOf (settlingAnswer s)) told; removed = h .removed ∙ ap (λ (s : Settling). removedOf (settlingAnswer s)) told }
+    record {
+      flag = h .flag ∙ ap (λ (s : Settling). some (map (λ (k : Counts). false) (settlingAnswer s))) is;
+      board = h .board;
+      reports = h .reports;
+      sweeps = h .sweeps ∙ ap (λ (s : Settling). valueOr 0 (map (λ (k : Counts). k .sweeps) (settlingAnswer s))) is;
+      removed = h .removed ∙ ap (λ (s : Settling). valueOr 0 (map (λ (k : Counts). k .removed) (settlingAnswer s))) is;
+    }
 
 pub of-settling-spec : {M : Type 1} → statement M
 of-settling-spec =
@@ -48,8 +53,5 @@ of-settling-spec =
     new-requires
     enum-known-settling-2
     quiet-requires
-    enum-known-settling-3
-    quiet-requires-2
     returns
-    returns-2
-    returns-3)
+    returns-2)

@@ -17,10 +17,11 @@ use denote.Signature.{plain}
 use denote.Enum.Laws as EL
 use denote.Triple.Statement.{Triple}
 use denote.Triple.Table.{cited}
-use Rattle.candidates.specs.Sets.{insertionAnswer, insertOf, inserted}
+use Rattle.stops.specs.Answer.{checkAnswer}
+use Rattle.candidates.specs.Sets.{insertOf, inserted}
 use Rattle.candidates.proofs.Methods.{set, lent, Claim, Walk, method, Callee, answers, asks, changing, begins, changes, leaves}
-use Rattle.candidates.proofs.Insertion as R
-use Rattle.candidates.proofs.Insertion.Laws as R′
+use Rattle.stops.proofs.Check as R
+use Rattle.stops.proofs.Check.Laws as R′
 use Rattle.candidates.proofs.digits.with_digit.Symbol as with-digit
 use Rattle.candidates.proofs.digits.with_digit.Met as with-digit-thm
 use Rattle.candidates.proofs.digits.insertion.Symbol as insertion
@@ -30,10 +31,10 @@ use Rattle.candidates.proofs.SudokuCandidateSet.insert.Statement.{state
 use Rattle.candidates.proofs.SudokuCandidateSet.insert.Code as code
 
 abbrev claim : Claim 1 R.the-row
-claim _ h a r h′ = (insertionAnswer r ≡ insertOf (a .0)) × (h′ .mask ≡ inserted (h .mask) (a .0))
+claim _ h a r h′ = (checkAnswer r ≡ insertOf (a .0)) × (h′ .mask ≡ inserted (h .mask) (a .0))
 
 abbrev answering : Callee
-answering = record { params = plain (λ _. i32) ∷ []; result = R.the-row; claim = λ a r. insertionAnswer r ≡ insertOf (a .0) }
+answering = record { params = plain (λ _. i32) ∷ []; result = R.the-row; claim = λ a r. checkAnswer r ≡ insertOf (a .0) }
 
 walk : {M : Type 1} (𝓤 : URA M) (H : Heap 𝓤) (A : Atoms 𝓤) (W : Given 𝓤 H A) (C : Calls 𝓤 H) (Λ : Loops 𝓤 H)
     → Triple 𝓤 (C with-digit.name) (answers (changing inserted) 𝓤 H A) → Triple 𝓤 (C insertion.name) (answers answering 𝓤 H A) → FmC 𝓤 H (W .laws) C → Walk 1 R.the-row claim 𝓤 H A C Λ code.function

@@ -7,7 +7,7 @@ use borrow.Author.Needs.{needs}
 use lib.Dec.{eqb}
 use lib.IntN.{pos}
 use mir.Facts.{toZ-ofZ}
-use Rattle.candidates.specs.Masks.{nine, count, lowest}
+use Rattle.candidates.specs.Masks.{lowNine, count, lowest}
 use Rattle.candidates.proofs.Counts.{lowest-le}
 use Rattle.candidates.proofs.Tests.{cond-true, cond-false}
 use Rattle.candidates.proofs.SudokuCandidateSet.single_candidate.Statement.{statement}
@@ -24,14 +24,14 @@ digit-at-requires c κs = search needs
 
 returns : tie.Need-returns
 returns c =
-    let m = nine (c .before .before .before .before .before .args .self .mask) in
+    let m = lowNine (c .before .before .before .before .before .args .self .mask) in
     let found : min (c .before .lowest-digit .result) 16 + 1 ≡ lowest m + 1 = omega (arith, c .before .lowest-digit .ensures, lowest-le m) in
     ap some (toZ-ofZ (record { sfits = c .digit-at .ok }) ∙ c .digit-at .ensures ∙ ap pos found)
     ∙ sym (cond-true (eqb (count m) 1) (some (pos (lowest m + 1))) none (sym (c .before .before .before .is-one .ensures) ∙ c .before .before .if1 .taken))
 
 returns-2 : tie.Need-returns-2
 returns-2 c =
-    let m = nine (c .before .before .before .args .self .mask) in
+    let m = lowNine (c .before .before .before .args .self .mask) in
     sym (cond-false (eqb (count m) 1) (some (pos (lowest m + 1))) none (sym (c .before .is-one .ensures) ∙ c .if1 .left))
 
 pub single-candidate-spec : {M : Type 1} → statement M

@@ -1,6 +1,7 @@
 -- The place found says whether the digit is one.
 use borrow.Author.Needs.{needs}
-use Rattle.candidates.specs.Answer.{gives, stop}
+use Rattle.stops.specs.Answer.{gives, stop}
+use Rattle.stops.specs.declared.Stop.the-variants.{BadDigit}
 use Rattle.candidates.proofs.Places.{accepted, stops}
 use Rattle.candidates.proofs.digits.insertion.Statement.{statement}
 use Rattle.candidates.proofs.digits.insertion.Tie as tie
@@ -16,7 +17,7 @@ returns c =
 returns-2 : tie.Need-returns-2
 returns-2 c =
     let s = c .before .before in
-    accepted (s .args .digit) (c .before .place-of .result) (gives tt) (stop 4 (s .args .digit)) (s .fits .digit)
+    accepted (s .args .digit) (c .before .place-of .result) (gives tt) (stop (BadDigit (s .args .digit))) (s .fits .digit)
     (c .before .place-of .ensures) (c .if1 .left)
 
 pub insertion-spec : {M : Type 1} → statement M

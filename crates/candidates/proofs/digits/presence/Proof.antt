@@ -1,8 +1,9 @@
 -- The place found says whether the digit is one; then the bit answers.
 use mathlib.Core.Path.{_≡_, ap, sym, _∙_}
 use borrow.Author.Needs.{needs}
-use Rattle.candidates.specs.Answer.{gives, stop}
-use Rattle.candidates.specs.Masks.{nine, has}
+use Rattle.stops.specs.Answer.{gives, stop}
+use Rattle.stops.specs.declared.Stop.the-variants.{BadDigit}
+use Rattle.candidates.specs.Masks.{lowNine, has}
 use Rattle.candidates.specs.Sets.{containsOf}
 use Rattle.candidates.proofs.Places.{accepted, at-place, stops}
 use Rattle.candidates.proofs.digits.presence.Statement.{statement}
@@ -25,8 +26,8 @@ answers c =
     let s = c .before .before .before in
     let p = c .before .before .place-of .result in
     let e = c .before .before .place-of .ensures in
-    ap gives (c .has-digit .ensures ∙ at-place (has (nine (s .args .mask))) (s .args .digit) p (s .fits .digit) e)
-    ∙ accepted (s .args .digit) p _ (stop 4 (s .args .digit)) (s .fits .digit) e (c .before .if1 .left)
+    ap gives (c .has-digit .ensures ∙ at-place (has (lowNine (s .args .mask))) (s .args .digit) p (s .fits .digit) e)
+    ∙ accepted (s .args .digit) p _ (stop (BadDigit (s .args .digit))) (s .fits .digit) e (c .before .if1 .left)
 
 returns-2 : tie.Need-returns-2
 returns-2 c = ap gives (sym (c .if2 .taken)) ∙ answers (c .before)

@@ -3,9 +3,10 @@ use mathlib.Core.Path.{_≡_, refl}
 use contract.Running.{givenOf}
 use denote.Struct.Laws as LL
 use denote.Triple.Table.{cited}
-use Rattle.candidates.specs.Sets.{insertionAnswer, insertOf, inserted}
-use Rattle.candidates.proofs.Insertion as R
-use Rattle.candidates.proofs.Insertion.Laws as R′
+use Rattle.stops.specs.Answer.{checkAnswer}
+use Rattle.candidates.specs.Sets.{insertOf, inserted}
+use Rattle.stops.proofs.Check as R
+use Rattle.stops.proofs.Check.Laws as R′
 use Rattle.candidates.proofs.lent.Inserted as S
 use Rattle.candidates.proofs.lent.Inserted.Laws as S′
 use Rattle.candidates.proofs.Methods.{Claim}
@@ -17,10 +18,10 @@ use Rattle.candidates.proofs.lent.insert.Statement.{statement}
 use Rattle.candidates.proofs.lent.insert.Code as code
 
 abbrev told : Claim 1 R.the-row
-told _ h a r h′ = (insertionAnswer r ≡ insertOf (a .0)) × (h′ .mask ≡ inserted (h .mask) (a .0))
+told _ h a r h′ = (checkAnswer r ≡ insertOf (a .0)) × (h′ .mask ≡ inserted (h .mask) (a .0))
 
 abbrev claim : Says 1 S.the-row
-claim m a r = (insertionAnswer (r .answer) ≡ insertOf (a .0)) × (r .mask ≡ inserted m (a .0))
+claim m a r = (checkAnswer (r .answer) ≡ insertOf (a .0)) × (r .mask ≡ inserted m (a .0))
 
 pub insert-spec : {M : Type 1} → statement M
 unfolding code.routine

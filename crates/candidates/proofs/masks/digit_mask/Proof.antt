@@ -6,7 +6,7 @@ use borrow.Author.Needs.{needs}
 use borrow.Author.Tests.{le-ltb}
 use lib.Dec.{ltb}
 use lib.Pow.{pow-lt}
-use Rattle.candidates.proofs.Membership.{single-power}
+use Rattle.candidates.proofs.Membership.{place-single}
 use Rattle.candidates.proofs.Tests.{cond-false}
 use Rattle.candidates.proofs.masks.digit_mask.Statement.{statement}
 use Rattle.candidates.proofs.masks.digit_mask.Tie as tie
@@ -21,7 +21,7 @@ returns : tie.Need-returns
 returns c =
     let p = c .before .args .place in
     let small : 2 ^ p < 2 ^ 16 = pow-lt (c .if1 .taken) in
-    omega arith ∙ sym (single-power p (c .if1 .taken))
+    omega arith ∙ sym (place-single p (c .if1 .taken))
 
 returns-2 : tie.Need-returns-2
 returns-2 c =

@@ -4,7 +4,7 @@ use mathlib.Core.List.{[], _++_}
 use Rattle.card.specs.Cards.{cardBytes, verdictWord}
 use Rattle.card.specs.Decimals.{decimal}
 use Rattle.card.specs.Layout.{lineOf, cluesLabel, reportedLabel, sweepsLabel, removedLabel, verdictLabel, gridLabel, gridBytes}
-use Rattle.card.specs.Lines.{linesOf, append}
+use Rattle.card.specs.code.Lines.{linesOf, append}
 use Rattle.card.proofs.Joins.{joined}
 use borrow.Author.Needs.{needs}
 use Rattle.card.proofs.layout.card_lines.Statement.{statement}

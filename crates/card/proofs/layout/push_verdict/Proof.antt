@@ -1,8 +1,8 @@
 -- `card::layout::push_verdict` meets its contract. Assumes nothing.
 use mathlib.Core.Path.{sym, ap, _∙_}
-use Rattle.card.specs.declared.layout.Verdict.{Verdict}
+use Rattle.board.specs.declared.Verdict.{Verdict}
 use Rattle.card.specs.Cards.{verdictWord}
-use Rattle.card.specs.Lines.{append}
+use Rattle.card.specs.code.Lines.{append}
 use borrow.Author.Needs.{needs}
 use Rattle.card.proofs.layout.push_verdict.Statement.{statement}
 use Rattle.card.proofs.layout.push_verdict.Tie as tie

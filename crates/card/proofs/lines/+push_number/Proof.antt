@@ -6,7 +6,7 @@ use native.Mathlib.Nat.{div-lt-self}
 use native.Mathlib.Omega.{arith}
 use Rattle.card.specs.Decimals.{digitByte, decimal}
 use Rattle.card.specs.declared.lines.Lines.{Lines}
-use Rattle.card.specs.Lines.{pushed, append}
+use Rattle.card.specs.code.Lines.{pushed, append}
 use Rattle.card.proofs.Decimals.{decimal-one, decimal-more}
 use Rattle.card.proofs.Joins.{append-one, append-both}
 use borrow.Fn.Kinds.{In}

@@ -10,7 +10,7 @@ use Rattle.steps.specs.Boards.{at}
 use Rattle.steps.specs.Loops.{each, range}
 use Rattle.card.specs.declared.lines.Lines.{Lines}
 use Rattle.card.specs.Layout.{cellByte, gridBytes}
-use Rattle.card.specs.Lines.{pushed, append}
+use Rattle.card.specs.code.Lines.{pushed, append}
 use Rattle.card.proofs.Joins.{append-each}
 use Rattle.card.proofs.lines.push_grid.Statement.{statement}
 use Rattle.card.proofs.lines.push_grid.Tie as tie

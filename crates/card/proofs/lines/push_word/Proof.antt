@@ -4,7 +4,7 @@ use Prim.Native.Nat.{_-_, _+_}
 use native.Mathlib.Omega.{arith}
 use borrow.Author.Needs.{needs}
 use lib.ListN.{length, drop}
-use Rattle.card.specs.Lines.{append}
+use Rattle.card.specs.code.Lines.{append}
 use Rattle.card.proofs.Joins.{word-on, word-end}
 use Rattle.card.proofs.lines.push_word.Statement.{statement}
 use Rattle.card.proofs.lines.push_word.Tie as tie

@@ -3,7 +3,7 @@ use mathlib.Core.Path.{refl, sym}
 use mathlib.Core.List.{[], _∷_}
 use borrow.Author.Needs.{needs}
 use lib.ListN.{List·getD-eq-default}
-use Rattle.cells.specs.Lines.{linePlaces}
+use Rattle.cells.specs.code.Lines.{linePlaces}
 use Rattle.cells.proofs.lines.line_places.Statement.{statement}
 use Rattle.cells.proofs.lines.line_places.Tie as tie
 

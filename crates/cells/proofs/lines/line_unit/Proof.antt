@@ -8,7 +8,7 @@ use borrow.Author.Tests.{lt-ltb, le-ltb}
 use lib.Dec.{ltb}
 use Rattle.candidates.proofs.Tests.{cond-true, cond-false}
 use Rattle.steps.specs.Instances.{lineOf}
-use Rattle.cells.specs.Lines.{lineUnit}
+use Rattle.cells.specs.code.Lines.{lineUnit}
 use Rattle.cells.proofs.lines.line_unit.Statement.{statement}
 use Rattle.cells.proofs.lines.line_unit.Tie as tie
 

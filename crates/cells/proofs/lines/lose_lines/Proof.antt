@@ -5,7 +5,7 @@ use native.Mathlib.Omega.{arith}
 use borrow.Author.Needs.{needs}
 use Rattle.grid.proofs.Lists.{turn-done, turns-over}
 use Rattle.steps.specs.Loops.{each, range}
-use Rattle.cells.specs.Lines.{lineTurn, lineTurns}
+use Rattle.cells.specs.code.Lines.{lineTurn, lineTurns}
 use Rattle.cells.proofs.lines.lose_lines.Statement.{statement}
 use Rattle.cells.proofs.lines.lose_lines.Tie as tie
 

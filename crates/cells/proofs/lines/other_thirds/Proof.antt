@@ -4,7 +4,7 @@ use borrow.Author.Tests.{eq-eqb, ne-eqb}
 use lib.Dec.{eqb}
 use mathlib.Core.Bool.{cond}
 use Rattle.candidates.proofs.Tests.{cond-true, cond-false}
-use Rattle.cells.specs.Lines.{otherThirds}
+use Rattle.cells.specs.code.Lines.{otherThirds}
 use Rattle.cells.proofs.lines.other_thirds.Statement.{statement}
 use Rattle.cells.proofs.lines.other_thirds.Tie as tie
 

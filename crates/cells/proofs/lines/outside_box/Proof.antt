@@ -5,7 +5,7 @@ use borrow.Author.Needs.{needs}
 use borrow.Author.Tests.{lt-ltb, le-ltb}
 use lib.Dec.{ltb}
 use Rattle.candidates.proofs.Tests.{cond-true, cond-false}
-use Rattle.cells.specs.Lines.{otherThirds, outsideBox}
+use Rattle.cells.specs.code.Lines.{otherThirds, outsideBox}
 use Rattle.cells.proofs.lines.outside_box.Statement.{statement}
 use Rattle.cells.proofs.lines.outside_box.Tie as tie
 

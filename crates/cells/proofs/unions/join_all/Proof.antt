@@ -8,7 +8,7 @@ use Rattle.candidates.specs.Masks.{union}
 use Rattle.grid.proofs.Lists.{turn-done, turns-over}
 use Rattle.steps.specs.Boards.{at}
 use Rattle.steps.specs.Loops.{each, range}
-use Rattle.cells.specs.Unions.{joined}
+use Rattle.cells.specs.code.Unions.{joined}
 use Rattle.cells.proofs.unions.join_all.Statement.{statement}
 use Rattle.cells.proofs.unions.join_all.Tie as tie
 

@@ -9,7 +9,7 @@ use Rattle.candidates.specs.Masks.{has, union}
 use Rattle.grid.proofs.Lists.{turn-done, turns-over}
 use Rattle.steps.specs.Boards.{at}
 use Rattle.steps.specs.Loops.{each, range}
-use Rattle.cells.specs.Unions.{joinedAt}
+use Rattle.cells.specs.code.Unions.{joinedAt}
 use Rattle.cells.proofs.unions.join_places.Statement.{statement}
 use Rattle.cells.proofs.unions.join_places.Tie as tie
 

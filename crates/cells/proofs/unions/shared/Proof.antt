@@ -5,7 +5,7 @@ use native.Mathlib.Omega.{arith}
 use borrow.Author.Needs.{needs}
 use Rattle.candidates.specs.Masks.{union}
 use Rattle.steps.specs.Loops.{range}
-use Rattle.cells.specs.Unions.{sharedFrom, sharedOf}
+use Rattle.cells.specs.code.Unions.{sharedFrom, sharedOf}
 use Rattle.cells.proofs.Shared.{shared-on, shared-end}
 use Rattle.cells.proofs.unions.shared.Statement.{statement}
 use Rattle.cells.proofs.unions.shared.Tie as tie

@@ -5,8 +5,8 @@ use native.Mathlib.Omega.{arith}
 use borrow.Author.Needs.{needs}
 use lib.ListN.{replicate}
 use Rattle.grid.proofs.Fills.{filled, fill-start, fill-on, fill-end}
-use Rattle.cells.specs.Places.{allMasks}
-use Rattle.cells.specs.Unions.{sharedOf, sharedSets}
+use Rattle.cells.specs.code.Places.{allMasks}
+use Rattle.cells.specs.code.Unions.{sharedOf, sharedSets}
 use Rattle.cells.proofs.unions.shared_sets.Statement.{statement}
 use Rattle.cells.proofs.unions.shared_sets.Tie as tie
 

@@ -2,8 +2,8 @@
 use mathlib.Core.Path.{sym, subst}
 use mathlib.Core.Bool.{Bool}
 use borrow.Author.Needs.{needs}
-use Rattle.chains.specs.Lists.{listed, Lists}
-use Rattle.chains.specs.Links.{linksIn}
+use Rattle.chains.specs.code.Lists.{listed, Lists}
+use Rattle.chains.specs.code.Links.{linksIn}
 use Rattle.chains.proofs.links.find_links.Statement.{statement}
 use Rattle.chains.proofs.links.find_links.Tie as tie
 

@@ -6,8 +6,9 @@ use native.Mathlib.Omega.{arith}
 use borrow.Author.Needs.{needs}
 use Rattle.grid.specs.Units.{inUnit}
 use Rattle.steps.specs.Loops.{for, select}
-use Rattle.chains.specs.Lists.{listed}
-use Rattle.chains.specs.Links.{others, twoOf, strongIn}
+use Rattle.chains.specs.code.Lists.{listed}
+use Rattle.steps.specs.Chains.{twoOf}
+use Rattle.chains.specs.code.Links.{others, strongIn}
 use Rattle.chains.proofs.Listing.{three-joined}
 use Rattle.chains.proofs.links.find_strong_links.Statement.{statement}
 use Rattle.chains.proofs.links.find_strong_links.Tie as tie

@@ -1,6 +1,6 @@
 -- `chains::links::find_weak_links` meets its contract. Assumes nothing.
 use borrow.Author.Needs.{needs}
-use Rattle.chains.specs.Links.{weakIn}
+use Rattle.chains.specs.code.Links.{weakIn}
 use Rattle.chains.proofs.links.find_weak_links.Statement.{statement}
 use Rattle.chains.proofs.links.find_weak_links.Tie as tie
 

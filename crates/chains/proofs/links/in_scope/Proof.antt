@@ -1,7 +1,7 @@
 -- `chains::links::in_scope` meets its contract. Assumes nothing.
 use mathlib.Core.Path.{sym, ap, _∙_}
 use borrow.Author.Needs.{needs}
-use Rattle.chains.specs.Links.{inScope}
+use Rattle.chains.specs.code.Links.{inScope}
 use Rattle.chains.specs.declared.links.Scope.{Scope}
 use Rattle.chains.proofs.links.in_scope.Statement.{statement}
 use Rattle.chains.proofs.links.in_scope.Tie as tie

@@ -5,7 +5,7 @@ use Prim.Native.Nat.{ℕ, _<_}
 use native.Mathlib.Omega.{arith}
 use borrow.Author.Needs.{needs}
 use lib.ListN.{length}
-use Rattle.chains.specs.Lists.{listed}
+use Rattle.chains.specs.code.Lists.{listed}
 use Rattle.chains.proofs.Listing.{listed-set, other-same, other-kept}
 use Rattle.chains.proofs.links.push_other.Statement.{statement}
 use Rattle.chains.proofs.links.push_other.Tie as tie

@@ -5,8 +5,8 @@ use Prim.Native.Nat.{ℕ}
 use native.Mathlib.Omega.{arith}
 use borrow.Author.Needs.{needs}
 use Rattle.steps.specs.Boards.{at}
-use Rattle.chains.specs.Lists.{listed}
-use Rattle.chains.specs.Links.{others}
+use Rattle.chains.specs.code.Lists.{listed}
+use Rattle.chains.specs.code.Links.{others}
 use Rattle.chains.proofs.Listing.{others-on, two-listed, not-two}
 use Rattle.chains.proofs.links.push_pair.Statement.{statement}
 use Rattle.chains.proofs.links.push_pair.Tie as tie

@@ -6,8 +6,9 @@ use native.Mathlib.Omega.{arith}
 use borrow.Author.Needs.{needs}
 use Rattle.grid.specs.Units.{inUnit}
 use Rattle.steps.specs.Loops.{select}
-use Rattle.chains.specs.Lists.{listed}
-use Rattle.chains.specs.Links.{others, twoOf}
+use Rattle.chains.specs.code.Lists.{listed}
+use Rattle.steps.specs.Chains.{twoOf}
+use Rattle.chains.specs.code.Links.{others}
 use Rattle.chains.proofs.Holders.{counted}
 use Rattle.chains.proofs.Listing.{no-pair}
 use Rattle.chains.proofs.links.push_unit.Statement.{statement}

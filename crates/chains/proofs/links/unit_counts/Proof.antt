@@ -7,8 +7,8 @@ use lib.ListN.{length, replicate}
 use Rattle.grid.specs.Units.{inUnit}
 use Rattle.grid.proofs.Fills.{filled, fill-start, fill-on, fill-end}
 use Rattle.steps.specs.Loops.{select}
-use Rattle.chains.specs.Lists.{listed}
-use Rattle.chains.specs.Links.{unitCounts}
+use Rattle.chains.specs.code.Lists.{listed}
+use Rattle.chains.specs.code.Links.{unitCounts}
 use Rattle.chains.proofs.Listing.{listed-count}
 use Rattle.chains.proofs.links.unit_counts.Statement.{statement}
 use Rattle.chains.proofs.links.unit_counts.Tie as tie

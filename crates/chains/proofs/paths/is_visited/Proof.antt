@@ -3,7 +3,7 @@ use mathlib.Core.Path.{_≡_, refl, sym, _∙_}
 use Prim.Native.Nat.{_≤_}
 use native.Mathlib.Omega.{arith}
 use Rattle.steps.specs.Chains.{onPath}
-use Rattle.chains.specs.Lists.{trail}
+use Rattle.chains.specs.code.Lists.{trail}
 use Rattle.chains.proofs.Trails.{trail-none, met, unmet}
 use Rattle.chains.proofs.paths.is_visited.Statement.{statement}
 use Rattle.chains.proofs.paths.is_visited.Tie as tie

@@ -12,8 +12,8 @@ use borrow.Fn.PlainCycle.{Measures, is, falls, and}
 use Rattle.steps.specs.Boards.{at}
 use Rattle.steps.specs.Chains.{firstSome, onPath}
 use Rattle.board.specs.Answers.{foundCell}
-use Rattle.chains.specs.Lists.{listed, trail}
-use Rattle.chains.specs.Links.{isSome, linksIn, eliminationIn, enterIn}
+use Rattle.chains.specs.code.Lists.{listed, trail}
+use Rattle.chains.specs.code.Links.{isSome, linksIn, eliminationIn, enterIn}
 use Rattle.chains.proofs.Listing.{rest, rest-all}
 use Rattle.chains.proofs.Trails.{trail-length}
 use Rattle.chains.proofs.Searching.{ends, goes-on, finds-none}

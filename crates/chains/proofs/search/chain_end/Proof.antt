@@ -9,8 +9,8 @@ use borrow.Author.Needs.{needs}
 use Rattle.steps.specs.Boards.{at}
 use Rattle.steps.specs.Chains.{firstSome, chainEnd}
 use Rattle.board.specs.Answers.{foundCell}
-use Rattle.chains.specs.Lists.{listed, trail}
-use Rattle.chains.specs.Links.{enterIn}
+use Rattle.chains.specs.code.Lists.{listed, trail}
+use Rattle.chains.specs.code.Links.{enterIn}
 use Rattle.chains.proofs.Listing.{rest, rest-all}
 use Rattle.chains.proofs.Searching.{ends, goes-on, finds-none}
 use Rattle.chains.proofs.Holders.{chain-end-is}

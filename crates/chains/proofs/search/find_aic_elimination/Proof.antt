@@ -5,8 +5,8 @@ use native.Mathlib.Omega.{arith}
 use borrow.Author.Needs.{needs}
 use borrow.Author.Tests.{not-true, not-false}
 use Rattle.steps.specs.Chains.{firstSome}
-use Rattle.chains.specs.Lists.{listed}
-use Rattle.chains.specs.Links.{betweenAt, eliminationIn}
+use Rattle.chains.specs.code.Lists.{listed}
+use Rattle.chains.specs.code.Links.{betweenAt, eliminationIn}
 use Rattle.chains.proofs.Listing.{rest, rest-all}
 use Rattle.chains.proofs.Searching.{ends, goes-on, finds-none}
 use Rattle.chains.proofs.Holders.{short-path, unseen-ends, seen-ends}

@@ -1,25 +1,23 @@
 -- Each arm is the entry of the table at its number.
 use mathlib.Core.Path.{sym, ap, subst, _∙_}
 use Prim.Native.Nat.{ℕ, zero-le}
-use native.Mathlib.Omega.{arith}
 use borrow.Author.Needs.{needs}
-use lib.IntN.{pos}
-use Rattle.candidates.specs.Answer.{Answer, gives}
+use lib.IntN.{ℤ, pos}
 use Rattle.grid.specs.Cells.{cells}
 use Rattle.steps.specs.Boards.{givensOf}
-use Rattle.board.specs.Boards.{Verdict, Dead, Finished, Open, boardOf, clueCount, maskOr5, verdictOf}
 use Rattle.host.specs.Boards.{verdictNumber}
-use Rattle.host.specs.Codes.{Fitting, coded, noNumber}
 use Rattle.candidates.proofs.Tests.{past}
 use Rattle.host.proofs.Calls.{is-asked, not-asked}
-use Rattle.host.proofs.Fitting.{checked-fits, then-fits, mask-fits, place-fits, few-clues}
+use Rattle.stops.specs.Answer.{Answer, map, then}
+use Rattle.stops.proofs.Answers.{map-map, map-then}
+use Rattle.steps.specs.Calls.{checkOf}
+use Rattle.board.specs.Boards.{boardOf, clueCount, cellMask, verdictOf}
+use Rattle.board.specs.declared.Verdict.{Verdict}
+use Rattle.host.specs.Codes.{coded}
+use Rattle.host.specs.code.Fitting.{Fitting}
+use Rattle.host.proofs.Fitting.{passing-fits, few-clues}
 use Rattle.host.proofs.accessors.ask.Statement.{statement}
 use Rattle.host.proofs.accessors.ask.Tie as tie
-
-verdict-fits : (v : Verdict) → Fitting verdictNumber (gives v)
-verdict-fits Dead = place-fits (omega arith)
-verdict-fits Finished = place-fits (omega arith)
-verdict-fits Open = place-fits (omega arith)
 
 clue-count-requires : tie.Need-clue-count-requires
 clue-count-requires c κs = search needs
@@ -27,24 +25,19 @@ clue-count-requires c κs = search needs
 of-counting-requires : tie.Need-of-counting-requires
 of-counting-requires c κs =
     let b = boardOf (c .before .before .args .board) in
-    subst (Fitting pos) (sym (c .clue-count .ensures)) (checked-fits pos b (clueCount (givensOf (b .clues)) cells) (place-fits (few-clues _)))
+    subst (λ (a : Answer ℕ). Fitting (map pos a)) (sym (c .clue-count .ensures)) (passing-fits (checkOf b) (few-clues (givensOf (b .clues))))
 
 verdict-requires : tie.Need-verdict-requires
 verdict-requires c κs = search needs
 
 of-verdict-requires : tie.Need-of-verdict-requires
-of-verdict-requires c κs =
-    let b = boardOf (c .before .before .args .board) in
-    subst (Fitting verdictNumber) (sym (c .verdict .ensures)) (checked-fits verdictNumber b (verdictOf (b .masks)) (verdict-fits (verdictOf (b .masks))))
+of-verdict-requires c κs = search needs
 
 cell-mask-requires : tie.Need-cell-mask-requires
 cell-mask-requires c κs = search needs
 
 of-cell-mask-requires : tie.Need-of-cell-mask-requires
-of-cell-mask-requires c κs =
-    let s = c .before .before in
-    let b = boardOf (s .args .board) in
-    subst (Fitting noNumber) (sym (c .cell-mask .ensures)) (then-fits noNumber b (maskOr5 (b .masks) (s .args .cell)) (mask-fits (b .masks) (s .args .cell) (s .fits .cell .fits)))
+of-cell-mask-requires c κs = search needs
 
 of-unknown-requires : tie.Need-of-unknown-requires
 of-unknown-requires c κs = search needs
@@ -52,20 +45,26 @@ of-unknown-requires c κs = search needs
 returns : tie.Need-returns
 returns c =
     let s = c .before .before .before in
-    c .of-counting .ensures ∙ ap (λ (a : Answer ℕ). coded pos a 0) (c .before .clue-count .ensures)
-    ∙ is-asked 0 (s .args .question) (boardOf (s .args .board)) (s .args .cell) (c .before .before .match .keys1)
+    let b = boardOf (s .args .board) in
+    c .of-counting .ensures ∙ ap (λ (a : Answer ℕ). coded (map pos a) 0) (c .before .clue-count .ensures)
+    ∙ ap (λ (a : Answer ℤ). coded a 0) (map-map pos (λ _. clueCount (givensOf (b .clues)) cells) (checkOf b))
+    ∙ is-asked 0 (s .args .question) b (s .args .cell) (c .before .before .match .keys1)
 
 returns-2 : tie.Need-returns-2
 returns-2 c =
     let s = c .before .before .before in
-    c .of-verdict .ensures ∙ ap (λ (a : Answer Verdict). coded verdictNumber a 0) (c .before .verdict .ensures)
-    ∙ is-asked 1 (s .args .question) (boardOf (s .args .board)) (s .args .cell) (c .before .before .match .keys2)
+    let b = boardOf (s .args .board) in
+    c .of-verdict .ensures ∙ ap (λ (a : Answer Verdict). coded (map verdictNumber a) 0) (c .before .verdict .ensures)
+    ∙ ap (λ (a : Answer ℤ). coded a 0) (map-map verdictNumber (λ _. verdictOf (b .masks)) (checkOf b))
+    ∙ is-asked 1 (s .args .question) b (s .args .cell) (c .before .before .match .keys2)
 
 returns-3 : tie.Need-returns-3
 returns-3 c =
     let s = c .before .before .before in
-    c .of-cell-mask .ensures ∙ ap (λ (a : Answer ℕ). coded pos a 0) (c .before .cell-mask .ensures)
-    ∙ is-asked 2 (s .args .question) (boardOf (s .args .board)) (s .args .cell) (c .before .before .match .keys3)
+    let b = boardOf (s .args .board) in
+    c .of-cell-mask .ensures ∙ ap (λ (a : Answer ℕ). coded (map pos a) 0) (c .before .cell-mask .ensures)
+    ∙ ap (λ (a : Answer ℤ). coded a 0) (map-then pos (checkOf b) (λ _. cellMask (b .masks) (s .args .cell)))
+    ∙ is-asked 2 (s .args .question) b (s .args .cell) (c .before .before .match .keys3)
 
 returns-4 : tie.Need-returns-4
 returns-4 c =

@@ -12,8 +12,8 @@ use Rattle.host.proofs.codes.of_only.Tie as tie
 enum-known-only : tie.Need-enum-known-only
 enum-known-only c = search needs
 
-wide-requires : tie.Need-wide-requires
-wide-requires c κs = search needs
+widened-requires : tie.Need-widened-requires
+widened-requires c κs = search needs
 
 enum-told : tie.Need-enum-told
 enum-told c = search needs
@@ -22,11 +22,11 @@ returns : tie.Need-returns
 returns c =
     let digit = c .before .before .only .given .0 .0 in
     let back : toZ w32 (ofZ w32 digit) ≡ digit = search needs in
-    toZ-ofZ (record { sfits = c .wide .ok }) ∙ c .wide .ensures ∙ back
+    toZ-ofZ (record { sfits = c .widened .ok }) ∙ c .widened .ensures ∙ back
     ∙ sym (ap (λ (x : SingleCandidate). digitOr0 (onlyAnswer x)) (c .before .before .only .given .1))
 
 returns-2 : tie.Need-returns-2
 returns-2 c = sym (ap (λ (x : SingleCandidate). digitOr0 (onlyAnswer x)) (c .enum-told .given .1))
 
 pub of-only-spec : {M : Type 1} → statement M
-of-only-spec = tie.close (tie.spec enum-known-only wide-requires enum-told returns returns-2)
+of-only-spec = tie.close (tie.spec enum-known-only widened-requires enum-told returns returns-2)

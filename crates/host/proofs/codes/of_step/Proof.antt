@@ -3,15 +3,16 @@ use mathlib.Core.Path.{refl, _∙_}
 use native.Mathlib.Omega.{arith}
 use borrow.Author.Needs.{needs}
 use mir.Facts.{toZ-ofZ}
-use Rattle.host.proofs.Numbers.{four-same, small}
+use Rattle.host.proofs.Numbers.{four-same}
+use Rattle.stops.proofs.Numbers.{small}
 use Rattle.host.proofs.codes.of_step.Statement.{statement}
 use Rattle.host.proofs.codes.of_step.Tie as tie
 
 cast-t4 : tie.Need-cast-t4
 cast-t4 c = search needs
 
-wide-requires : tie.Need-wide-requires
-wide-requires c κs = search needs
+widened-requires : tie.Need-widened-requires
+widened-requires c κs = search needs
 
 cast-t6 : tie.Need-cast-t6
 cast-t6 c = search needs
@@ -20,7 +21,7 @@ returns : tie.Need-returns
 returns c =
     let s = c .before in
     let low = small {n = s .args .place} (omega (arith, s .fits .place .fits)) in
-    four-same refl low (toZ-ofZ (record { sfits = c .wide .ok }) ∙ c .wide .ensures ∙ toZ-ofZ (s .fits .digit)) (small {n = s .args .mask} (s .fits .mask .fits))
+    four-same refl low (toZ-ofZ (record { sfits = c .widened .ok }) ∙ c .widened .ensures ∙ toZ-ofZ (s .fits .digit)) (small {n = s .args .mask} (omega (arith, s .fits .mask .fits)))
 
 pub of-step-spec : {M : Type 1} → statement M
-of-step-spec = tie.close (tie.spec cast-t4 wide-requires cast-t6 returns)
+of-step-spec = tie.close (tie.spec cast-t4 widened-requires cast-t6 returns)

@@ -2,7 +2,8 @@
 use mathlib.Core.Path.{refl}
 use native.Mathlib.Omega.{arith}
 use borrow.Author.Needs.{needs}
-use Rattle.host.proofs.Numbers.{four-same, small}
+use Rattle.host.proofs.Numbers.{four-same}
+use Rattle.stops.proofs.Numbers.{small}
 use Rattle.host.proofs.codes.of_unknown.Statement.{statement}
 use Rattle.host.proofs.codes.of_unknown.Tie as tie
 

@@ -5,20 +5,22 @@ use borrow.Author.Needs.{needs}
 use mir.Facts.{toZ-ofZ}
 use Rattle.candidates.specs.Sets.{insertOf, inserted}
 use Rattle.host.specs.Codes.{coded, noNumber}
+use Prim.Native.Nat.{ℕ}
+use Rattle.stops.specs.Answer.{Answer, map}
 use Rattle.host.proofs.sets.insert_call.Statement.{statement}
 use Rattle.host.proofs.sets.insert_call.Tie as tie
 
 insert-requires : tie.Need-insert-requires
 insert-requires c κs = search needs
 
-of-insertion-requires : tie.Need-of-insertion-requires
-of-insertion-requires c κs = search needs
+of-check-requires : tie.Need-of-check-requires
+of-check-requires c κs = search needs
 
 returns : tie.Need-returns
 returns c =
     let s = c .before .before in
-    c .of-insertion .ensures ∙ ap₂ (coded noNumber) (c .before .insert .ensures .0) (c .before .insert .ensures .1)
-    ∙ ap (λ (z : ℤ). coded noNumber (insertOf z) (inserted (s .args .mask) z)) (toZ-ofZ (s .fits .digit))
+    c .of-check .ensures ∙ ap₂ (λ (a : Answer (Unit {0})) (m : ℕ). coded (map noNumber a) m) (c .before .insert .ensures .0) (c .before .insert .ensures .1)
+    ∙ ap (λ (z : ℤ). coded (map noNumber (insertOf z)) (inserted (s .args .mask) z)) (toZ-ofZ (s .fits .digit))
 
 pub insert-call-spec : {M : Type 1} → statement M
-insert-call-spec = tie.close (tie.spec insert-requires of-insertion-requires returns)
+insert-call-spec = tie.close (tie.spec insert-requires of-check-requires returns)

@@ -5,6 +5,9 @@ use borrow.Author.Needs.{needs}
 use mir.Facts.{toZ-ofZ}
 use Rattle.candidates.specs.Sets.{containsOf, removed}
 use Rattle.host.specs.Codes.{coded, testNumber}
+use mathlib.Core.Bool.{Bool}
+use Prim.Native.Nat.{ℕ}
+use Rattle.stops.specs.Answer.{Answer, map}
 use Rattle.host.proofs.sets.remove_call.Statement.{statement}
 use Rattle.host.proofs.sets.remove_call.Tie as tie
 
@@ -17,8 +20,8 @@ of-presence-requires c κs = search needs
 returns : tie.Need-returns
 returns c =
     let s = c .before .before in
-    c .of-presence .ensures ∙ ap₂ (coded testNumber) (c .before .remove .ensures .0) (c .before .remove .ensures .1)
-    ∙ ap (λ (z : ℤ). coded testNumber (containsOf (s .args .mask) z) (removed (s .args .mask) z)) (toZ-ofZ (s .fits .digit))
+    c .of-presence .ensures ∙ ap₂ (λ (a : Answer Bool) (m : ℕ). coded (map testNumber a) m) (c .before .remove .ensures .0) (c .before .remove .ensures .1)
+    ∙ ap (λ (z : ℤ). coded (map testNumber (containsOf (s .args .mask) z)) (removed (s .args .mask) z)) (toZ-ofZ (s .fits .digit))
 
 pub remove-call-spec : {M : Type 1} → statement M
 remove-call-spec = tie.close (tie.spec remove-requires of-presence-requires returns)

@@ -9,8 +9,8 @@ use lib.IntN.{ℤ, pos}
 use mir.Facts.{toZ-ofZ, toZ-pos}
 use mir.Syntax.{w64}
 use mir.Val.{toZ}
-use Rattle.candidates.specs.Answer.{Answer}
-use Rattle.candidates.specs.Masks.{nine, count}
+use Rattle.stops.specs.Answer.{Answer, map}
+use Rattle.candidates.specs.Masks.{lowNine, count}
 use Rattle.candidates.specs.Sets.{singleOf, containsOf, insertOf, inserted, removed, digitOr0}
 use Rattle.host.specs.Codes.{given, coded, testNumber, noNumber}
 use Rattle.host.specs.Sets.{newSet}
@@ -18,9 +18,6 @@ use Rattle.candidates.proofs.Tests.{past}
 use Rattle.host.proofs.Calls.{called, not-called}
 use Rattle.host.proofs.sets.set_call.Statement.{statement}
 use Rattle.host.proofs.sets.set_call.Tie as tie
-
-small-count : (m : ℕ) → count (nine m) < 2 ^ 63
-small-count m = omega (arith, ones-le 9 (nine m) (omega arith))
 
 new-requires : tie.Need-new-requires
 new-requires c κs = search needs
@@ -61,6 +58,12 @@ of-given-requires-3 c κs = search needs
 len-requires : tie.Need-len-requires
 len-requires c κs = search needs
 
+small-count : (m : ℕ) → count (lowNine m) < 2 ^ 63
+small-count m = omega (arith, ones-le 9 (lowNine m) (omega arith))
+
+cast-of-given : tie.Need-cast-of-given
+cast-of-given c = record { sfits = omega (arith, c .len .ensures, small-count (c .before .before .args .mask)) }
+
 of-given-requires-4 : tie.Need-of-given-requires-4
 of-given-requires-4 c κs = search needs
 
@@ -91,9 +94,6 @@ of-given-requires-7 c κs = search needs
 of-unknown-requires : tie.Need-of-unknown-requires
 of-unknown-requires c κs = search needs
 
-cast-of-given : tie.Need-cast-of-given
-cast-of-given c = record { sfits = omega (arith, c .len .ensures, small-count (c .before .before .args .mask)) }
-
 returns : tie.Need-returns
 returns c =
     let s = c .before .before .before in
@@ -115,19 +115,19 @@ returns-3 c =
 returns-4 : tie.Need-returns-4
 returns-4 c =
     let s = c .before .before .before in
-    c .of-presence .ensures ∙ ap (λ (a : Answer Bool). coded testNumber a (s .args .mask)) (c .before .contains .ensures ∙ ap (containsOf (s .args .mask)) (toZ-ofZ (s .fits .digit)))
+    c .of-presence .ensures ∙ ap (λ (a : Answer Bool). coded (map testNumber a) (s .args .mask)) (c .before .contains .ensures ∙ ap (containsOf (s .args .mask)) (toZ-ofZ (s .fits .digit)))
     ∙ called 3 (s .args .call) (s .args .mask) (s .args .digit) (c .before .before .match .keys4)
 
 returns-5 : tie.Need-returns-5
 returns-5 c =
     let s = c .before .before in
-    c .insert-call .ensures ∙ ap (λ (z : ℤ). coded noNumber (insertOf z) (inserted (s .args .mask) z)) (toZ-ofZ (s .fits .digit))
+    c .insert-call .ensures ∙ ap (λ (z : ℤ). coded (map noNumber (insertOf z)) (inserted (s .args .mask) z)) (toZ-ofZ (s .fits .digit))
     ∙ called 4 (s .args .call) (s .args .mask) (s .args .digit) (c .before .match .keys5)
 
 returns-6 : tie.Need-returns-6
 returns-6 c =
     let s = c .before .before in
-    c .remove-call .ensures ∙ ap (λ (z : ℤ). coded testNumber (containsOf (s .args .mask) z) (removed (s .args .mask) z)) (toZ-ofZ (s .fits .digit))
+    c .remove-call .ensures ∙ ap (λ (z : ℤ). coded (map testNumber (containsOf (s .args .mask) z)) (removed (s .args .mask) z)) (toZ-ofZ (s .fits .digit))
     ∙ called 5 (s .args .call) (s .args .mask) (s .args .digit) (c .before .match .keys6)
 
 returns-7 : tie.Need-returns-7
@@ -140,7 +140,7 @@ returns-8 : tie.Need-returns-8
 returns-8 c =
     let s = c .before .before .before in
     let m = s .args .mask in
-    let n : toZ w64 (c .before .len .result) ≡ pos (count (nine m)) = toZ-pos w64 {n = c .before .len .result} (omega (arith, c .before .len .ensures, small-count m)) ∙ ap pos (c .before .len .ensures) in
+    let n : toZ w64 (c .before .len .result) ≡ pos (count (lowNine m)) = toZ-pos w64 {n = c .before .len .result} (omega (arith, c .before .len .ensures, small-count m)) ∙ ap pos (c .before .len .ensures) in
     c .of-given4 .ensures ∙ ap (λ (v : ℤ). given v m) n
     ∙ called 7 (s .args .call) (s .args .mask) (s .args .digit) (c .before .before .match .keys8)
 

@@ -3,7 +3,7 @@ use mathlib.Core.Path.{sym, ap, _∙_}
 use Prim.Native.Nat.{ℕ}
 use borrow.Author.Needs.{needs}
 use lib.Bits.{bitAnd}
-use Rattle.lone_place.specs.Due.{sharedNear, loneDue}
+use Rattle.lone_place.specs.code.Due.{sharedNear, loneDue}
 use Rattle.lone_place.proofs.LoneDue.{not-due}
 use Rattle.lone_place.proofs.lones.lone_cell.Statement.{statement}
 use Rattle.lone_place.proofs.lones.lone_cell.Tie as tie

@@ -7,7 +7,7 @@ use Rattle.grid.proofs.Lists.{turn-done, turns-over}
 use Rattle.steps.specs.Instances.{lone}
 use Rattle.steps.specs.Loops.{each, range}
 use Rattle.steps.specs.Passes.{instanceTaken}
-use Rattle.lone_place.specs.Turns.{loneCell}
+use Rattle.lone_place.specs.code.Turns.{loneCell}
 use Rattle.lone_place.proofs.lones.lone_digits.Statement.{statement}
 use Rattle.lone_place.proofs.lones.lone_digits.Tie as tie
 

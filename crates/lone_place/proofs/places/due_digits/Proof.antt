@@ -1,7 +1,7 @@
 -- `lone_place::places::due_digits` meets its contract. Assumes nothing.
 use mathlib.Core.Path.{ap, _∙_}
 use borrow.Author.Needs.{needs}
-use Rattle.lone_place.specs.Due.{dueOf}
+use Rattle.lone_place.specs.code.Due.{dueOf}
 use Rattle.lone_place.proofs.places.due_digits.Statement.{statement}
 use Rattle.lone_place.proofs.places.due_digits.Tie as tie
 
@@ -11,8 +11,8 @@ all-masks-requires c κs = search needs
 join-all-requires : tie.Need-join-all-requires
 join-all-requires c κs = search needs
 
-crowded-requires : tie.Need-crowded-requires
-crowded-requires c κs = search needs
+several-requires : tie.Need-several-requires
+several-requires c κs = search needs
 
 lose-requires : tie.Need-lose-requires
 lose-requires c κs = search needs
@@ -31,10 +31,10 @@ unfolding dueOf
 returns c =
     let s = c .before .before in
     let single = s .before .before in
-    let crowd = single .before in
-    let join = crowd .before .before in
+    let severalIn = single .before in
+    let join = severalIn .before .before in
     c .lose3 .ensures
-    ∙ rw (c .before .lose2 .ensures, s .shared .ensures, single .lose .ensures, crowd .crowded .ensures, join .join-all .ensures)
+    ∙ rw (c .before .lose2 .ensures, s .shared .ensures, single .lose .ensures, severalIn .several .ensures, join .join-all .ensures)
     (ap dueOf (join .before .before .all-masks .ensures))
 
 pub due-digits-spec : {M : Type 1} → statement M
@@ -43,7 +43,7 @@ due-digits-spec =
     (tie.spec
     all-masks-requires
     join-all-requires
-    crowded-requires
+    several-requires
     lose-requires
     shared-requires
     lose-requires-2

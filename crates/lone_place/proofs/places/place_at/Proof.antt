@@ -9,12 +9,11 @@ use Rattle.candidates.proofs.Tests.{cond-true, cond-false}
 use Rattle.grid.specs.Units.{unitCell}
 use Rattle.grid.proofs.Units.{cell-below}
 use Rattle.steps.specs.Boards.{isOpen}
-use Rattle.steps.specs.Instances.{only, except}
 use Rattle.steps.specs.Steps.{loseAt}
-use Rattle.cells.specs.Places.{loseIn}
+use Rattle.cells.specs.code.Places.{loseIn}
 use Rattle.cells.proofs.Places.{lose-cell}
-use Rattle.cells.proofs.NineBits.{except-single}
-use Rattle.lone_place.specs.Turns.{placeTurn}
+use Rattle.cells.proofs.NineBits.{place-is}
+use Rattle.lone_place.specs.code.Turns.{placeTurn}
 use Rattle.lone_place.proofs.places.place_at.Statement.{statement}
 use Rattle.lone_place.proofs.places.place_at.Tie as tie
 
@@ -42,8 +41,9 @@ lose-at-requires c κs = search needs
 -- what is tested
 tested : (c : tie.After-is-none) → c .is-none .result ≡ eqb (minus (c .before .before .before .args .held) (single (c .before .before .before .args .place))) 0
 tested c =
+    let start = c .before .before .before in
     c .is-none .ensures ∙ sym (test-none (c .before .lose .result))
-    ∙ ap (λ (x : ℕ). eqb x 0) (c .before .lose .ensures ∙ ap (minus (c .before .before .before .args .held)) (c .before .before .digit-mask .ensures))
+    ∙ ap (λ (x : ℕ). eqb x 0) (c .before .lose .ensures ∙ ap (minus (start .args .held)) (c .before .before .digit-mask .ensures ∙ place-is (start .args .place) (start .pre .2)))
 
 returns : tie.Need-returns
 unfolding placeTurn
@@ -55,9 +55,9 @@ returns c =
     c .lose-at .ensures
     ∙ ap (λ (e : ℕ). loseIn (isOpen (a .givens .now)) e (c .before .before .before .lose2 .result) m) (c .before .unit-cell .ensures)
     ∙ ap (λ (k : ℕ). loseIn (isOpen (a .givens .now)) cell k m)
-    (c .before .before .before .lose2 .ensures ∙ ap (minus 511) (c .before .before .before .before .digit-mask2 .ensures) ∙ except-single (a .digit) (start .pre .1))
-    ∙ lose-cell (isOpen (a .givens .now)) cell (except (only (a .digit))) m (cell-below (a .unit) (a .place) (start .pre .0) (start .pre .2))
-    ∙ sym (cond-true (eqb (minus (a .held) (single (a .place))) 0) (loseAt (isOpen (a .givens .now)) cell (except (only (a .digit))) m) m
+    (c .before .before .before .lose2 .ensures ∙ ap (minus 511) (c .before .before .before .before .digit-mask2 .ensures ∙ place-is (a .digit) (start .pre .1)))
+    ∙ lose-cell (isOpen (a .givens .now)) cell (minus 511 (single (a .digit))) m (cell-below (a .unit) (a .place) (start .pre .0) (start .pre .2))
+    ∙ sym (cond-true (eqb (minus (a .held) (single (a .place))) 0) (loseAt (isOpen (a .givens .now)) cell (minus 511 (single (a .digit))) m) m
     (sym (tested (c .before .before .before .before .before .before)) ∙ c .before .before .before .before .before .if1 .taken))
 
 returns-2 : tie.Need-returns-2
@@ -65,7 +65,7 @@ unfolding placeTurn
 returns-2 c =
     let a = c .before .before .before .before .args in
     sym (cond-false (eqb (minus (a .held) (single (a .place))) 0)
-    (loseAt (isOpen (a .givens .now)) (unitCell (a .unit) (a .place)) (except (only (a .digit))) (a .masks .now)) (a .masks .now) (sym (tested (c .before)) ∙ c .if1 .left))
+    (loseAt (isOpen (a .givens .now)) (unitCell (a .unit) (a .place)) (minus 511 (single (a .digit))) (a .masks .now)) (a .masks .now) (sym (tested (c .before)) ∙ c .if1 .left))
 
 pub place-at-spec : {M : Type 1} → statement M
 place-at-spec =

@@ -5,7 +5,7 @@ use native.Mathlib.Omega.{arith}
 use borrow.Author.Needs.{needs}
 use Rattle.grid.proofs.Lists.{turn-done, turns-over}
 use Rattle.steps.specs.Loops.{each, range, upTo}
-use Rattle.lone_place.specs.Turns.{placeTurn, placeDigit}
+use Rattle.lone_place.specs.code.Turns.{placeTurn, placeDigit}
 use Rattle.lone_place.proofs.PlaceTurns.{place-digit}
 use Rattle.lone_place.proofs.places.place_digit.Statement.{statement}
 use Rattle.lone_place.proofs.places.place_digit.Tie as tie

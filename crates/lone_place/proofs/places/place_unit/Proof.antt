@@ -8,9 +8,9 @@ use borrow.Author.Needs.{needs}
 use Rattle.candidates.specs.Masks.{has}
 use Rattle.grid.proofs.Lists.{turn-done, turns-over}
 use Rattle.steps.specs.Loops.{each, range}
-use Rattle.cells.specs.Places.{allMasks}
-use Rattle.lone_place.specs.Turns.{placeDigit, placeUnit}
-use Rattle.lone_place.specs.Due.{dueOf}
+use Rattle.cells.specs.code.Places.{allMasks}
+use Rattle.lone_place.specs.code.Turns.{placeDigit, placeUnit}
+use Rattle.lone_place.specs.code.Due.{dueOf}
 use Rattle.lone_place.proofs.PlaceDue.{not-due}
 use Rattle.lone_place.proofs.places.place_unit.Statement.{statement}
 use Rattle.lone_place.proofs.places.place_unit.Tie as tie

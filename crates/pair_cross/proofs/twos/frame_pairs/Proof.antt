@@ -14,7 +14,7 @@ use Rattle.candidates.proofs.Order.{and-sub, sub-le}
 use Rattle.grid.proofs.Lists.{turn-done, turns-over}
 use Rattle.steps.specs.Boards.{at}
 use Rattle.steps.specs.Loops.{each, range}
-use Rattle.pair_cross.specs.Twos.{firstOf, secondOf, lineMasks, openLines, othersOf, reachOf, linesTurned, linesTaken, frameTaken}
+use Rattle.pair_cross.specs.code.Twos.{firstOf, secondOf, lineMasks, openLines, othersOf, reachOf, linesTurned, linesTaken, frameTaken}
 use Rattle.pair_cross.specs.declared.twos.Frame.{Frame}
 use Rattle.pair_cross.proofs.Passed.{Tabled, every-tabled, open-tabled, tabled-under, lines-under, lines-skipped, lines-done}
 use Rattle.pair_cross.proofs.TwoNumbers.{first-below, second-below}

@@ -5,8 +5,8 @@ use native.Mathlib.Omega.{arith}
 use borrow.Author.Needs.{needs}
 use lib.ListN.{replicate}
 use Rattle.grid.proofs.Fills.{filled, fill-start, fill-on, fill-end}
-use Rattle.cells.specs.Places.{heldPlaces}
-use Rattle.pair_cross.specs.Twos.{heldLines}
+use Rattle.cells.specs.code.Places.{heldPlaces}
+use Rattle.pair_cross.specs.code.Twos.{heldLines}
 use Rattle.pair_cross.proofs.twos.held_lines.Statement.{statement}
 use Rattle.pair_cross.proofs.twos.held_lines.Tie as tie
 

@@ -6,7 +6,7 @@ use borrow.Author.Tests.{eq-eqb}
 use lib.Bits.{bitAnd, and-zero-r}
 use lib.Dec.{eqb}
 use Rattle.candidates.proofs.Counts.{test-none}
-use Rattle.pair_cross.specs.Twos.{othersOf, reachOf}
+use Rattle.pair_cross.specs.code.Twos.{othersOf, reachOf}
 use Rattle.pair_cross.proofs.twos.idle.Statement.{statement}
 use Rattle.pair_cross.proofs.twos.idle.Tie as tie
 

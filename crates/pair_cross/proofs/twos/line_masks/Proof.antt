@@ -2,7 +2,7 @@
 use mathlib.Core.Path.{sym, ap, _∙_, subst}
 use native.Mathlib.Omega.{arith}
 use borrow.Author.Needs.{needs}
-use Rattle.pair_cross.specs.Twos.{Framed, lineMasks}
+use Rattle.pair_cross.specs.code.Twos.{Framed, lineMasks}
 use Rattle.pair_cross.proofs.Frames.{first-le}
 use Rattle.pair_cross.proofs.twos.line_masks.Statement.{statement}
 use Rattle.pair_cross.proofs.twos.line_masks.Tie as tie

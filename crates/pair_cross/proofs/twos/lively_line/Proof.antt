@@ -7,7 +7,7 @@ use lib.Bits.{bitAnd}
 use lib.Dec.{eqb}
 use Rattle.candidates.specs.Masks.{count}
 use Rattle.candidates.proofs.Tests.{cond-true, cond-false}
-use Rattle.pair_cross.specs.Twos.{lively}
+use Rattle.pair_cross.specs.code.Twos.{lively}
 use Rattle.pair_cross.proofs.twos.lively_line.Statement.{statement}
 use Rattle.pair_cross.proofs.twos.lively_line.Tie as tie
 

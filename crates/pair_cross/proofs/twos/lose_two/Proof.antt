@@ -2,11 +2,12 @@
 use mathlib.Core.Path.{sym, ap, _∙_, subst}
 use Prim.Native.Nat.{ℕ, _+_, _-_}
 use borrow.Author.Needs.{needs}
-use Rattle.candidates.specs.Masks.{union, single}
+use Rattle.candidates.specs.Masks.{union, placeMask}
 use Rattle.steps.specs.Boards.{isOpen}
-use Rattle.cells.specs.Places.{losePlaces, allBut}
+use Rattle.cells.specs.code.Places.{losePlaces, allBut}
 use Rattle.cells.proofs.Crossings.{two-across}
-use Rattle.pair_cross.specs.Twos.{Framed, twoLose}
+use Rattle.cells.proofs.NineBits.{both-is}
+use Rattle.pair_cross.specs.code.Twos.{Framed, twoLose}
 use Rattle.pair_cross.specs.declared.twos.Frame.{Frame}
 use Rattle.pair_cross.proofs.Frames.{crossed, first-le, pair-lose}
 use Rattle.pair_cross.proofs.twos.lose_two.Statement.{statement}
@@ -64,7 +65,8 @@ returns c =
     c .lose-places .ensures
     ∙ ap (λ (ps : ℕ). losePlaces (isOpen (a .givens .now)) u ps (c .before .before .join .result) m) (told .before .before .all-but .ensures)
     ∙ ap (λ (k : ℕ). losePlaces (isOpen (a .givens .now)) u (allBut (a .i) (a .j)) k m)
-    (c .before .before .join .ensures ∙ ap (λ (x : ℕ). union x (c .before .before .before .digit-mask2 .result)) (c .before .before .before .before .digit-mask .ensures) ∙ ap (union (single (a .a))) (c .before .before .before .digit-mask2 .ensures))
+    (c .before .before .join .ensures ∙ ap (λ (x : ℕ). union x (c .before .before .before .digit-mask2 .result)) (c .before .before .before .before .digit-mask .ensures) ∙ ap (union (placeMask (a .a))) (c .before .before .before .digit-mask2 .ensures)
+    ∙ both-is (a .a) (a .b) (start .pre .3) (start .pre .4))
     ∙ pair-lose (a .givens .now) (a .i) (a .j) (a .a) (a .b) (start .pre .1) (start .pre .2) (start .pre .3) (start .pre .4) u (subst Framed (told .frame .given .1) (start .pre .0)) m
     ∙ sym (ap (λ (F : Frame). twoLose (a .givens .now) F (a .i) (a .j) (a .a) (a .b) m) (told .frame .given .1))
 

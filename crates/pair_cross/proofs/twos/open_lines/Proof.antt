@@ -1,7 +1,7 @@
 -- `pair_cross::twos::open_lines` meets its contract. Assumes nothing.
 use mathlib.Core.Path.{sym, ap, _∙_}
 use borrow.Author.Needs.{needs}
-use Rattle.pair_cross.specs.Twos.{openLines}
+use Rattle.pair_cross.specs.code.Twos.{openLines}
 use Rattle.pair_cross.proofs.twos.open_lines.Statement.{statement}
 use Rattle.pair_cross.proofs.twos.open_lines.Tie as tie
 

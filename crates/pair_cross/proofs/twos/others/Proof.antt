@@ -1,6 +1,6 @@
 -- `pair_cross::twos::others` meets its contract. Assumes nothing.
 use borrow.Author.Needs.{needs}
-use Rattle.pair_cross.specs.Twos.{othersOf}
+use Rattle.pair_cross.specs.code.Twos.{othersOf}
 use Rattle.pair_cross.proofs.twos.others.Statement.{statement}
 use Rattle.pair_cross.proofs.twos.others.Tie as tie
 

@@ -9,8 +9,8 @@ use lib.Bits.{bitAnd}
 use Rattle.grid.proofs.Lists.{all-on, all-stop, all-end}
 use Rattle.steps.specs.Boards.{at}
 use Rattle.steps.specs.Loops.{all, range}
-use Rattle.cells.specs.Unions.{sharedOf}
-use Rattle.pair_cross.specs.Twos.{lively, quietOf}
+use Rattle.cells.specs.code.Unions.{sharedOf}
+use Rattle.pair_cross.specs.code.Twos.{lively, quietOf}
 use Rattle.pair_cross.proofs.twos.quiet.Statement.{statement}
 use Rattle.pair_cross.proofs.twos.quiet.Tie as tie
 

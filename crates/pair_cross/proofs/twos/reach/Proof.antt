@@ -6,7 +6,7 @@ use borrow.Author.Needs.{needs}
 use lib.Dec.{eqb}
 use Rattle.candidates.specs.Masks.{count, tail}
 use Rattle.candidates.proofs.Tests.{cond-true, cond-false}
-use Rattle.pair_cross.specs.Twos.{reachOf}
+use Rattle.pair_cross.specs.code.Twos.{reachOf}
 use Rattle.pair_cross.proofs.twos.reach.Statement.{statement}
 use Rattle.pair_cross.proofs.twos.reach.Tie as tie
 

@@ -3,12 +3,12 @@ use mathlib.Core.Path.{_≡_, sym, ap, _∙_}
 use Prim.Native.Nat.{ℕ}
 use borrow.Author.Needs.{needs}
 use lib.Dec.{eqb}
-use Rattle.candidates.specs.Masks.{minus, union, single}
+use Rattle.candidates.specs.Masks.{minus, union, placeMask}
 use Rattle.candidates.proofs.Counts.{test-none}
 use Rattle.candidates.proofs.Tests.{cond-true, cond-false}
 use Rattle.steps.specs.Instances.{both}
 use Rattle.cells.proofs.NineBits.{both-is}
-use Rattle.pair_cross.specs.Twos.{twoLose, twoTurn}
+use Rattle.pair_cross.specs.code.Twos.{twoLose, twoTurn}
 use Rattle.pair_cross.proofs.twos.two_at.Statement.{statement}
 use Rattle.pair_cross.proofs.twos.two_at.Tie as tie
 
@@ -39,7 +39,7 @@ tested c =
     ∙ ap (λ (x : ℕ). eqb x 0)
     (c .before .lose .ensures
     ∙ ap (minus (a .held)) (c .before .before .join .ensures ∙ ap (λ (x : ℕ). union x (c .before .before .before .digit-mask2 .result)) (c .before .before .before .before .digit-mask .ensures)
-    ∙ ap (union (single (a .a))) (c .before .before .before .digit-mask2 .ensures) ∙ both-is (a .a) (a .b) (start .pre .3) (start .pre .4)))
+    ∙ ap (union (placeMask (a .a))) (c .before .before .before .digit-mask2 .ensures) ∙ both-is (a .a) (a .b) (start .pre .3) (start .pre .4)))
 
 returns : tie.Need-returns
 unfolding twoTurn

@@ -1,7 +1,7 @@
 -- `pair_cross::twos::two_frame` meets its contract. Assumes nothing.
 use mathlib.Core.Path.{sym, ap, _∙_}
 use borrow.Author.Needs.{needs}
-use Rattle.pair_cross.specs.Twos.{quietOf}
+use Rattle.pair_cross.specs.code.Twos.{quietOf}
 use Rattle.pair_cross.proofs.Quiet.{quiet-frame}
 use Rattle.pair_cross.proofs.twos.two_frame.Statement.{statement}
 use Rattle.pair_cross.proofs.twos.two_frame.Tie as tie

@@ -8,7 +8,7 @@ use borrow.Author.Tests.{eqb-true}
 use Rattle.candidates.specs.Masks.{count, lowest, tail}
 use Rattle.grid.proofs.Lists.{turn-done, turns-over}
 use Rattle.steps.specs.Loops.{each, range}
-use Rattle.pair_cross.specs.Twos.{firstOf, secondOf, twoLose, twoTurn, linesTurned}
+use Rattle.pair_cross.specs.code.Twos.{firstOf, secondOf, twoLose, twoTurn, linesTurned}
 use Rattle.pair_cross.specs.declared.twos.Frame.{Frame}
 use Rattle.pair_cross.proofs.TwoNumbers.{first-below, second-below}
 use Rattle.pair_cross.proofs.TwoPlaces.{first-place, second-place, two-turned}

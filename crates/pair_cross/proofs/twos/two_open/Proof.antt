@@ -3,7 +3,7 @@ use mathlib.Core.Path.{sym, _∙_}
 use lib.Bits.{bitAnd}
 use lib.Dec.{eqb}
 use Rattle.candidates.proofs.Tests.{cond-true, cond-false}
-use Rattle.pair_cross.specs.Twos.{othersOf, reachOf, linesTurned}
+use Rattle.pair_cross.specs.code.Twos.{othersOf, reachOf, linesTurned}
 use Rattle.pair_cross.proofs.twos.two_open.Statement.{statement}
 use Rattle.pair_cross.proofs.twos.two_open.Tie as tie
 

@@ -6,8 +6,8 @@ use native.Mathlib.Omega.{arith}
 use Rattle.record.proofs.sections.count_at.Statement.{statement}
 use Rattle.record.proofs.sections.count_at.Tie as tie
 
-byte-at-requires : tie.Need-byte-at-requires
-byte-at-requires c κs = search needs
+value-at-requires : tie.Need-value-at-requires
+value-at-requires c κs = search needs
 
 enum-told : tie.Need-enum-told
 enum-told c = search needs
@@ -15,40 +15,40 @@ enum-told c = search needs
 enum-told-2 : tie.Need-enum-told-2
 enum-told-2 c = search needs
 
-add-byte-at : tie.Need-add-byte-at
-add-byte-at c = search needs
+add-value-at : tie.Need-add-value-at
+add-value-at c = search needs
 
-byte-at-requires-2 : tie.Need-byte-at-requires-2
-byte-at-requires-2 c κs = search needs
+value-at-requires-2 : tie.Need-value-at-requires-2
+value-at-requires-2 c κs = search needs
 
 mul-result : tie.Need-mul-result
-mul-result c = omega (arith, c .byte-at2 .ensures, c .before .before .before .before .shared-slice-known .given (c .before .before .before .before .before .args .at + 1))
+mul-result c = omega (arith, c .value-at2 .ensures, c .before .before .before .before .shared-slice-known .given (c .before .before .before .before .before .args .at + 1))
 
 add-result : tie.Need-add-result
 add-result c =
     let k = c .before .before .before .before .shared-slice-known in
     let i = c .before .before .before .before .before .args .at in
-    omega (arith, c .before .before .before .byte-at .ensures, c .byte-at2 .ensures, k .given i, k .given (i + 1))
+    omega (arith, c .before .before .before .value-at .ensures, c .value-at2 .ensures, k .given i, k .given (i + 1))
 
 returns : tie.Need-returns
 returns c =
     let a = c .before .before .before .before .args in
-    number-one (a .bytes .now) (a .at) (c .before .before .byte-at .ensures) (c .enum-told .given .1)
+    number-one (a .bytes .now) (a .at) (c .before .before .value-at .ensures) (c .enum-told .given .1)
 
 returns-2 : tie.Need-returns-2
 returns-2 c =
     let a = c .before .before .before .before .before .args in
-    number-two (a .bytes .now) (a .at) (c .before .before .before .byte-at .ensures) (c .byte-at2 .ensures) (c .before .enum-told2 .given .1)
+    number-two (a .bytes .now) (a .at) (c .before .before .before .value-at .ensures) (c .value-at2 .ensures) (c .before .enum-told2 .given .1)
 
 pub count-at-spec : {M : Type 1} → statement M
 count-at-spec =
     tie.close
     (tie.spec
-    byte-at-requires
+    value-at-requires
     enum-told
     enum-told-2
-    add-byte-at
-    byte-at-requires-2
+    add-value-at
+    value-at-requires-2
     mul-result
     add-result
     returns

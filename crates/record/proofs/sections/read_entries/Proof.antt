@@ -1,12 +1,12 @@
 -- `record::sections::read_entries` meets its contract. Assumes nothing.
 use mathlib.Core.Path.{_≡_, refl, sym, ap, _∙_}
-use Rattle.record.specs.Answers.{readingAnswer}
 use mathlib.Core.List.{List}
 use Prim.Native.Nat.{ℕ, _+_, _-_}
-use Rattle.candidates.specs.Answer.{gives}
-use Rattle.record.specs.Sections.{after, entryAt, readEntries}
+use Rattle.stops.specs.Answer.{gives, map}
+use Rattle.record.specs.declared.sections.Reading.{Reading}
+use Rattle.record.specs.Sections.{after, readingAnswer, entryAt, withSets, readEntries}
 use Rattle.record.proofs.Entries.{Named, named-entry, named-small}
-use Rattle.record.proofs.SectionsRead.{read-on, read-end, read-stop}
+use Rattle.record.proofs.SectionsRead.{entry-told, read-on, read-end}
 use borrow.Author.Needs.{needs}
 use native.Mathlib.Omega.{arith}
 use Rattle.record.proofs.sections.read_entries.Statement.{statement}
@@ -18,13 +18,6 @@ Inv-loop section free bytes count start sets₀ left₀ low₀ at₀ sets left l
 abbrev μ-loop : tie.MeasureT-loop
 μ-loop section free bytes count start sets₀ left₀ low₀ at₀ sets left low at = left
 
--- the entry that was read
-is-read : (c : tie.After-entry Inv-loop μ-loop) → entryAt (c .before .before .before .before .before .before .args .section) (c .before .before .before .before .before .before .args .free .now) (c .before .before .before .before .before .before .args .bytes .now) (c .before .before .before .before .loop .low) (c .before .before .before .before .loop .at) ≡ gives (c .entry .given .0 .0)
-is-read c = sym (c .before .before .entry-at .ensures) ∙ ap readingAnswer (c .entry .given .1)
-
-is-named : (c : tie.After-entry Inv-loop μ-loop) → Named (c .before .before .before .before .before .before .args .section) (c .before .before .before .before .before .before .args .free .now) (c .before .before .before .before .before .before .args .bytes .now) (c .before .before .before .before .loop .low) (c .before .before .before .before .loop .at) (c .entry .given .0 .0)
-is-named c = named-entry _ _ _ _ _ (c .entry .given .0 .0) (is-read c)
-
 loop-holds : tie.Need-loop-holds Inv-loop μ-loop
 loop-holds c = refl
 
@@ -34,13 +27,25 @@ entry-at-requires c κs = search needs
 enum-known-entry : tie.Need-enum-known-entry Inv-loop μ-loop
 enum-known-entry c = search needs
 
+enum-told : tie.Need-enum-told Inv-loop μ-loop
+enum-told c = search needs
+
 returns : tie.Need-returns Inv-loop μ-loop
 returns c =
-    let e = c .before in
+    let e = c .before .before in
     let l = e .before .before in
     let a = l .before .before .args in
-    read-stop (a .section) (a .free .now) (a .bytes .now) (l .loop .left) (l .loop .low) (l .loop .at) (l .loop .sets) (e .entry-at .result) (e .before .loop-test .taken) (e .entry-at .ensures) (c .match .keys2)
+    let is = c .enum-told .given .1 in
+    ap (λ (x : Reading). map (withSets (l .loop .sets)) (readingAnswer x)) is
+    ∙ read-on (a .section) (a .free .now) (a .bytes .now) (l .loop .left) (l .loop .low) (l .loop .at) (l .loop .sets) (omega arith) (entry-told is (e .entry-at .ensures))
     ∙ l .loop .inv
+
+-- the entry that was read
+is-read : (c : tie.After-entry Inv-loop μ-loop) → gives (c .entry .given .0 .0) ≡ entryAt (c .before .before .before .before .before .before .args .section) (c .before .before .before .before .before .before .args .free .now) (c .before .before .before .before .before .before .args .bytes .now) (c .before .before .before .before .loop .low) (c .before .before .before .before .loop .at)
+is-read c = entry-told (c .entry .given .1) (c .before .before .entry-at .ensures)
+
+is-named : (c : tie.After-entry Inv-loop μ-loop) → Named (c .before .before .before .before .before .before .args .section) (c .before .before .before .before .before .before .args .free .now) (c .before .before .before .before .before .before .args .bytes .now) (c .before .before .before .before .loop .low) (c .before .before .before .before .loop .at) (c .entry .given .0 .0)
+is-named c = named-entry _ _ _ _ _ (c .entry .given .0 .0) (sym (is-read c))
 
 add-requires : tie.Need-add-requires Inv-loop μ-loop
 add-requires c κs = named-small _ _ _ _ _ (is-named (c .before .before))
@@ -65,7 +70,7 @@ loop-again c =
     let candidate = e .entry .given .0 .0 in
     ap (λ (x : ℕ). readEntries (a .section) (a .free .now) (a .bytes .now) (l .loop .left - 1) x (l .loop .at + 2) (c .before .add .last .0)) (c .next-low .ensures)
     ∙ ap (λ (x : List ℕ). readEntries (a .section) (a .free .now) (a .bytes .now) (l .loop .left - 1) (after (a .section) candidate) (l .loop .at + 2) x) (c .before .add .ensures)
-    ∙ sym (read-on (a .section) (a .free .now) (a .bytes .now) (l .loop .left) (l .loop .low) (l .loop .at) (l .loop .sets) (omega arith) (is-read e)) ∙ l .loop .inv
+    ∙ read-on (a .section) (a .free .now) (a .bytes .now) (l .loop .left) (l .loop .low) (l .loop .at) (l .loop .sets) (omega arith) (is-read e) ∙ l .loop .inv
 
 returns-2 : tie.Need-returns-2 Inv-loop μ-loop
 returns-2 c =
@@ -82,6 +87,7 @@ read-entries-spec =
     loop-holds
     entry-at-requires
     enum-known-entry
+    enum-told
     returns
     add-requires
     next-low-requires

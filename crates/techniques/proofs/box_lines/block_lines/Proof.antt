@@ -6,14 +6,14 @@ use native.Mathlib.Omega.{arith}
 use borrow.Author.Needs.{needs}
 use Rattle.grid.proofs.Lists.{turn-done, turns-over}
 use Rattle.steps.specs.Loops.{each, range}
-use Rattle.cells.specs.Places.{placesOf}
-use Rattle.techniques.specs.BoxLines.{digitLines, blockLines}
+use Rattle.cells.specs.code.Places.{spotsIn}
+use Rattle.techniques.specs.code.BoxLines.{digitLines, blockLines}
 use Rattle.techniques.proofs.box_lines.block_lines.Statement.{statement}
 use Rattle.techniques.proofs.box_lines.block_lines.Tie as tie
 
 -- one turn of the loop
 abbrev turn : List ℕ → ℕ → List ℕ → ℕ → List ℕ → List ℕ
-turn g b nine d m = digitLines g b d (placesOf nine d) m
+turn g b nine d m = digitLines g b d (spotsIn nine d) m
 
 abbrev Inv-loop : tie.InvT-loop
 Inv-loop givens masks₀ block nine digit₀ masks digit =

@@ -7,7 +7,7 @@ use borrow.Author.Needs.{needs}
 use Rattle.grid.proofs.Lists.{turn-done, turns-over}
 use Rattle.steps.specs.Loops.{each, range}
 use Rattle.steps.specs.Ported.{boxLines}
-use Rattle.techniques.specs.BoxLines.{blockLines, blockTurn}
+use Rattle.techniques.specs.code.BoxLines.{blockLines, blockTurn}
 use Rattle.techniques.proofs.BoxLines.{boxes-are}
 use Rattle.techniques.proofs.box_lines.box_lines.Statement.{statement}
 use Rattle.techniques.proofs.box_lines.box_lines.Tie as tie

@@ -5,8 +5,8 @@ use borrow.Author.Needs.{needs}
 use lib.Dec.{eqb}
 use Rattle.candidates.specs.Masks.{count, tail}
 use Rattle.candidates.proofs.Tests.{cond-true, cond-false}
-use Rattle.cells.specs.Lines.{lineTurns}
-use Rattle.techniques.specs.BoxLines.{digitLines}
+use Rattle.cells.specs.code.Lines.{lineTurns}
+use Rattle.techniques.specs.code.BoxLines.{digitLines}
 use Rattle.techniques.proofs.box_lines.digit_lines.Statement.{statement}
 use Rattle.techniques.proofs.box_lines.digit_lines.Tie as tie
 

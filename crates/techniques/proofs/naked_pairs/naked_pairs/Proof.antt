@@ -6,7 +6,7 @@ use borrow.Author.Needs.{needs}
 use Rattle.grid.proofs.Lists.{turn-done, turns-over}
 use Rattle.steps.specs.Loops.{each, range}
 use Rattle.steps.specs.Ported.{nakedPairs}
-use Rattle.techniques.specs.NakedPairs.{unitPairs}
+use Rattle.techniques.specs.code.NakedPairs.{unitPairs}
 use Rattle.techniques.proofs.NakedPairs.{pairs-are}
 use Rattle.techniques.proofs.naked_pairs.naked_pairs.Statement.{statement}
 use Rattle.techniques.proofs.naked_pairs.naked_pairs.Tie as tie

@@ -6,7 +6,7 @@ use borrow.Author.Needs.{needs}
 use borrow.Author.Tests.{not-true, not-false}
 use Rattle.grid.proofs.Lists.{all-end}
 use Rattle.steps.specs.Loops.{all, range}
-use Rattle.techniques.specs.NakedPairs.{noTwin}
+use Rattle.techniques.specs.code.NakedPairs.{noTwin}
 use Rattle.techniques.proofs.NakedPairs.{single-out, twin-past, twin-few, twin-found, twin-not}
 use Rattle.techniques.proofs.naked_pairs.no_twin.Statement.{statement}
 use Rattle.techniques.proofs.naked_pairs.no_twin.Tie as tie

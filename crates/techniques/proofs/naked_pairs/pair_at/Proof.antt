@@ -1,7 +1,7 @@
 -- `techniques::naked_pairs::pair_at` meets its contract. Assumes nothing.
 use mathlib.Core.Path.{ap, _∙_, sym}
 use borrow.Author.Needs.{needs}
-use Rattle.cells.specs.Places.{openMask}
+use Rattle.cells.specs.code.Places.{openMask}
 use Rattle.techniques.proofs.NakedPairs.{pair-lost, pair-not, pair-differs}
 use Rattle.techniques.proofs.naked_pairs.pair_at.Statement.{statement}
 use Rattle.techniques.proofs.naked_pairs.pair_at.Tie as tie

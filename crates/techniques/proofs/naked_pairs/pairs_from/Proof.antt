@@ -5,7 +5,7 @@ use native.Mathlib.Omega.{arith}
 use borrow.Author.Needs.{needs}
 use Rattle.grid.proofs.Lists.{each-end, turn-done, turns-over}
 use Rattle.steps.specs.Loops.{each, range, above}
-use Rattle.techniques.specs.NakedPairs.{pairAt}
+use Rattle.techniques.specs.code.NakedPairs.{pairAt}
 use Rattle.techniques.proofs.naked_pairs.pairs_from.Statement.{statement}
 use Rattle.techniques.proofs.naked_pairs.pairs_from.Tie as tie
 

@@ -9,8 +9,8 @@ use borrow.Author.Needs.{needs}
 use borrow.Author.Tests.{not-false}
 use Rattle.grid.proofs.Lists.{turn-done, turns-over}
 use Rattle.steps.specs.Loops.{each, range, above}
-use Rattle.cells.specs.Places.{unitMasks}
-use Rattle.techniques.specs.NakedPairs.{pairAt, unitPairs}
+use Rattle.cells.specs.code.Places.{unitMasks}
+use Rattle.techniques.specs.code.NakedPairs.{pairAt, unitPairs}
 use Rattle.techniques.proofs.NakedPairs.{no-twin}
 use Rattle.techniques.proofs.naked_pairs.unit_pairs.Statement.{statement}
 use Rattle.techniques.proofs.naked_pairs.unit_pairs.Tie as tie

@@ -9,17 +9,17 @@ use Rattle.grid.specs.Units.{unitCell}
 use Rattle.grid.proofs.Units.{cell-small}
 use Rattle.grid.proofs.Lists.{turn-done, turns-over}
 use Rattle.steps.specs.Loops.{each, range, upTo}
-use Rattle.cells.specs.Places.{placesOf}
+use Rattle.cells.specs.code.Places.{spotsIn}
 use Rattle.techniques.specs.declared.singles.Reports.{Reports}
-use Rattle.techniques.specs.Reports.{append}
-use Rattle.techniques.specs.Singles.{hiddenAt, hiddenIn}
+use Rattle.techniques.specs.code.Pushes.{append}
+use Rattle.techniques.specs.code.Singles.{hiddenAt, hiddenIn}
 use Rattle.techniques.proofs.SinglesFound.{hidden-found, hidden-none, hidden-loop}
 use Rattle.techniques.proofs.singles.hidden_in.Statement.{statement}
 use Rattle.techniques.proofs.singles.hidden_in.Tie as tie
 
 -- one turn of the loop
 abbrev turn : ℕ → List ℕ → ℕ → Reports → Reports
-turn u nine d q = append (hiddenAt u (placesOf nine d) d) q
+turn u nine d q = append (hiddenAt u (spotsIn nine d) d) q
 
 abbrev Inv-loop : tie.InvT-loop
 Inv-loop givens masks unit nine list₀ digit₀ list digit =

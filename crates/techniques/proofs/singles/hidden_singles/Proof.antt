@@ -8,8 +8,8 @@ use Rattle.grid.proofs.Lists.{turn-done, turns-over}
 use Rattle.steps.specs.Loops.{each, range}
 use Rattle.steps.specs.Singles.{hiddenSingles}
 use Rattle.techniques.specs.declared.singles.Reports.{Reports}
-use Rattle.techniques.specs.Reports.{append}
-use Rattle.techniques.specs.Singles.{hiddenIn}
+use Rattle.techniques.specs.code.Pushes.{append}
+use Rattle.techniques.specs.code.Singles.{hiddenIn}
 use Rattle.techniques.proofs.SinglesFound.{units-loop}
 use Rattle.techniques.proofs.singles.hidden_singles.Statement.{statement}
 use Rattle.techniques.proofs.singles.hidden_singles.Tie as tie

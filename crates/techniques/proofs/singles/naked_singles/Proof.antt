@@ -10,7 +10,7 @@ use Rattle.grid.proofs.Lists.{turn-done, turns-over}
 use Rattle.steps.specs.Loops.{each, range}
 use Rattle.steps.specs.Singles.{nakedAt, nakedSingles}
 use Rattle.techniques.specs.declared.singles.Reports.{Reports}
-use Rattle.techniques.specs.Reports.{append}
+use Rattle.techniques.specs.code.Pushes.{append}
 use Rattle.techniques.proofs.SinglesFound.{naked-found, naked-none, naked-loop}
 use Rattle.techniques.proofs.singles.naked_singles.Statement.{statement}
 use Rattle.techniques.proofs.singles.naked_singles.Tie as tie

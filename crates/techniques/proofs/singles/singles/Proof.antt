@@ -2,7 +2,7 @@
 use mathlib.Core.Path.{ap, _∙_}
 use borrow.Author.Needs.{needs}
 use Rattle.steps.specs.Singles.{nakedSingles, hiddenSingles}
-use Rattle.techniques.specs.Reports.{append}
+use Rattle.techniques.specs.code.Pushes.{append}
 use Rattle.techniques.proofs.ReportLists.{naked-stand, both-stand}
 use Rattle.techniques.proofs.singles.singles.Statement.{statement}
 use Rattle.techniques.proofs.singles.singles.Tie as tie

@@ -5,7 +5,7 @@ use native.Mathlib.Omega.{arith}
 use borrow.Author.Needs.{needs}
 use Rattle.candidates.proofs.Counts.{lowest-le}
 use Rattle.steps.specs.Boards.{isOpen}
-use Rattle.cells.specs.Places.{losePlaces}
+use Rattle.cells.specs.code.Places.{losePlaces}
 use Rattle.techniques.proofs.XWings.{across-le, wing-lost, wing-kept}
 use Rattle.techniques.proofs.x_wings.wing_at.Statement.{statement}
 use Rattle.techniques.proofs.x_wings.wing_at.Tie as tie

@@ -6,8 +6,8 @@ use native.Mathlib.Omega.{arith}
 use borrow.Author.Needs.{needs}
 use Rattle.grid.proofs.Lists.{turn-done, turns-over}
 use Rattle.steps.specs.Loops.{each, range, upTo}
-use Rattle.cells.specs.Places.{lineSpots}
-use Rattle.techniques.specs.XWings.{wingsFrom, wingDigit}
+use Rattle.cells.specs.code.Places.{lineSpots}
+use Rattle.techniques.specs.code.XWings.{wingsFrom, wingDigit}
 use Rattle.techniques.proofs.x_wings.wing_digit.Statement.{statement}
 use Rattle.techniques.proofs.x_wings.wing_digit.Tie as tie
 

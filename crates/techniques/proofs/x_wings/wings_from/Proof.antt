@@ -9,7 +9,7 @@ use borrow.Author.Tests.{not-true, not-false}
 use Rattle.grid.proofs.Lists.{turn-done, turns-over}
 use Rattle.steps.specs.Boards.{at}
 use Rattle.steps.specs.Loops.{each, range}
-use Rattle.techniques.specs.XWings.{wingAt, wingsFrom}
+use Rattle.techniques.specs.code.XWings.{wingAt, wingsFrom}
 use Rattle.techniques.proofs.XWings.{from-past, from-none, from-two}
 use Rattle.techniques.proofs.x_wings.wings_from.Statement.{statement}
 use Rattle.techniques.proofs.x_wings.wings_from.Tie as tie

@@ -5,7 +5,7 @@ use native.Mathlib.Omega.{arith}
 use borrow.Author.Needs.{needs}
 use Rattle.grid.proofs.Lists.{turn-done, turns-over}
 use Rattle.steps.specs.Loops.{each, range, upTo}
-use Rattle.techniques.specs.XWings.{wingDigit}
+use Rattle.techniques.specs.code.XWings.{wingDigit}
 use Rattle.techniques.proofs.x_wings.wings_in.Statement.{statement}
 use Rattle.techniques.proofs.x_wings.wings_in.Tie as tie
 

@@ -3,7 +3,7 @@ use mathlib.Core.Path.{ap, _∙_}
 use mathlib.Core.Bool.{true}
 use borrow.Author.Needs.{needs}
 use Rattle.steps.specs.Loops.{each, upTo}
-use Rattle.techniques.specs.XWings.{wingDigit}
+use Rattle.techniques.specs.code.XWings.{wingDigit}
 use Rattle.techniques.proofs.XWings.{wings-are}
 use Rattle.techniques.proofs.x_wings.x_wings.Statement.{statement}
 use Rattle.techniques.proofs.x_wings.x_wings.Tie as tie

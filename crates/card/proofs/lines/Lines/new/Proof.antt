@@ -1,6 +1,6 @@
 -- `card::lines::Lines::new` meets its contract. Assumes nothing.
 use mathlib.Core.Path.{refl}
-use Rattle.card.specs.Lines.{linesOf}
+use Rattle.card.specs.code.Lines.{linesOf}
 use Rattle.card.proofs.lines.Lines.new.Statement.{statement}
 use Rattle.card.proofs.lines.Lines.new.Tie as tie
 

@@ -6,7 +6,7 @@ use borrow.Author.Tests.{lt-ltb, le-ltb}
 use lib.Dec.{ltb}
 use lib.ListN.{set}
 use Rattle.candidates.proofs.Tests.{cond-true, cond-false}
-use Rattle.card.specs.Lines.{pushed}
+use Rattle.card.specs.code.Lines.{pushed}
 use Rattle.card.proofs.lines.Lines.push.Statement.{statement}
 use Rattle.card.proofs.lines.Lines.push.Tie as tie
 

@@ -6,7 +6,7 @@ use borrow.Author.Tests.{lt-ltb, le-ltb}
 use lib.Dec.{ltb}
 use lib.ListN.{set}
 use Rattle.candidates.proofs.Tests.{cond-true, cond-false}
-use Rattle.techniques.specs.Reports.{pushed}
+use Rattle.techniques.specs.code.Pushes.{pushed}
 use Rattle.techniques.proofs.singles.Reports.push.Statement.{statement}
 use Rattle.techniques.proofs.singles.Reports.push.Tie as tie
 

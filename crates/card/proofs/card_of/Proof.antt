@@ -1,0 +1,69 @@
+-- Each part of the card is what its function gives.
+use borrow.Author.Needs.{needs}
+use mathlib.Core.Path.{_≡_, ap, _∙_}
+use mathlib.Core.List.{List, _++_}
+use Prim.Native.Nat.{ℕ}
+use lib.ListN.{length}
+use Rattle.grid.specs.Cells.{cells}
+use Rattle.steps.specs.Boards.{givensOf, fresh}
+use Rattle.steps.specs.Calls.{outcome}
+use Rattle.steps.specs.Passes.{settle, removedBy}
+use Rattle.steps.specs.Singles.{nakedSingles, hiddenSingles}
+use Rattle.board.specs.Boards.{clueCount, verdictOf}
+use Rattle.techniques.specs.Reports.{reportsOf}
+use Rattle.techniques.specs.declared.singles.Reports.{Reports}
+use Rattle.card.specs.Cards.{cardFor}
+use Rattle.card.proofs.card_of.Statement.{statement}
+use Rattle.card.proofs.card_of.Tie as tie
+
+givens-of-requires : tie.Need-givens-of-requires
+givens-of-requires c κs = search needs
+
+fresh-masks-requires : tie.Need-fresh-masks-requires
+fresh-masks-requires c κs = search needs
+
+singles-requires : tie.Need-singles-requires
+singles-requires c κs = search needs
+
+settle-requires : tie.Need-settle-requires
+settle-requires c κs = search needs
+
+count-clues-requires : tie.Need-count-clues-requires
+count-clues-requires c κs = search needs
+
+verdict-of-requires : tie.Need-verdict-of-requires
+verdict-of-requires c κs = search needs
+
+returns : tie.Need-returns
+unfolding cardFor outcome reportsOf
+returns c =
+    let counted = c .before .before in
+    let settled = counted .before .before in
+    let found = settled .before .before .before in
+    let made = found .before .before .before in
+    let given = made .before .before in
+    let g = givensOf (given .before .args .clues .now) in
+    let f = fresh g in
+    let is = given .givens-of .ensures in
+    let masks : made .fresh-masks .result ≡ f = made .fresh-masks .ensures ∙ ap fresh is in
+    let reports : found .singles .result ≡ reportsOf (nakedSingles g f ++ hiddenSingles g f) = found .singles .ensures ∙ rw (is, masks) in
+    let s = settled .settle .ensures in
+    let left : settled .settle .last .1 .0 ≡ settle g f .left = s .1 .1 ∙ rw (is, masks) in
+    let sweeps : settled .settle .result .sweeps ≡ settle g f .sweeps = s .0 ∙ rw (is, masks) in
+    let removed : settled .settle .result .removed ≡ removedBy f (settle g f .left) = s .1 .0 ∙ rw (masks, left) in
+    let clues : counted .count-clues .result ≡ clueCount g cells = counted .count-clues .ensures ∙ ap (λ (g : List ℕ). clueCount g cells) is in
+    let verdict : c .verdict-of .result ≡ verdictOf (settle g f .left) = c .verdict-of .ensures ∙ ap verdictOf left in
+    let reported : found .singles .result .count ≡ length (nakedSingles g f ++ hiddenSingles g f) = ap (λ (q : Reports). q .count) reports in
+    cc
+
+pub card-of-spec : {M : Type 1} → statement M
+card-of-spec =
+    tie.close
+    (tie.spec
+    givens-of-requires
+    fresh-masks-requires
+    singles-requires
+    settle-requires
+    count-clues-requires
+    verdict-of-requires
+    returns)

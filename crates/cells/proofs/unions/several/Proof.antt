@@ -1,0 +1,70 @@
+-- `cells::unions::several` meets its contract. The invariant: the places that are left still make the whole. Assumes nothing.
+use mathlib.Core.Path.{_≡_, refl, ap, _∙_}
+use mathlib.Core.List.{List}
+use Prim.Native.Nat.{ℕ, _-_, _≤_}
+use native.Mathlib.Omega.{arith}
+use borrow.Author.Needs.{needs}
+use Rattle.candidates.specs.Masks.{union}
+use Rattle.grid.proofs.Lists.{turn-done, turns-over}
+use Rattle.steps.specs.Boards.{at}
+use Rattle.steps.specs.Loops.{each, range}
+use Rattle.cells.specs.code.Unions.{severalIn, severalOf}
+use Rattle.cells.proofs.unions.several.Statement.{statement}
+use Rattle.cells.proofs.unions.several.Tie as tie
+
+-- one turn of the loop
+turn : List ℕ → ℕ → ℕ → ℕ
+turn nine i k = union k (severalIn (at nine i))
+
+abbrev Inv-loop : tie.InvT-loop
+Inv-loop nine mask₀ place₀ mask place = (place ≤ 9) × (each (turn nine) (range (9 - place) place) mask ≡ severalOf nine)
+
+abbrev μ-loop : tie.MeasureT-loop
+μ-loop nine mask₀ place₀ mask place = 9 - place
+
+loop-holds : tie.Need-loop-holds Inv-loop μ-loop
+unfolding severalOf turn
+loop-holds c = (omega arith, refl)
+
+mul-unless-one : tie.Need-mul-unless-one Inv-loop μ-loop
+mul-unless-one c = omega arith
+
+element-copy-out-unless-one : tie.Need-element-copy-out-unless-one Inv-loop μ-loop
+element-copy-out-unless-one c = omega arith
+
+unless-one-requires : tie.Need-unless-one-requires Inv-loop μ-loop
+unless-one-requires c κs = search needs
+
+join-requires : tie.Need-join-requires Inv-loop μ-loop
+join-requires c κs = search needs
+
+add-place : tie.Need-add-place Inv-loop μ-loop
+add-place c = omega arith
+
+loop-less : tie.Need-loop-less Inv-loop μ-loop
+loop-less c = omega arith
+
+loop-again : tie.Need-loop-again Inv-loop μ-loop
+unfolding turn
+loop-again c =
+    let l = c .before .before .before .before in
+    (omega arith, turn-done (turn (l .before .args .nine .now)) 9 (l .loop .place) (omega arith) (c .join .ensures ∙ ap (union (l .loop .mask)) (c .before .unless-one .ensures)) (l .loop .inv .1))
+
+returns : tie.Need-returns Inv-loop μ-loop
+returns c = turns-over (turn (c .before .before .args .nine .now)) 9 (c .before .loop .place) (c .loop-test .left) (c .before .loop .inv .1)
+
+pub several-spec : {M : Type 1} → statement M
+several-spec =
+    tie.close
+    (tie.spec
+    Inv-loop
+    μ-loop
+    loop-holds
+    mul-unless-one
+    element-copy-out-unless-one
+    unless-one-requires
+    join-requires
+    add-place
+    loop-less
+    loop-again
+    returns)

@@ -1,0 +1,132 @@
+// The calls that remove candidates: the ported eliminations with the original's names, the wide passes and the chain pass. Each checks its board
+// first; what it removes is worked out over lent givens and masks by the crates below.
+ghost use mathlib.Core.Path.{_≡_};
+ghost use Rattle.steps.specs.Calls.{boxLineCall, chainCall, nakedPairsCall, outcome, wide, xWingCall};
+ghost use Rattle.steps.specs.Passes.{Cross, Lone, Pair, Place, Pointing};
+ghost use Rattle.board.specs.Boards.{boardOf};
+ghost use Rattle.eliminations.specs.Eliminations.{Eliminates};
+ghost use Rattle.eliminations.specs.code.Calls.{callOf};
+use board::Board;
+use board::check;
+use board::clues::givens_of;
+use cells::changed;
+use chains::chains;
+use locked::pointing;
+use lone_place::lone;
+use lone_place::place;
+use pair_cross::cross;
+use pair_cross::pair;
+use stops::Check;
+use stops::Progress;
+use techniques::box_lines::box_lines;
+use techniques::naked_pairs::naked_pairs;
+use techniques::x_wings::x_wings;
+
+// The board after an elimination, and whether it removed anything; the board as it was beside a refusal.
+pub struct Eliminated {
+    pub answer: Progress,
+    pub board: Board,
+}
+
+enum Elimination {
+    NakedPairs,
+    BoxLine,
+    XWing,
+    Lone,
+    Place,
+    Pair,
+    Pointing,
+    Cross,
+    Chains,
+}
+
+fn eliminate(elimination: Elimination, givens: &[u8; 81], masks: &mut [u16; 81])
+    ensures { λ _. ⌜ now (masks .exit) ≡ outcome (callOf elimination) (now (givens .entry)) (now (masks .entry)) .masks ⌝ }
+{
+    match elimination {
+        Elimination::NakedPairs => naked_pairs(givens, masks),
+        Elimination::BoxLine => box_lines(givens, masks),
+        Elimination::XWing => x_wings(givens, masks),
+        Elimination::Lone => lone(givens, masks),
+        Elimination::Place => place(givens, masks),
+        Elimination::Pair => pair(givens, masks),
+        Elimination::Pointing => pointing(givens, masks),
+        Elimination::Cross => cross(givens, masks),
+        Elimination::Chains => chains(givens, masks),
+    }
+}
+
+fn apply(elimination: Elimination, board: Board) -> Eliminated
+    ensures { λ r. ⌜ Eliminates (callOf elimination) (boardOf board) r ⌝ }
+{
+    let clues = board.clues;
+    let before = board.masks;
+    let mut masks = board.masks;
+    match check(&clues, &before) {
+        Check::Refused(stop) => Eliminated {
+            answer: Progress::Refused(stop),
+            board: Board { clues, masks },
+        },
+        Check::Passed => {
+            eliminate(elimination, &givens_of(&clues), &mut masks);
+            Eliminated {
+                answer: Progress::Made(changed(before, masks)),
+                board: Board { clues, masks },
+            }
+        }
+    }
+}
+
+pub fn apply_naked_pairs(board: Board) -> Eliminated
+    ensures { λ r. ⌜ Eliminates nakedPairsCall (boardOf board) r ⌝ }
+{
+    apply(Elimination::NakedPairs, board)
+}
+
+pub fn apply_box_line_reduction(board: Board) -> Eliminated
+    ensures { λ r. ⌜ Eliminates boxLineCall (boardOf board) r ⌝ }
+{
+    apply(Elimination::BoxLine, board)
+}
+
+pub fn apply_x_wing(board: Board) -> Eliminated
+    ensures { λ r. ⌜ Eliminates xWingCall (boardOf board) r ⌝ }
+{
+    apply(Elimination::XWing, board)
+}
+
+pub fn apply_lone(board: Board) -> Eliminated
+    ensures { λ r. ⌜ Eliminates (wide Lone) (boardOf board) r ⌝ }
+{
+    apply(Elimination::Lone, board)
+}
+
+pub fn apply_place(board: Board) -> Eliminated
+    ensures { λ r. ⌜ Eliminates (wide Place) (boardOf board) r ⌝ }
+{
+    apply(Elimination::Place, board)
+}
+
+pub fn apply_pair(board: Board) -> Eliminated
+    ensures { λ r. ⌜ Eliminates (wide Pair) (boardOf board) r ⌝ }
+{
+    apply(Elimination::Pair, board)
+}
+
+pub fn apply_pointing(board: Board) -> Eliminated
+    ensures { λ r. ⌜ Eliminates (wide Pointing) (boardOf board) r ⌝ }
+{
+    apply(Elimination::Pointing, board)
+}
+
+pub fn apply_cross(board: Board) -> Eliminated
+    ensures { λ r. ⌜ Eliminates (wide Cross) (boardOf board) r ⌝ }
+{
+    apply(Elimination::Cross, board)
+}
+
+pub fn apply_alternating_inference_chains(board: Board) -> Eliminated
+    ensures { λ r. ⌜ Eliminates chainCall (boardOf board) r ⌝ }
+{
+    apply(Elimination::Chains, board)
+}

@@ -1,0 +1,39 @@
+-- The parts that Lone and Place are made of: what the loops inside them leave of the masks.
+use mathlib.Core.Bool.{cond}
+use mathlib.Core.List.{List}
+use Prim.Native.Nat.{ℕ}
+use lib.Dec.{eqb}
+use Rattle.candidates.specs.Masks.{minus, single}
+use Rattle.grid.specs.Cells.{peers}
+use Rattle.grid.specs.Units.{unit, unitCell}
+use Rattle.steps.specs.Boards.{isOpen}
+use Rattle.steps.specs.Instances.{lone, place}
+use Rattle.steps.specs.Loops.{each, upTo}
+use Rattle.steps.specs.Passes.{instanceTaken}
+use Rattle.steps.specs.Steps.{loseAt, loseAll}
+
+-- ---- Lone
+
+-- the cells of the unit but the one at this place lose the digits of k
+unfoldable pub othersLose : List ℕ → ℕ → ℕ → ℕ → List ℕ → List ℕ
+othersLose g u i k m = loseAll (isOpen g) (unit u) (λ e. cond (eqb e (unitCell u i)) 0 k) m
+
+-- the peers of the cell lose the digits of k
+unfoldable pub peersLose : List ℕ → ℕ → ℕ → List ℕ → List ℕ
+peersLose g c k m = loseAll (isOpen g) (peers c) (λ _. k) m
+
+-- the nine instances of a cell
+unfoldable pub loneCell : List ℕ → ℕ → List ℕ → List ℕ
+loneCell g c m = each (λ d. instanceTaken g (lone c d)) (upTo 9) m
+
+-- ---- Place
+
+-- one instance, where `held` are the places that hold the digit
+unfoldable pub placeTurn : List ℕ → ℕ → ℕ → ℕ → ℕ → List ℕ → List ℕ
+placeTurn g u d held i m = cond (eqb (minus held (single i)) 0) (loseAt (isOpen g) (unitCell u i) (minus 511 (single d)) m) m
+
+unfoldable pub placeDigit : List ℕ → ℕ → ℕ → List ℕ → List ℕ
+placeDigit g u d m = each (λ i. instanceTaken g (place u d i)) (upTo 9) m
+
+unfoldable pub placeUnit : List ℕ → ℕ → List ℕ → List ℕ
+placeUnit g u m = each (placeDigit g u) (upTo 9) m

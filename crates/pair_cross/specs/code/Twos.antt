@@ -1,0 +1,110 @@
+-- Pair and Cross as one search: a frame has nine lines of nine places each. Two lines that hold nothing outside two places take those from the other lines.
+use mathlib.Core.Path.{_≡_}
+use mathlib.Core.Logic.{_⊎_}
+use mathlib.Core.Bool.{Bool, true, false, cond, not, _||_}
+use mathlib.Core.List.{List, [], _∷_, map}
+use Prim.Native.Nat.{ℕ, _+_, _-_, _<_}
+use lib.Bits.{bitAnd}
+use lib.Dec.{eqb}
+use lib.ListN.{getD, set}
+use Rattle.candidates.specs.Masks.{minus, union, count, tail}
+use Rattle.grid.specs.Units.{unitCell}
+use Rattle.steps.specs.Boards.{at, isOpen}
+use Rattle.steps.specs.Instances.{both, pairStep, crossStep}
+use Rattle.steps.specs.Loops.{each, all, upTo}
+use Rattle.steps.specs.Steps.{Step, loseAll, stepTaken}
+use Rattle.cells.specs.code.Places.{unitMasks, allMasks, heldPlaces, lineSpots}
+use Rattle.cells.specs.code.Unions.{joined, sharedOf}
+use Rattle.pair_cross.specs.declared.twos.Frame.{Frame}
+use Rattle.pair_cross.specs.declared.twos.Frame.the-variants.{Unit, Lines}
+
+-- ---- two different numbers 0 to 8, the first rising and then the second
+
+abbrev pub firsts : List ℕ
+firsts =
+    0 ∷ 0 ∷ 0 ∷ 0 ∷ 0 ∷ 0 ∷ 0 ∷ 0 ∷ 1 ∷ 1 ∷ 1 ∷ 1 ∷ 1 ∷ 1 ∷ 1 ∷ 2 ∷ 2 ∷ 2 ∷ 2 ∷ 2 ∷ 2 ∷ 3 ∷ 3 ∷ 3 ∷ 3 ∷ 3 ∷ 4 ∷ 4 ∷ 4 ∷ 4 ∷ 5 ∷ 5 ∷ 5 ∷ 6 ∷ 6 ∷ 7 ∷ []
+
+abbrev pub seconds : List ℕ
+seconds =
+    1 ∷ 2 ∷ 3 ∷ 4 ∷ 5 ∷ 6 ∷ 7 ∷ 8 ∷ 2 ∷ 3 ∷ 4 ∷ 5 ∷ 6 ∷ 7 ∷ 8 ∷ 3 ∷ 4 ∷ 5 ∷ 6 ∷ 7 ∷ 8 ∷ 4 ∷ 5 ∷ 6 ∷ 7 ∷ 8 ∷ 5 ∷ 6 ∷ 7 ∷ 8 ∷ 6 ∷ 7 ∷ 8 ∷ 7 ∷ 8 ∷ 8 ∷ []
+
+unfoldable pub firstOf : ℕ → ℕ
+firstOf p = getD firsts p 0
+
+unfoldable pub secondOf : ℕ → ℕ
+secondOf p = getD seconds p 0
+
+-- ---- frames
+
+-- the first row or the first column
+abbrev pub FirstLine : ℕ → Type 0
+FirstLine f = (f ≡ 0) ⊎ (f ≡ 9)
+
+-- the frame is there: a unit of the 27; rows or columns, and a digit
+abbrev pub Framed : Frame → Type 0
+Framed (Unit u) = u < 27
+Framed (Lines f d) = FirstLine f × (d < 9)
+
+-- the step of lines i and j and places a and b
+abbrev pub frameStep : Frame → ℕ → ℕ → ℕ → ℕ → Step
+frameStep (Unit u) i j a b = pairStep u (unitCell u i) (unitCell u j) a b
+frameStep (Lines f d) i j a b = crossStep d (f + i) (f + j) (9 - f + a) (9 - f + b)
+
+-- what line i holds, clue cells too
+abbrev pub lineHeld : List ℕ → Frame → ℕ → ℕ
+lineHeld m (Unit u) i = at m (unitCell u i)
+lineHeld m (Lines f d) i = heldPlaces m (f + i) d
+
+-- what lines i and j hold of the nine places
+unfoldable pub twoHeld : List ℕ → Frame → ℕ → ℕ → ℕ
+twoHeld m F i j = bitAnd (union (lineHeld m F i) (lineHeld m F j)) 511
+
+-- ---- the same as code has it
+
+unfoldable pub heldLines : List ℕ → ℕ → ℕ → List ℕ
+heldLines m f d = map (λ i. heldPlaces m (f + i) d) (upTo 9)
+
+abbrev pub lineMasks : List ℕ → Frame → List ℕ
+lineMasks m (Unit u) = allMasks m u
+lineMasks m (Lines f d) = heldLines m f d
+
+-- and of open cells alone
+abbrev pub openLines : List ℕ → List ℕ → Frame → List ℕ
+openLines g m (Unit u) = unitMasks g m u
+openLines g m (Lines f d) = lineSpots g m f d
+
+-- what the lines but i and j hold
+unfoldable pub othersOf : List ℕ → ℕ → ℕ → ℕ
+othersOf nine i j = joined (set (set nine i 0) j 0)
+
+-- all places that the other lines can lose to two lines that hold k: any if k has one or none, those of k if it has two, else none
+unfoldable pub reachOf : ℕ → ℕ
+reachOf k = cond (eqb (count (tail k)) 0) 511 (cond (eqb (count (tail (tail k))) 0) k 0)
+
+-- a line that holds nothing, or one or two places of which another line holds one: it may make an instance lose something
+abbrev pub lively : ℕ → ℕ → Bool
+lively x both = cond (eqb (count x) 0) true (cond (eqb (count (bitAnd x both)) 0) false (eqb (count x) 1 || eqb (count x) 2))
+
+unfoldable pub quietOf : List ℕ → Bool
+quietOf nine = all (λ i. not (lively (bitAnd (at nine i) 511) (sharedOf nine))) (upTo 9)
+
+-- ---- the loops
+
+unfoldable pub twoLose : List ℕ → Frame → ℕ → ℕ → ℕ → ℕ → List ℕ → List ℕ
+twoLose g F i j a b m = let s = frameStep F i j a b in loseAll (isOpen g) (s .hits) (s .loses) m
+
+-- one instance, where `held` is what the two lines hold
+unfoldable pub twoTurn : List ℕ → Frame → ℕ → ℕ → ℕ → ℕ → ℕ → List ℕ → List ℕ
+twoTurn g F i j held a b m = cond (eqb (minus held (both a b)) 0) (twoLose g F i j a b m) m
+
+unfoldable pub linesTurned : List ℕ → Frame → ℕ → ℕ → ℕ → List ℕ → List ℕ
+linesTurned g F i j held m = each (λ q. twoTurn g F i j held (firstOf q) (secondOf q)) (upTo 36) m
+
+unfoldable pub linesTaken : List ℕ → Frame → ℕ → ℕ → List ℕ → List ℕ
+linesTaken g F i j m = each (λ q. stepTaken (isOpen g) (frameStep F i j (firstOf q) (secondOf q))) (upTo 36) m
+
+unfoldable pub frameTaken : List ℕ → Frame → List ℕ → List ℕ
+frameTaken g F m = each (λ p. linesTaken g F (firstOf p) (secondOf p)) (upTo 36) m
+
+unfoldable pub crossLines : List ℕ → ℕ → List ℕ → List ℕ
+crossLines g f m = each (λ d. frameTaken g (Lines f d)) (upTo 9) m

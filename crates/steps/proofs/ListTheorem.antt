@@ -1,0 +1,49 @@
+-- Demand 3 over `run` and `settle` alone; what the buyer is promised, of what the calls hand back, is calls/specs/Demand3. Lists.antt shows this.
+use mathlib.Core.Path.{_≡_}
+use mathlib.Core.Logic.{_≢_, _↔_}
+use mathlib.Core.Bool.{true}
+use mathlib.Core.List.{List}
+use Prim.Native.Nat.{ℕ, _+_, _-_, _≤_, _<_}
+use lib.IntN.{ℤ}
+use lib.ListN.{length}
+use Rattle.stops.specs.Answer.{gives}
+use Rattle.grid.specs.Fillings.{verified}
+use Rattle.steps.specs.Boards.{Board, givensOf, Under, total}
+use Rattle.steps.specs.Calls.{Call, Clues, withoutChain, checkOf, Admitted, opened, run}
+use Rattle.steps.specs.Fillings.{KeepsClues, InMasks}
+use Rattle.steps.specs.Passes.{Settled, sweep, swept, settle, removedBy}
+
+abbrev pub BoardSettled : Board → Type 0
+BoardSettled b = Settled (givensOf (b .clues)) (b .masks)
+
+-- The boards after two lists of calls, each run from the fresh board of the clues.
+pub record ListEnds (clues : List ℤ) (ks ls : List Call) : Type 0 where
+  -- "Where the board after the first list is settled, it equals the board after the second exactly when that one is settled too."
+  pub one : BoardSettled (run ks (opened clues)) → (run ks (opened clues) ≡ run ls (opened clues)) ↔ BoardSettled (run ls (opened clues))
+  -- "For every such list and every filled grid that the verifier passes, that grid takes each cell's digit from that cell's mask on the final board exactly when it keeps every clue."
+  pub fillings : (f : List ℤ) → length f ≡ 81 → verified f ≡ true → InMasks (run ks (opened clues) .masks) f ↔ KeepsClues clues f
+
+-- Settling from the masks m, under the givens g.
+pub record SettlingEnds (g m : List ℕ) : Type 0 where
+  -- "ends on a settled one"
+  pub ends : Settled g (settle g m .left)
+  -- the greatest: every settled assignment below m is below what settling leaves
+  pub greatest : (z : List ℕ) → Settled g z → Under z m → Under z (settle g m .left)
+  pub below : Under (settle g m .left) m
+  -- "candidates left plus removed equal those before the call"
+  pub counted : total (settle g m .left) + removedBy m (settle g m .left) ≡ total m
+  -- "the sweeps are at most the removed plus one", and "at most 730"
+  pub bound : settle g m .sweeps ≤ removedBy m (settle g m .left) + 1
+  pub most : settle g m .sweeps ≤ 730
+  -- "sweep until one removes nothing", "that last one counted": every sweep before the last changes the masks, the last one does not, and the masks are those after the sweeps before it
+  pub some : 1 ≤ settle g m .sweeps
+  pub goes : (j : ℕ) → j < settle g m .sweeps - 1 → sweep g (swept g j m) ≢ swept g j m
+  pub stops : sweep g (swept g (settle g m .sweeps - 1) m) ≡ swept g (settle g m .sweeps - 1) m
+  pub final : settle g m .left ≡ swept g (settle g m .sweeps - 1) m
+
+-- Of every list, of every two lists without the chain pass, and of settling on every board that no listed stop refuses.
+pub record ListTheorem : Type 0 where
+  -- "on these boards stops 3 and 9 never occur": after any list, the chain pass too, the next call is not refused
+  pub taken : (clues : List ℤ) → Clues clues → (ks : List Call) → checkOf (run ks (opened clues)) ≡ gives tt
+  pub lists : (clues : List ℤ) → Clues clues → (ks ls : List Call) → withoutChain ks ≡ true → withoutChain ls ≡ true → ListEnds clues ks ls
+  pub settling : (b : Board) → Admitted b → SettlingEnds (givensOf (b .clues)) (b .masks)

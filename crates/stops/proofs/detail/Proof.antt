@@ -1,0 +1,110 @@
+-- Each arm hands on what its case holds; a caller's digit or cell fits an `i64`.
+use mathlib.Core.Path.{_≡_, sym, ap, _∙_, refl}
+use native.Mathlib.Omega.{arith}
+use lib.IntN.{ℤ}
+use mir.Facts.{toZ-ofZ, toZ-pos}
+use mir.Syntax.{w32, w64}
+use mir.Val.{toZ, ofZ}
+use borrow.Author.Needs.{needs}
+use Rattle.stops.specs.Stops.{rowOf}
+use Rattle.stops.specs.declared.Stop.{Stop}
+use Rattle.stops.proofs.Numbers.{widens, widened, small}
+use Rattle.stops.proofs.detail.Statement.{statement}
+use Rattle.stops.proofs.detail.Tie as tie
+
+-- the arm of the case t, which holds z
+beside : {s t : Stop} {y z : ℤ} → s ≡ t → y ≡ z → rowOf t .detail ≡ z → y ≡ rowOf s .detail
+beside is back row = back ∙ sym row ∙ sym (ap (λ (s : Stop). rowOf s .detail) is)
+
+enum-known-stop : tie.Need-enum-known-stop
+enum-known-stop c = search needs
+
+enum-known-stop-2 : tie.Need-enum-known-stop-2
+enum-known-stop-2 c = search needs
+
+enum-known-stop-3 : tie.Need-enum-known-stop-3
+enum-known-stop-3 c = search needs
+
+enum-known-stop-4 : tie.Need-enum-known-stop-4
+enum-known-stop-4 c = search needs
+
+cast-result : tie.Need-cast-result
+cast-result c = widens {z = c .before .stop4 .given .0 .0} (record { sfits = c .known-told4 .given .0 .1 })
+
+enum-known-stop-5 : tie.Need-enum-known-stop-5
+enum-known-stop-5 c = search needs
+
+cast-result-2 : tie.Need-cast-result-2
+cast-result-2 c = search needs
+
+enum-known-stop-6 : tie.Need-enum-known-stop-6
+enum-known-stop-6 c = search needs
+
+enum-known-stop-7 : tie.Need-enum-known-stop-7
+enum-known-stop-7 c = search needs
+
+enum-known-stop-8 : tie.Need-enum-known-stop-8
+enum-known-stop-8 c = search needs
+
+enum-known-stop-9 : tie.Need-enum-known-stop-9
+enum-known-stop-9 c = search needs
+
+enum-known-stop-10 : tie.Need-enum-known-stop-10
+enum-known-stop-10 c = search needs
+
+returns : tie.Need-returns
+returns c = beside (c .before .stop .given .1) (search needs) refl
+
+returns-2 : tie.Need-returns-2
+returns-2 c = beside (c .before .stop2 .given .1) (search needs) refl
+
+returns-3 : tie.Need-returns-3
+returns-3 c = beside (c .before .stop3 .given .1) (search needs) refl
+
+returns-4 : tie.Need-returns-4
+returns-4 c = beside (c .before .stop4 .given .1) (widened (record { sfits = c .known-told4 .given .0 .1 })) refl
+
+returns-5 : tie.Need-returns-5
+returns-5 c = beside (c .before .stop5 .given .1) (small (omega (arith, c .known-told5 .given .0 .1))) refl
+
+returns-6 : tie.Need-returns-6
+returns-6 c = beside (c .before .stop6 .given .1) (search needs) refl
+
+returns-7 : tie.Need-returns-7
+returns-7 c = beside (c .before .stop7 .given .1) (search needs) refl
+
+returns-8 : tie.Need-returns-8
+returns-8 c = beside (c .before .stop8 .given .1) (search needs) refl
+
+returns-9 : tie.Need-returns-9
+returns-9 c = beside (c .before .stop9 .given .1) (search needs) refl
+
+returns-10 : tie.Need-returns-10
+returns-10 c = beside (c .before .stop10 .given .1) (search needs) refl
+
+pub detail-spec : {M : Type 1} → statement M
+detail-spec =
+    tie.close
+    (tie.spec
+    enum-known-stop
+    enum-known-stop-2
+    enum-known-stop-3
+    enum-known-stop-4
+    cast-result
+    enum-known-stop-5
+    cast-result-2
+    enum-known-stop-6
+    enum-known-stop-7
+    enum-known-stop-8
+    enum-known-stop-9
+    enum-known-stop-10
+    returns
+    returns-2
+    returns-3
+    returns-4
+    returns-5
+    returns-6
+    returns-7
+    returns-8
+    returns-9
+    returns-10)

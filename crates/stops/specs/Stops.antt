@@ -1,0 +1,25 @@
+-- The paper's table "Stops, place by place". A stop is a refusal: its number, and one number beside it.
+use Prim.Native.Nat.{ℕ}
+use lib.IntN.{ℤ, pos}
+use Rattle.stops.specs.declared.Stop.{Stop}
+use Rattle.stops.specs.declared.Stop.the-variants.{TextLength, OtherByte, BadClue, BadDigit, NoCell, TooFewBytes, RecordBytes, RecordEntry, NotFresh, BadMask}
+
+pub record Row : Type 0 where
+  pub number : ℕ
+  pub detail : ℤ
+
+abbrev row : ℕ → ℤ → Row
+row n z = record { number = n; detail = z }
+
+-- "No." and "Beside it" of each row
+abbrev pub rowOf : Stop → Row
+rowOf (TextLength z) = row 1 z
+rowOf (OtherByte z) = row 2 z
+rowOf (BadClue z) = row 3 z
+rowOf (BadDigit z) = row 4 z
+rowOf (NoCell n) = row 5 (pos n)
+rowOf (TooFewBytes z) = row 6 z
+rowOf (RecordBytes z) = row 7 z
+rowOf (RecordEntry z) = row 8 z
+rowOf (NotFresh z) = row 9 z
+rowOf (BadMask z) = row 9 z

@@ -1,0 +1,102 @@
+// The stops (refusals) of the paper's table, one enum for all calls: "A refusal hands back only number and detail".
+ghost use mathlib.Core.Path.{_≡_};
+ghost use Rattle.stops.specs.Answer.{checkAnswer, passing, then, writingAnswer};
+ghost use Rattle.stops.specs.Stops.{rowOf};
+
+// A place or a length stands beside its stop as an `i64`, the type that `detail` answers in; a caller's own digit or cell as it was handed in.
+pub enum Stop {
+    // A text's length, which is not 81.
+    TextLength(i64),
+    // The index of the first byte of a text that is no cell.
+    OtherByte(i64),
+    // The first cell whose clue is outside 0 to 9.
+    BadClue(i64),
+    // A digit outside 1 to 9.
+    BadDigit(i32),
+    // A cell above 80.
+    NoCell(u32),
+    // The length of lent bytes that are too few.
+    TooFewBytes(i64),
+    // Where a record's bytes are missing, or left over.
+    RecordBytes(i64),
+    // The offset of a record's entry that names no candidate, or does not rise.
+    RecordEntry(i64),
+    // The offset of the removal of a candidate that is not fresh, or from a clue cell.
+    NotFresh(i64),
+    // The first cell whose mask holds what the fresh one lacks, or is a clue cell's and not its digit.
+    BadMask(i64),
+}
+
+// What a call answers whose value stands beside the answer.
+pub enum Check {
+    Passed,
+    Refused(Stop),
+}
+
+// What a writer answers: how many bytes it wrote.
+pub enum Writing {
+    Written(usize),
+    Refused(Stop),
+}
+
+// What a call answers that may make progress: whether it did.
+pub enum Progress {
+    Made(bool),
+    Refused(Stop),
+}
+
+// The paper's number of a stop.
+pub fn number(stop: Stop) -> u8
+    ensures { λ r. ⌜ r ≡ rowOf stop .number ⌝ }
+{
+    match stop {
+        Stop::TextLength(_) => 1,
+        Stop::OtherByte(_) => 2,
+        Stop::BadClue(_) => 3,
+        Stop::BadDigit(_) => 4,
+        Stop::NoCell(_) => 5,
+        Stop::TooFewBytes(_) => 6,
+        Stop::RecordBytes(_) => 7,
+        Stop::RecordEntry(_) => 8,
+        Stop::NotFresh(_) => 9,
+        Stop::BadMask(_) => 9,
+    }
+}
+
+// What stands beside a stop.
+pub fn detail(stop: Stop) -> i64
+    ensures { λ r. ⌜ r ≡ rowOf stop .detail ⌝ }
+{
+    match stop {
+        Stop::TextLength(length) => length,
+        Stop::OtherByte(index) => index,
+        Stop::BadClue(cell) => cell,
+        Stop::BadDigit(digit) => digit as i64,
+        Stop::NoCell(cell) => cell as i64,
+        Stop::TooFewBytes(length) => length,
+        Stop::RecordBytes(place) => place,
+        Stop::RecordEntry(offset) => offset,
+        Stop::NotFresh(offset) => offset,
+        Stop::BadMask(cell) => cell,
+    }
+}
+
+// One check after the other: the first refusal stands.
+pub fn then(first: Check, second: Check) -> Check
+    ensures { λ r. ⌜ checkAnswer r ≡ then (checkAnswer first) (λ _. checkAnswer second) ⌝ }
+{
+    match first {
+        Check::Refused(stop) => Check::Refused(stop),
+        Check::Passed => second,
+    }
+}
+
+// What a writer answers that is checked first.
+pub fn written(check: Check, count: usize) -> Writing
+    ensures { λ r. ⌜ writingAnswer r ≡ passing (checkAnswer check) count ⌝ }
+{
+    match check {
+        Check::Refused(stop) => Writing::Refused(stop),
+        Check::Passed => Writing::Written(count),
+    }
+}

@@ -1,0 +1,20 @@
+-- Box-line by places of a box, as the code goes about it; `proofs/BoxLines.antt` shows that it is the box-line of module 4.
+use mathlib.Core.Bool.{cond}
+use mathlib.Core.List.{List}
+use Prim.Native.Nat.{ℕ, _+_}
+use lib.Dec.{eqb}
+use Rattle.candidates.specs.Masks.{count, tail}
+use Rattle.steps.specs.Loops.{each, upTo}
+use Rattle.cells.specs.code.Places.{unitMasks, spotsIn}
+use Rattle.cells.specs.code.Lines.{lineTurns}
+
+-- fewer than two places are no box-line
+unfoldable pub digitLines : List ℕ → ℕ → ℕ → ℕ → List ℕ → List ℕ
+digitLines g b d s m = cond (eqb (count (tail s)) 0) m (lineTurns g b d s m)
+
+unfoldable pub blockLines : List ℕ → ℕ → List ℕ → List ℕ → List ℕ
+blockLines g b nine m = each (λ d. digitLines g b d (spotsIn nine d)) (upTo 9) m
+
+-- the box's masks are read once, before its lines lose anything
+unfoldable pub blockTurn : List ℕ → ℕ → List ℕ → List ℕ
+blockTurn g b m = blockLines g b (unitMasks g m (18 + b)) m

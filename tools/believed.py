@@ -1,0 +1,101 @@
+#!/usr/bin/env python3
+"""The files that a reader must believe, in reading order, with their lines of definitions: the table of docs/PROOFS.md.
+
+    python3 tools/believed.py          prints the table
+    python3 tools/believed.py --check  fails where docs/PROOFS.md has another one, or a file of specs/ is not in the list
+
+A line of definitions is no import, no comment and not blank. Files of specs/code/ need no belief and are left out.
+"""
+import os
+import re
+import sys
+
+ORDER = [
+    ("stops/specs/Stops", "the paper's table of stops"),
+    ("stops/specs/Answer", "answers: a value or a stop, and one call after the other"),
+    ("candidates/specs/Masks", "masks of digits"),
+    ("candidates/specs/Sets", "module 1: what each call of the set answers"),
+    ("grid/specs/Lists", "lists in their order"),
+    ("grid/specs/Cells", "cells, and who sees whom"),
+    ("grid/specs/Units", "the unit table and its rule"),
+    ("grid/specs/Fillings", "correct fillings and the verifier"),
+    ("steps/specs/Loops", "ranges, first finds"),
+    ("steps/specs/Boards", "boards, givens, fresh masks"),
+    ("steps/specs/Steps", "a step: a condition and an effect"),
+    ("steps/specs/Instances", "module 8: the instances and their steps"),
+    ("steps/specs/Passes", "module 8 and 9: passes, sweeps, settling, settled"),
+    ("steps/specs/Ported", "modules 3 to 5: naked pairs, box-line, X-wing"),
+    ("steps/specs/Singles", "module 6: singles and their reports"),
+    ("steps/specs/Chains", "module 11: the chain pass"),
+    ("steps/specs/Calls", "the check of a board, what each call answers, lists of calls"),
+    ("steps/specs/Fillings", "how a filled grid stands to a board"),
+    ("steps/specs/Published", "the published descriptions of the ported steps"),
+    ("steps/specs/Demand2", "demand 2: the ported calls are these"),
+    ("steps/specs/Wide", "module 8 in plain words, and the promise that the steps are these"),
+    ("steps/specs/SinglesHold", "beyond the demands: what a reported single means"),
+    ("board/specs/Answers", "what the board's enums answer"),
+    ("board/specs/Boards", "opener, accessors, verdict"),
+    ("text/specs/Texts", "module 12: texts"),
+    ("record/specs/Sections", "module 14: the sections of a record"),
+    ("record/specs/Records", "module 14: the record of a board"),
+    ("record/specs/Laws", "the promise on records"),
+    ("techniques/specs/Reports", "the value that reports stand in"),
+    ("techniques/specs/Techniques", "what the calls that report hand back"),
+    ("eliminations/specs/Eliminations", "what the calls that remove candidates hand back"),
+    ("passes/specs/Settlings", "what settling hands back"),
+    ("chains/specs/Costly", "that the chain pass can cost a filling"),
+    ("calls/specs/StepNumbers", "the calls by number, and what a step hands back"),
+    ("calls/specs/Replays", "lists of step numbers"),
+    ("calls/specs/Demand3", "demand 3, of what the calls hand back"),
+    ("card/specs/Decimals", "numbers in decimal"),
+    ("card/specs/Layout", "lines, and bytes over lent ones"),
+    ("card/specs/Cards", "module 15: the card"),
+    ("cases/specs/Grids", "the paper's grids"),
+    ("cases/specs/Bytes", "the bytes that it prints"),
+    ("cases/specs/Cases", "P1 to P11"),
+    ("host/specs/Codes", "answers as numbers"),
+    ("host/specs/Sets", "the exports of the set"),
+    ("host/specs/Boards", "the exports of the board"),
+    ("host/specs/Steps", "the exports of steps and lists"),
+    ("host/specs/Texts", "the exports of texts and cards"),
+    ("host/specs/Records", "the exports of records"),
+]
+PASSED_OVER = re.compile(r"\s*($|--|use |pub use |unfoldable pub use |pub mod |mod )")
+
+
+def lines(path):
+    with open(path, encoding="utf8") as spec:
+        return sum(1 for line in spec if not PASSED_OVER.match(line))
+
+
+def main():
+    root = os.path.dirname(os.path.dirname(os.path.abspath(__file__)))
+    os.chdir(root)
+    believed, code = set(), 0
+    for folder, _, files in os.walk("crates"):
+        for name in files:
+            path = os.path.join(folder, name)
+            parts = path.split(os.sep)
+            if name.endswith(".antt") and len(parts) > 3 and parts[2] == "specs":
+                if parts[3] in ("code", "code.antt"):
+                    code += lines(path)
+                elif lines(path):
+                    believed.add("/".join(parts[1:])[: -len(".antt")])
+    listed = [file for file, _ in ORDER]
+    for file in sorted(believed.symmetric_difference(listed)):
+        sys.exit(f"{file} is {'not in the list of this script' if file in believed else 'no file of definitions'}")
+    rows = ["| file | what it is for | lines |", "|---|---|---|"]
+    counts = [lines(f"crates/{file}.antt") for file in listed]
+    rows += [f"| {file} | {what} | {n} |" for (file, what), n in zip(ORDER, counts)]
+    rows.append(f"| in all | | {sum(counts):,} |")
+    table = "\n".join(rows)
+    if sys.argv[1:] == ["--check"]:
+        with open("docs/PROOFS.md", encoding="utf8") as page:
+            if table not in page.read():
+                sys.exit("docs/PROOFS.md has another table: tools/believed.py prints it")
+    else:
+        print(table)
+        print(f"specs/code: {code} lines", file=sys.stderr)
+
+
+main()
