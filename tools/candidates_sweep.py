@@ -1,6 +1,6 @@
 #!/usr/bin/env python3
 """What the program candidates_sweep must print: every call of the candidate set, and of the masks and digits beneath it, on all
-65,536 masks. Made from the paper's words (module 1, stop 4) and sets of digits; it knows nothing of the program.
+65,536 masks. Made from the paper's words (module 1, stop 4; document 02, F-1) and sets of digits; it knows nothing of the program.
 
     python3 tools/candidates_sweep.py > crates/candidates_sweep/stdout
 
@@ -13,7 +13,7 @@ The checksum folds the answers on all masks, rising. An answer's number is
     contains              present 1, absent 0; a digit refused: 2 more than the digit's number
     insert                65,536 times the answer, and the mask; done 0, a digit refused: 1 more than the digit's number
     remove                likewise; was there 1, was not 0, a digit refused: 2 more than the digit's number
-    single_candidate      1 more than the digit's number; none: 0
+    single_candidate      1 more than the digit's number; empty 0, several 1
     iter                  the fold of its digits
 """
 
@@ -77,7 +77,7 @@ def remove(digit):
 
 
 def single_candidate(held):
-    return of_digit(held[0]) + 1 if len(held) == 1 else 0
+    return of_digit(held[0]) + 1 if len(held) == 1 else int(len(held) > 1)
 
 
 # Places: digit d stands at place d - 1. A mask in code has the 16 places 0 to 15.

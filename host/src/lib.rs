@@ -86,6 +86,26 @@ pub fn set(call: SetCall, mask: u16, digit: i32) -> SetAnswer {
     SetAnswer { answer, mask: left as u16 }
 }
 
+/// What `single_candidate` says of a set.
+#[derive(Clone, Copy, Debug, PartialEq, Eq)]
+pub enum SingleCandidate {
+    Digit(i32),
+    Empty,
+    Several,
+}
+
+pub fn single_candidate(mask: u16) -> SingleCandidate {
+    let mut answer = [0; 4];
+    // SAFETY: the export writes the four numbers and nothing else.
+    unsafe { sudoku_set(SetCall::SingleCandidate as u8, mask, 0, &mut answer) };
+    match answer {
+        [0, 0, 0, _] => SingleCandidate::Empty,
+        [0, 1, digit, _] => SingleCandidate::Digit(digit as i32),
+        [0, 2, 0, _] => SingleCandidate::Several,
+        other => unreachable!("single_candidate of mask {mask} answered {other:?}"),
+    }
+}
+
 /// The digits of a mask, rising, one `next` after the other.
 pub fn digits(mask: u16) -> Vec<i32> {
     let mut found = Vec::new();

@@ -3,7 +3,7 @@
 
 use std::sync::LazyLock;
 
-use crate::{Clues, Masks, Stop};
+use crate::{Clues, Masks, SingleCandidate, Stop};
 
 const CELLS: usize = 81;
 
@@ -61,6 +61,16 @@ pub fn see(a: usize, b: usize) -> bool {
 
 fn peers(cell: usize) -> impl Iterator<Item = usize> {
     PEERS[cell].iter().copied()
+}
+
+/// "It shall say the digit, or empty, or several." (document 02, F-1)
+pub fn single_candidate(mask: u16) -> SingleCandidate {
+    let held: Vec<i32> = (1..=9).filter(|&digit| mask & bit(digit) != 0).collect();
+    match held[..] {
+        [] => SingleCandidate::Empty,
+        [digit] => SingleCandidate::Digit(digit),
+        _ => SingleCandidate::Several,
+    }
 }
 
 fn candidates(masks: &Masks) -> usize {

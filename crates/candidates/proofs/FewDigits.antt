@@ -8,24 +8,14 @@ use native.Mathlib.Omega.{arith}
 use borrow.Author.Tests.{eq-eqb}
 use lib.Arith.{lt-of-le-ne}
 use Rattle.candidates.specs.Masks.{bit, has, minus, union, count, single, firstPlace, lowest, tail}
+pub use Rattle.candidates.specs.Masks.{One, More}
 use Rattle.candidates.proofs.Counts.{count-minus, count-zero, count-some, count-power, sub-and, lowest-le, bit-lowest, count-tail}
 use Rattle.candidates.proofs.Held.{Held, held-ext, none-held, held-power, held-minus, held-union, held-both, power-sub}
-
--- d and no other
-pub record One (x d : ℕ) : Type 0 where
-  pub held : Held x d
-  pub alone : (e : ℕ) → Held x e → e ≡ d
 
 -- a and b and no others
 pub record Two (x a b : ℕ) : Type 0 where
   pub apart : a ≢ b
   pub held : (d : ℕ) → Held x d ↔ ((d ≡ a) ⊎ (d ≡ b))
-
--- a and b, and it may be others
-pub record More (x a b : ℕ) : Type 0 where
-  pub apart : a ≢ b
-  pub held₁ : Held x a
-  pub held₂ : Held x b
 
 -- ---- a digit taken out
 

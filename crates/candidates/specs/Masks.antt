@@ -1,6 +1,8 @@
 -- Masks: sets of digits as numbers. "A mask has 9 bits; bit d - 1 is digit d; 511 is all."
 -- A digit is spoken of by its place, digit d by place d - 1, here and in every definition above this one.
-use mathlib.Core.Bool.{Bool, cond}
+use mathlib.Core.Path.{_≡_}
+use mathlib.Core.Logic.{_≢_}
+use mathlib.Core.Bool.{Bool, true, cond}
 use Prim.Native.Nat.{ℕ, zero, suc, _+_, _-_, _/_, _%_, _^_, _≤_}
 use lib.Bits.{bitAnd, bitOr}
 use lib.Count.{ones}
@@ -16,6 +18,17 @@ has x d = eqb (bit x d) 1
 -- every digit of x is one of y
 pub record Sub (x y : ℕ) : Type 0 where
   pub at : (d : ℕ) → bit x d ≤ bit y d
+
+-- d and no other digit
+pub record One (x d : ℕ) : Type 0 where
+  pub held : has x d ≡ true
+  pub alone : (e : ℕ) → has x e ≡ true → e ≡ d
+
+-- a and b, and it may be others
+pub record More (x a b : ℕ) : Type 0 where
+  pub apart : a ≢ b
+  pub held₁ : has x a ≡ true
+  pub held₂ : has x b ≡ true
 
 -- "Higher bits in a set that a caller made are dropped first"
 abbrev pub lowNine : ℕ → ℕ

@@ -1,4 +1,6 @@
 -- The candidate set (module 1): what each call answers, from the digits of the set.
+use mathlib.Core.Path.{_≡_}
+use mathlib.Core.Logic.{_↔_}
 use mathlib.Core.Bool.{Bool, true, false, cond}
 use mathlib.Core.List.{List, [], _∷_}
 use mathlib.Core.Option.{Option, none, some}
@@ -7,7 +9,7 @@ use lib.Dec.{eqb, ltb}
 use lib.IntN.{ℤ, pos, negsuc}
 use Rattle.stops.specs.Answer.{Answer, gives, stop}
 use Rattle.stops.specs.declared.Stop.the-variants.{BadDigit}
-use Rattle.candidates.specs.Masks.{lowNine, has, minus, union, count, single, firstPlace, lowest}
+use Rattle.candidates.specs.Masks.{lowNine, has, minus, union, count, single, firstPlace, lowest, One, More}
 use Rattle.candidates.specs.declared.SingleCandidate.{SingleCandidate}
 use Rattle.candidates.specs.declared.SingleCandidate.the-variants as only
 use Rattle.candidates.specs.declared.NextCandidate.{NextCandidate}
@@ -42,9 +44,11 @@ presenceAnswer presence.Present = gives true
 presenceAnswer presence.Absent = gives false
 presenceAnswer (presence.Refused s) = stop s
 
+-- a digit or none, which is what 01 says: "empty and several both count as none"
 abbrev pub onlyAnswer : SingleCandidate → Option ℤ
 onlyAnswer (only.Digit z) = some z
-onlyAnswer only.Nothing = none
+onlyAnswer only.Empty = none
+onlyAnswer only.Several = none
 
 -- its digit, 0 for none
 abbrev pub digitOr0 : Option ℤ → ℤ
@@ -73,9 +77,15 @@ inserted m z = whereDigit z (union (lowNine m) (single (place z))) m
 abbrev pub removed : ℕ → ℤ → ℕ
 removed m z = whereDigit z (minus (lowNine m) (single (place z))) m
 
+-- `single_candidate`: "It shall say the digit, or empty, or several." (document 02, F-1)
+abbrev pub singleCandidateOf : ℕ → SingleCandidate
+singleCandidateOf m =
+    cond (eqb (count (lowNine m)) 0) only.Empty
+    (cond (eqb (count (lowNine m)) 1) (only.Digit (pos (lowest (lowNine m) + 1))) only.Several)
+
 -- "none unless one digit"
 abbrev pub onlyOf : ℕ → Option ℤ
-onlyOf m = cond (eqb (count (lowNine m)) 1) (some (pos (lowest (lowNine m) + 1))) none
+onlyOf m = onlyAnswer (singleCandidateOf m)
 
 -- "rising": the first digit at place p or above, and the iterator past it
 abbrev pub nextAt : ℕ → ℕ → Option (ℤ × ℕ × ℕ)
@@ -97,3 +107,13 @@ after more (some found) = found .0 ∷ more (found .1) (found .2)
 unfoldable pub drained : ℕ → ℕ → ℕ → List ℤ
 drained zero m p = []
 drained (suc n) m p = after (drained n) (nextOf m p)
+
+-- ---- what `single_candidate` says of the set
+
+pub record SingleCandidateSays (m : ℕ) : Type 0 where
+  -- d is the set's one digit
+  pub digit : (d : ℕ) → (singleCandidateOf m ≡ only.Digit (pos (suc d))) ↔ One (lowNine m) d
+  -- it holds no digit
+  pub empty : (singleCandidateOf m ≡ only.Empty) ↔ ((d : ℕ) → has (lowNine m) d ≡ false)
+  -- it holds two different ones, and it may be more
+  pub several : (singleCandidateOf m ≡ only.Several) ↔ ((a : ℕ) × (b : ℕ) × More (lowNine m) a b)

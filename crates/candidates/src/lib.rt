@@ -4,8 +4,8 @@ ghost use mathlib.Core.Path.{_≡_};
 ghost use lib.Dec.{eqb};
 ghost use Rattle.candidates.specs.Masks.{lowNine, count};
 ghost use Rattle.stops.specs.Answer.{checkAnswer};
-ghost use Rattle.candidates.specs.Sets.{newAnswer, presenceAnswer, onlyAnswer, nextAnswer};
-ghost use Rattle.candidates.specs.Sets.{singleOf, containsOf, insertOf, inserted, removed, onlyOf, nextOf};
+ghost use Rattle.candidates.specs.Sets.{newAnswer, presenceAnswer, nextAnswer};
+ghost use Rattle.candidates.specs.Sets.{singleOf, containsOf, insertOf, inserted, removed, singleCandidateOf, nextOf};
 use stops::Check;
 use stops::Stop;
 
@@ -34,7 +34,8 @@ pub enum Presence {
 // What `single_candidate` answers.
 pub enum SingleCandidate {
     Digit(i32),
-    Nothing,
+    Empty,
+    Several,
 }
 
 // The digits of `mask` at place `current` and above.
@@ -96,15 +97,18 @@ impl SudokuCandidateSet {
         masks::is_none(self.mask % 512)
     }
 
-    // The digit of a set that holds just one.
+    // The digit of a set that holds just one; else whether it holds none or several.
     pub fn single_candidate(self) -> SingleCandidate
-        ensures { λ r. ⌜ onlyAnswer r ≡ onlyOf (self .mask) ⌝ }
+        ensures { λ r. ⌜ r ≡ singleCandidateOf (self .mask) ⌝ }
     {
         let mask = self.mask % 512;
+        if masks::is_none(mask) {
+            return SingleCandidate::Empty;
+        }
         if masks::is_one(mask) {
             return SingleCandidate::Digit(digits::digit_at(masks::lowest_digit(mask)));
         }
-        SingleCandidate::Nothing
+        SingleCandidate::Several
     }
 
     pub fn iter(self) -> SudokuCandidateIter

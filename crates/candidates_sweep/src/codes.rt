@@ -73,10 +73,11 @@ pub fn of_presence(presence: Presence) -> u64
     }
 }
 
-// None 0; 1 more than the digit's code.
+// Empty 0, several 1; 1 more than the digit's code.
 pub fn of_single(single: SingleCandidate) -> u64 {
     match single {
-        SingleCandidate::Nothing => 0,
+        SingleCandidate::Empty => 0,
+        SingleCandidate::Several => 1,
         SingleCandidate::Digit(digit) => of_digit(digit) + 1,
     }
 }

@@ -73,14 +73,11 @@ pub fn push_signed(lines: Lines, z: i64) -> Lines
 fn cell_byte(mask: u16) -> u8
     ensures { λ r. ⌜ r ≡ cellByte mask ⌝ }
 {
-    let set = SudokuCandidateSet { mask: mask };
-    if set.is_empty() {
-        return b'!';
+    match (SudokuCandidateSet { mask }).single_candidate() {
+        SingleCandidate::Digit(digit) => b'0' + digit as u8,
+        SingleCandidate::Empty => b'!',
+        SingleCandidate::Several => b'.',
     }
-    let SingleCandidate::Digit(digit) = set.single_candidate() else {
-        return b'.';
-    };
-    b'0' + digit as u8
 }
 
 // The cells of a grid, rising.

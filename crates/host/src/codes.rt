@@ -4,9 +4,9 @@ ghost use lib.IntN.{pos};
 ghost use mir.Syntax.{w64};
 ghost use mir.Val.{SFits};
 ghost use Rattle.stops.specs.Answer.{checkAnswer, map, passing, writingAnswer};
-ghost use Rattle.candidates.specs.Sets.{newAnswer, presenceAnswer, onlyAnswer, digitOr0};
+ghost use Rattle.candidates.specs.Sets.{newAnswer, presenceAnswer};
 ghost use Rattle.host.specs.Codes.{four, given, refused, coded, testNumber, unknown};
-ghost use Rattle.host.specs.Sets.{newSet};
+ghost use Rattle.host.specs.Sets.{newSet, singleCode};
 ghost use Rattle.host.specs.code.Fitting.{Fitting};
 use candidates::NewSet;
 use candidates::Presence;
@@ -102,18 +102,20 @@ pub fn of_presence(presence: Presence, mask: u16) -> [i64; 4]
     }
 }
 
-pub fn of_only(only: SingleCandidate) -> i64
-    ensures { λ r. ⌜ r ≡ digitOr0 (onlyAnswer only) ⌝ }
+// A digit, or 0 where there is none, and a number beside it.
+pub fn of_digit(digit: i32, beside: u8, mask: u16) -> [i64; 4]
+    ensures { λ r. ⌜ r ≡ four (pos 0) (pos beside) digit (pos mask) ⌝ }
 {
-    match only {
-        SingleCandidate::Digit(digit) => widened(digit),
-        SingleCandidate::Nothing => 0,
-    }
+    [0, beside as i64, widened(digit), mask as i64]
 }
 
-// An iterator's step: the digit, or 0 where it is done, and the iterator after it.
-pub fn of_step(digit: i32, place: u8, mask: u16) -> [i64; 4]
-    ensures { λ r. ⌜ r ≡ four (pos 0) (pos place) digit (pos mask) ⌝ }
+// The value is 0 for empty and for several, which the number beside it tells apart.
+pub fn of_single(single: SingleCandidate, mask: u16) -> [i64; 4]
+    ensures { λ r. ⌜ r ≡ singleCode single mask ⌝ }
 {
-    [0, place as i64, widened(digit), mask as i64]
+    match single {
+        SingleCandidate::Digit(digit) => of_digit(digit, 1, mask),
+        SingleCandidate::Empty => of_digit(0, 0, mask),
+        SingleCandidate::Several => of_digit(0, 2, mask),
+    }
 }

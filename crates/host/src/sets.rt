@@ -40,7 +40,7 @@ pub fn set_call(call: u8, mask: u16, digit: i32) -> [i64; 4]
         6 => codes::of_given(0, lent::clear(mask)),
         7 => codes::of_given(set.len() as i64, mask),
         8 => codes::of_given(codes::of_test(set.is_empty()), mask),
-        9 => codes::of_given(codes::of_only(set.single_candidate()), mask),
+        9 => codes::of_single(set.single_candidate(), mask),
         10 => codes::of_given(0, set.iter().mask),
         _ => codes::of_unknown(call),
     }
@@ -55,7 +55,7 @@ pub fn next_call(mask: u16, place: u8) -> [i64; 4]
     };
     let found = iter.next();
     match found {
-        NextCandidate::Digit(digit, rest) => codes::of_step(digit, rest.current, rest.mask),
-        NextCandidate::Done => codes::of_step(0, place, mask),
+        NextCandidate::Digit(digit, rest) => codes::of_digit(digit, rest.current, rest.mask),
+        NextCandidate::Done => codes::of_digit(0, place, mask),
     }
 }

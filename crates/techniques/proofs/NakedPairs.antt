@@ -1,6 +1,6 @@
 -- Naked pairs by places: what a turn does, and that the turns are those of module 3. Assumes nothing.
 use mathlib.Core.Path.{_≡_, refl, sym, ap, _∙_}
-use mathlib.Core.Bool.{Bool, true, false, cond, not, _&&_}
+use mathlib.Core.Bool.{Bool, true, false, cond, not, _&&_, and-comm, and-false}
 use mathlib.Core.List.{List, List·Memᴰ}
 use Prim.Native.Nat.{ℕ, _+_, _-_, _≤_, _<_}
 use native.Mathlib.Omega.{arith}
@@ -23,16 +23,6 @@ use Rattle.cells.proofs.UnitPlaces.{two-spared}
 use Rattle.techniques.specs.code.NakedPairs.{isPair, noTwin, pairAt, unitPairs}
 
 -- ---- tests
-
-and-false : (s : Bool) → (s && false) ≡ false
-and-false true = refl
-and-false false = refl
-
-and-swap : (s t : Bool) → (s && t) ≡ (t && s)
-and-swap true true = refl
-and-swap true false = refl
-and-swap false true = refl
-and-swap false false = refl
 
 first-open : (s t p q : Bool) → (s && t && p && q) ≡ true → s ≡ true
 first-open s t p q e = both-left s t (both-left (s && t) p (both-left (s && t && p) q e))
@@ -122,7 +112,7 @@ same-test g m c e h k =
     ∙ go (isOpen g c) (isOpen g e) (at m c) (at m e)
   where
     go : (s t : Bool) (x y : ℕ) → isPair (cond s x 0) (cond t y 0) ≡ (s && t && eqb x y && eqb (count x) 2)
-    go true true x y = and-swap (eqb (count x) 2) (eqb x y)
+    go true true x y = and-comm (eqb (count x) 2) (eqb x y)
     go true false x y = none-two x
     go false t x y = ap (λ (n : ℕ). eqb n 2 && eqb 0 (cond t y 0)) count-none
 

@@ -51,11 +51,11 @@ impl Reports {
 fn only_digit(mask: u16) -> u8
     ensures { λ r. ⌜ pos r ≡ digitOr0 (onlyOf mask) ⌝ }
 {
-    let set = SudokuCandidateSet { mask: mask };
-    let SingleCandidate::Digit(digit) = set.single_candidate() else {
-        return 0;
-    };
-    digit as u8
+    match (SudokuCandidateSet { mask }).single_candidate() {
+        SingleCandidate::Digit(digit) => digit as u8,
+        SingleCandidate::Empty => 0,
+        SingleCandidate::Several => 0,
+    }
 }
 
 // Open cells with one candidate, rising, after the reports that are handed in.

@@ -17,7 +17,7 @@ use sudoku_host::record_cases as records;
 use sudoku_host::shrink::{shrunk, Smaller};
 use sudoku_host::sides::{Engine, Original, Plain, Side, CHAIN, PORTED};
 use sudoku_host::text_cases as texts;
-use sudoku_host::{digits, grids, plain, read, set, verify, Clues, SetAnswer, SetCall, Stop};
+use sudoku_host::{digits, grids, plain, read, set, single_candidate, verify, Clues, SetAnswer, SetCall, Stop};
 
 struct Options {
     seed: u64,
@@ -141,7 +141,18 @@ fn all_sets(counts: &mut Counts) -> Result<(), String> {
         same(ours == theirs, || format!("digits of mask {mask}: engine {ours:?}, original {theirs:?}"))?;
         counts.sets += 1;
     }
+    all_singles(counts)?;
     bad_digits(counts)
+}
+
+/// Empty and several, which the original does not tell apart, and higher bits, which it does not drop.
+fn all_singles(counts: &mut Counts) -> Result<(), String> {
+    for mask in 0..=u16::MAX {
+        let (ours, plain) = (single_candidate(mask), plain::single_candidate(mask));
+        counts.sets += 1;
+        same(ours == plain, || format!("single_candidate of mask {mask}: engine {ours:?}, plain {plain:?}"))?;
+    }
+    Ok(())
 }
 
 fn original_set(mask: u16) -> SudokuCandidateSet {

@@ -1,17 +1,25 @@
--- One digit is the lowest.
+-- `single_candidate` meets its contract: one digit is the lowest. Assumes nothing.
 use mathlib.Core.Path.{_≡_, sym, ap, _∙_}
-use mathlib.Core.Option.{none, some}
 use Prim.Native.Nat.{_+_, min}
 use native.Mathlib.Omega.{arith}
 use borrow.Author.Needs.{needs}
-use lib.Dec.{eqb}
+use borrow.Author.Tests.{eqb-true, eqb-false}
 use lib.IntN.{pos}
 use mir.Facts.{toZ-ofZ}
 use Rattle.candidates.specs.Masks.{lowNine, count, lowest}
+use Rattle.candidates.specs.declared.SingleCandidate.the-variants as only
 use Rattle.candidates.proofs.Counts.{lowest-le}
-use Rattle.candidates.proofs.Tests.{cond-true, cond-false}
+use Rattle.candidates.proofs.Only.{none-empty, one-digit, more-several, two-more}
 use Rattle.candidates.proofs.SudokuCandidateSet.single_candidate.Statement.{statement}
 use Rattle.candidates.proofs.SudokuCandidateSet.single_candidate.Tie as tie
+
+is-none-requires : tie.Need-is-none-requires
+is-none-requires c κs = search needs
+
+returns : tie.Need-returns
+returns c =
+    let m = c .before .before .before .args .self .mask in
+    sym (none-empty m (eqb-true (count (lowNine m)) 0 (sym (c .before .is-none .ensures) ∙ c .if1 .taken)))
 
 is-one-requires : tie.Need-is-one-requires
 is-one-requires c κs = search needs
@@ -22,18 +30,21 @@ lowest-digit-requires c κs = search needs
 digit-at-requires : tie.Need-digit-at-requires
 digit-at-requires c κs = search needs
 
-returns : tie.Need-returns
-returns c =
-    let m = lowNine (c .before .before .before .before .before .args .self .mask) in
-    let found : min (c .before .lowest-digit .result) 16 + 1 ≡ lowest m + 1 = omega (arith, c .before .lowest-digit .ensures, lowest-le m) in
-    ap some (toZ-ofZ (record { sfits = c .digit-at .ok }) ∙ c .digit-at .ensures ∙ ap pos found)
-    ∙ sym (cond-true (eqb (count m) 1) (some (pos (lowest m + 1))) none (sym (c .before .before .before .is-one .ensures) ∙ c .before .before .if1 .taken))
-
 returns-2 : tie.Need-returns-2
 returns-2 c =
-    let m = lowNine (c .before .before .before .args .self .mask) in
-    sym (cond-false (eqb (count m) 1) (some (pos (lowest m + 1))) none (sym (c .before .is-one .ensures) ∙ c .if1 .left))
+    let one = c .before .before .before in
+    let m = one .before .before .before .before .args .self .mask in
+    let found : min (c .before .lowest-digit .result) 16 + 1 ≡ lowest (lowNine m) + 1 = omega (arith, c .before .lowest-digit .ensures, lowest-le (lowNine m)) in
+    ap only.Digit (toZ-ofZ (record { sfits = c .digit-at .ok }) ∙ c .digit-at .ensures ∙ ap pos found)
+    ∙ sym (one-digit m (eqb-true (count (lowNine m)) 1 (sym (one .is-one .ensures) ∙ c .before .before .if2 .taken)))
+
+returns-3 : tie.Need-returns-3
+returns-3 c =
+    let one = c .before in
+    let none = one .before .before in
+    let m = none .before .before .args .self .mask in
+    sym (more-several m (two-more (count (lowNine m)) (eqb-false (count (lowNine m)) 0 (sym (none .is-none .ensures) ∙ one .before .if1 .left)) (eqb-false (count (lowNine m)) 1 (sym (one .is-one .ensures) ∙ c .if2 .left))))
 
 pub single-candidate-spec : {M : Type 1} → statement M
 single-candidate-spec =
-    tie.close (tie.spec is-one-requires lowest-digit-requires digit-at-requires returns returns-2)
+    tie.close (tie.spec is-none-requires returns is-one-requires lowest-digit-requires digit-at-requires returns-2 returns-3)

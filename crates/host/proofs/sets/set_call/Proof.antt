@@ -11,9 +11,10 @@ use mir.Syntax.{w64}
 use mir.Val.{toZ}
 use Rattle.stops.specs.Answer.{Answer, map}
 use Rattle.candidates.specs.Masks.{lowNine, count}
-use Rattle.candidates.specs.Sets.{singleOf, containsOf, insertOf, inserted, removed, digitOr0}
+use Rattle.candidates.specs.Sets.{singleOf, containsOf, insertOf, inserted, removed}
+use Rattle.candidates.specs.declared.SingleCandidate.{SingleCandidate}
 use Rattle.host.specs.Codes.{given, coded, testNumber, noNumber}
-use Rattle.host.specs.Sets.{newSet}
+use Rattle.host.specs.Sets.{newSet, singleCode}
 use Rattle.candidates.proofs.Tests.{past}
 use Rattle.host.proofs.Calls.{called, not-called}
 use Rattle.host.proofs.sets.set_call.Statement.{statement}
@@ -79,17 +80,14 @@ of-given-requires-5 c κs = search needs
 single-candidate-requires : tie.Need-single-candidate-requires
 single-candidate-requires c κs = search needs
 
-of-only-requires : tie.Need-of-only-requires
-of-only-requires c κs = search needs
-
-of-given-requires-6 : tie.Need-of-given-requires-6
-of-given-requires-6 c κs = search needs
+of-single-requires : tie.Need-of-single-requires
+of-single-requires c κs = search needs
 
 iter-requires : tie.Need-iter-requires
 iter-requires c κs = search needs
 
-of-given-requires-7 : tie.Need-of-given-requires-7
-of-given-requires-7 c κs = search needs
+of-given-requires-6 : tie.Need-of-given-requires-6
+of-given-requires-6 c κs = search needs
 
 of-unknown-requires : tie.Need-of-unknown-requires
 of-unknown-requires c κs = search needs
@@ -153,15 +151,14 @@ returns-9 c =
 
 returns-10 : tie.Need-returns-10
 returns-10 c =
-    let s = c .before .before .before .before in
-    let v = toZ-ofZ (record { sfits = c .before .of-only .ok }) ∙ c .before .of-only .ensures ∙ ap digitOr0 (c .before .before .single-candidate .ensures) in
-    c .of-given6 .ensures ∙ ap (λ (v : ℤ). given v (s .args .mask)) v
-    ∙ called 9 (s .args .call) (s .args .mask) (s .args .digit) (c .before .before .before .match .keys10)
+    let s = c .before .before .before in
+    c .of-single .ensures ∙ ap (λ (r : SingleCandidate). singleCode r (s .args .mask)) (c .before .single-candidate .ensures)
+    ∙ called 9 (s .args .call) (s .args .mask) (s .args .digit) (c .before .before .match .keys10)
 
 returns-11 : tie.Need-returns-11
 returns-11 c =
     let s = c .before .before .before in
-    c .of-given7 .ensures ∙ ap (given (pos 0)) (c .before .iter .ensures .0)
+    c .of-given6 .ensures ∙ ap (given (pos 0)) (c .before .iter .ensures .0)
     ∙ called 10 (s .args .call) (s .args .mask) (s .args .digit) (c .before .before .match .keys11)
 
 returns-12 : tie.Need-returns-12
@@ -204,10 +201,9 @@ set-call-spec =
     of-test-requires
     of-given-requires-5
     single-candidate-requires
-    of-only-requires
-    of-given-requires-6
+    of-single-requires
     iter-requires
-    of-given-requires-7
+    of-given-requires-6
     of-unknown-requires
     returns
     returns-2

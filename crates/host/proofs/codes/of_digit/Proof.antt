@@ -5,8 +5,8 @@ use borrow.Author.Needs.{needs}
 use mir.Facts.{toZ-ofZ}
 use Rattle.host.proofs.Numbers.{four-same}
 use Rattle.stops.proofs.Numbers.{small}
-use Rattle.host.proofs.codes.of_step.Statement.{statement}
-use Rattle.host.proofs.codes.of_step.Tie as tie
+use Rattle.host.proofs.codes.of_digit.Statement.{statement}
+use Rattle.host.proofs.codes.of_digit.Tie as tie
 
 cast-t4 : tie.Need-cast-t4
 cast-t4 c = search needs
@@ -20,8 +20,8 @@ cast-t6 c = search needs
 returns : tie.Need-returns
 returns c =
     let s = c .before in
-    let low = small {n = s .args .place} (omega (arith, s .fits .place .fits)) in
+    let low = small {n = s .args .beside} (omega (arith, s .fits .beside .fits)) in
     four-same refl low (toZ-ofZ (record { sfits = c .widened .ok }) ∙ c .widened .ensures ∙ toZ-ofZ (s .fits .digit)) (small {n = s .args .mask} (omega (arith, s .fits .mask .fits)))
 
-pub of-step-spec : {M : Type 1} → statement M
-of-step-spec = tie.close (tie.spec cast-t4 widened-requires cast-t6 returns)
+pub of-digit-spec : {M : Type 1} → statement M
+of-digit-spec = tie.close (tie.spec cast-t4 widened-requires cast-t6 returns)
