@@ -19,6 +19,7 @@ ORDER = [
     ("grid/specs/Cells", "cells, and who sees whom"),
     ("grid/specs/Units", "the unit table and its rule"),
     ("grid/specs/Fillings", "correct fillings and the verifier"),
+    ("grid/specs/Marks", "the verifier's marks, and the promise on its one pass"),
     ("steps/specs/Loops", "ranges, first finds"),
     ("steps/specs/Boards", "boards, givens, fresh masks"),
     ("steps/specs/Steps", "a step: a condition and an effect"),

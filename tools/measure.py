@@ -32,6 +32,7 @@ OTHERS = {
     "open": "Board::new",
     "count": "clue_count",
     "verify": "verify_solution",
+    "repeat": "verify_solution, the second cell repeats the first",
     "record": "record written and read",
     "card": "card",
 }

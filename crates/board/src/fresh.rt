@@ -2,9 +2,11 @@
 // and its box; an open cell then lacks what its three sets hold, since it adds none of its own. Row by row, so that no cell's
 // row and column are worked out anew.
 ghost use mathlib.Core.Path.{_≡_};
-ghost use Prim.Native.Nat.{_<_};
+ghost use Prim.Native.Nat.{_+_, _<_};
+ghost use Rattle.grid.specs.Cells.{cell, box};
+ghost use Rattle.grid.specs.Marks.{joinAt, joinUnits, seen};
 ghost use Rattle.steps.specs.Boards.{fresh};
-ghost use Rattle.board.specs.code.Fresh.{digitMask, joinAt, boxUnit, joinUnits, joinRow, unitSets, seen, freshMask, freshRow};
+ghost use Rattle.board.specs.code.Fresh.{digitMask, joinRow, unitSets, freshMask, freshRow};
 use candidates::masks;
 
 // The mask of a given digit; none for an open cell.
@@ -28,14 +30,14 @@ fn join_at(sets: &mut [u16; 27], unit: usize, mask: u16)
 // The number of the box as a unit.
 fn box_unit(row: usize, col: usize) -> usize
     requires { ⌜ (row < 9) × (col < 9) ⌝ }
-    ensures { λ r. ⌜ r ≡ boxUnit row col ⌝ }
+    ensures { λ r. ⌜ r ≡ 18 + box (cell row col) ⌝ }
 {
     18 + (3 * (row / 3) + col / 3)
 }
 
 fn join_units(sets: &mut [u16; 27], row: usize, col: usize, mask: u16)
     requires { ⌜ (row < 9) × (col < 9) ⌝ }
-    ensures { λ _. ⌜ now (sets .exit) ≡ joinUnits row col mask (now (sets .entry)) ⌝ }
+    ensures { λ _. ⌜ now (sets .exit) ≡ joinUnits (cell row col) mask (now (sets .entry)) ⌝ }
 {
     join_at(sets, row, mask);
     join_at(sets, 9 + col, mask);
@@ -73,7 +75,7 @@ fn unit_sets(givens: &[u8; 81]) -> [u16; 27]
 // The digits that the row, the column and the box of a cell are given.
 fn seen_digits(sets: &[u16; 27], row: usize, col: usize) -> u16
     requires { ⌜ (row < 9) × (col < 9) ⌝ }
-    ensures { λ r. ⌜ r ≡ seen (now (sets .entry)) row col ⌝ }
+    ensures { λ r. ⌜ r ≡ seen (now (sets .entry)) (cell row col) ⌝ }
 {
     let lines = masks::join(sets[row], sets[9 + col]);
     masks::join(lines, sets[box_unit(row, col)])

@@ -3,7 +3,7 @@ use mathlib.Core.Path.{_≡_, refl, sym, ap, _∙_}
 use mathlib.Core.Logic.{_≢_, inl, inr}
 use mathlib.Core.Bool.{Bool, true, false, not, _&&_, _||_, false≢true}
 use mathlib.Core.List.{List·Memᴰ, map}
-use Prim.Native.Nat.{ℕ, _+_, _≤_, _<_}
+use Prim.Native.Nat.{ℕ, _+_, _*_, _/_, _≤_, _<_}
 use native.Mathlib.Omega.{arith}
 use borrow.Author.Tests.{eqb-true, eq-eqb, ne-eqb}
 use lib.Dec.{eqb, eqb→eq, eqb-refl}
@@ -35,8 +35,21 @@ row-of r k h = omega arith
 pub col-of : (r k : ℕ) → k < 9 → col (cell r k) ≡ k
 col-of r k h = omega arith
 
+pub box-of : (r k : ℕ) → k < 9 → box (cell r k) ≡ 3 * (r / 3) + k / 3
+box-of r k h = ap (λ (q : ℕ). 3 * (q / 3) + col (cell r k) / 3) (row-of r k h) ∙ ap (λ (q : ℕ). 3 * (r / 3) + q / 3) (col-of r k h)
+
 pub cell-lt : (r k : ℕ) → r < 9 → k < 9 → cell r k < 81
 cell-lt r k h l = omega arith
+
+-- a cell lies in its row, its column and its box
+pub row-in : (c : ℕ) → c < 81 → inUnit (row c) c ≡ true
+row-in c h = in-row (row c) c (row-below c h) ∙ eq-eqb (row c) (row c) refl
+
+pub col-in : (c : ℕ) → inUnit (9 + col c) c ≡ true
+col-in c = in-col (col c) c (col-below c) ∙ eq-eqb (col c) (col c) refl
+
+pub box-in : (c : ℕ) → c < 81 → inUnit (18 + box c) c ≡ true
+box-in c h = in-box (box c) c (box-below c h) ∙ eq-eqb (box c) (box c) refl
 
 -- ---- all cells
 
@@ -119,13 +132,13 @@ sees-shared a b h k e =
 
     go : (p q r : Bool) → eqb (row a) (row b) ≡ p → eqb (col a) (col b) ≡ q → eqb (box a) (box b) ≡ r → (p || q || r) ≡ true → ShareUnit a b
     go true q r x y z t =
-        share (row a) (omega (arith, row-below a h)) (in-row (row a) a (row-below a h) ∙ T-true _ (eqb-refl (row a)))
+        share (row a) (omega (arith, row-below a h)) (row-in a h)
         (in-row (row a) b (row-below a h) ∙ eqb-sym (row b) (row a) ∙ x)
     go false true r x y z t =
-        share (9 + col a) (omega (arith, col-below a)) (in-col (col a) a (col-below a) ∙ T-true _ (eqb-refl (col a)))
+        share (9 + col a) (omega (arith, col-below a)) (col-in a)
         (in-col (col a) b (col-below a) ∙ eqb-sym (col b) (col a) ∙ y)
     go false false true x y z t =
-        share (18 + box a) (omega (arith, box-below a h)) (in-box (box a) a (box-below a h) ∙ T-true _ (eqb-refl (box a)))
+        share (18 + box a) (omega (arith, box-below a h)) (box-in a h)
         (in-box (box a) b (box-below a h) ∙ eqb-sym (box b) (box a) ∙ z)
     go false false false x y z t = absurd (false≢true t)
 

@@ -1,25 +1,26 @@
 -- What a correct filling is, by the places of its digits; the verifier's definition says yes to exactly these. Assumes nothing.
 use mathlib.Core.Path.{_≡_, refl, sym, ap, _∙_, subst}
 use mathlib.Core.Logic.{_≢_}
-use mathlib.Core.Bool.{true, false≢true}
+use mathlib.Core.Bool.{Bool, true, false, _&&_, false≢true}
 use mathlib.Core.List.{List, [], map}
 use Prim.Native.Nat.{ℕ, zero, suc, _-_, _≤_, _<_}
 use native.Mathlib.Decide.{ℕ-discrete}
 use native.Mathlib.Omega.{arith}
-use borrow.Author.Tests.{leb-true, le-leb}
-use lib.Dec.{eqb-refl, leb}
+use borrow.Author.Tests.{leb-true, le-leb, ltb-true}
+use lib.Dec.{leb}
 use lib.IntN.{ℤ, pos, negsuc}
 use lib.ListN.{length, getD, length-map, List·getD-map}
+use lib.Signed.{ltZ, leZ}
 use Rattle.grid.specs.Lists.{all}
 use Rattle.grid.specs.Cells.{row, sees, cells}
 use Rattle.grid.specs.Units.{units, unit, unitCell, Member}
 use Rattle.grid.specs.Fillings.{numberAt, Digit, Correct, isDigit, distinct, verified}
 use Rattle.candidates.specs.Sets.{place}
 use Rattle.candidates.proofs.Places.{place-pos}
-use Rattle.candidates.proofs.Tests.{both, both-left, both-right, T-true}
+use Rattle.candidates.proofs.Tests.{both, both-left, both-right}
 use Rattle.grid.proofs.Lists.{all-at, at-all, all-range, range-all, distinct-at, at-distinct}
-use Rattle.grid.proofs.Units.{unit-length, cell-below, placeIn, place-below, place-cell, in-row}
-use Rattle.grid.proofs.Cells.{row-below, sees-shared}
+use Rattle.grid.proofs.Units.{unit-length, cell-below, placeIn, place-below, place-cell}
+use Rattle.grid.proofs.Cells.{row-below, row-in, sees-shared}
 use Rattle.grid.proofs.Pigeonhole.{Injects, onto}
 
 -- ---- digits and their places
@@ -46,7 +47,7 @@ place-lt {z} d = omega (arith, digit-place d, d .low, d .high)
 pub same-number : (z w : ℤ) → place z < 9 → place z ≡ place w → z ≡ w
 same-number z w h e = number-of z (place z) refl h ∙ sym (number-of w (place z) (sym e) h)
 
-test-place : (z : ℤ) → isDigit z ≡ true → place z < 9
+pub test-place : (z : ℤ) → isDigit z ≡ true → place z < 9
 test-place (pos zero) e = absurd (false≢true e)
 test-place (pos (suc n)) e = omega (arith, leb-true (suc n) 9 (both-right (leb 1 (suc n)) (leb (suc n) 9) e))
 test-place (negsuc n) e = absurd (false≢true e)
@@ -55,6 +56,17 @@ place-test : (z : ℤ) → place z < 9 → isDigit z ≡ true
 place-test (pos zero) h = absurd (omega arith)
 place-test (pos (suc n)) h = both (le-leb 1 (suc n) (omega arith)) (le-leb (suc n) 9 (omega arith))
 place-test (negsuc n) h = absurd (omega arith)
+
+-- the test, a bound at a time
+pub low-no : (z : ℤ) → ltZ z (pos 1) ≡ true → isDigit z ≡ false
+low-no (pos zero) t = refl
+low-no (pos (suc n)) t = absurd (omega (arith, ltb-true (suc n) 1 t))
+low-no (negsuc n) t = refl
+
+pub not-low : (z : ℤ) → ltZ z (pos 1) ≡ false → isDigit z ≡ leZ z (pos 9)
+not-low (pos zero) t = absurd (false≢true (sym t))
+not-low (pos (suc n)) t = ap (λ (b : Bool). b && leb (suc n) 9) (le-leb 1 (suc n) (omega arith))
+not-low (negsuc n) t = absurd (false≢true (sym t))
 
 -- ---- a correct filling, unit by unit
 
@@ -101,8 +113,7 @@ complete-keeps {g} r = record {
     in-its-row : (c : ℕ) → c < 81 → place (numberAt g c) < 9
     in-its-row c h =
         let k = row-below c h in
-        let e = in-row (row c) c k ∙ T-true _ (eqb-refl (row c)) in
-        subst (λ (d : ℕ). place (numberAt g d) < 9) (place-cell (row c) c (omega arith) h e)
+        subst (λ (d : ℕ). place (numberAt g d) < 9) (place-cell (row c) c (omega arith) h (row-in c h))
         (r .at (row c) (omega arith) .into (placeIn (row c) c) (place-below (row c) c (omega arith) h))
 
 pub correct-complete : {g : List ℤ} → Correct g → Complete g
@@ -144,10 +155,14 @@ number-in g u i = List·getD-map (numberAt g) (unit u) i 81
 numbers-length : (g : List ℤ) (u : ℕ) → u < 27 → length (map (numberAt g) (unit u)) ≡ 9
 numbers-length g u h = length-map (unit u) (numberAt g) ∙ unit-length u h
 
+pub verified-digit : (g : List ℤ) → verified g ≡ true → (c : ℕ) → c < 81 → isDigit (numberAt g c) ≡ true
+unfolding verified cells
+verified-digit g e c h = all-range (λ c. isDigit (numberAt g c)) 81 (both-left (all (λ c. isDigit (numberAt g c)) cells) _ e) c h
+
 verified-keeps : (g : List ℤ) → verified g ≡ true → Keeps g
 unfolding verified unit cells
 verified-keeps g e = record {
-  digits = λ c h. place-digit (numberAt g c) (test-place (numberAt g c) (all-range (λ c. isDigit (numberAt g c)) 81 (both-left (all (λ c. isDigit (numberAt g c)) cells) _ e) c h));
+  digits = λ c h. place-digit (numberAt g c) (test-place (numberAt g c) (verified-digit g e c h));
   once = λ u i j h k l m p. once u h i j k l m (number-in g u i ∙ p ∙ sym (number-in g u j));
 }
   where

@@ -5,4 +5,5 @@ pub mod Units
 pub mod Cells
 pub mod Pigeonhole
 pub mod Fillings
-mod Verifier
+pub mod Marks
+mod Standing

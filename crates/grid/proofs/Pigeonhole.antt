@@ -1,5 +1,5 @@
 -- n numbers below n, no two of them equal, are all the numbers below n. Assumes nothing.
-use mathlib.Core.Path.{_≡_, sym, ap, _∙_, subst}
+use mathlib.Core.Path.{_≡_, sym, ap, _∙_}
 use mathlib.Core.Logic.{_≢_, _⊎_, inl, inr, ⊎-elim}
 use Prim.Native.Nat.{ℕ, zero, suc, _-_, _<_}
 use native.Mathlib.Nat.{not-suc-le-zero}
@@ -68,43 +68,3 @@ unfolding Found
 onto zero f r v h = absurd (not-suc-le-zero h)
 onto (suc n) f r v h =
     ⊎-elim (λ p. p) (λ none. absurd (no-room n (λ i. past (decLt (f i) v)) (skip (suc n) n v f r h none))) (find (suc n) v f)
-
--- and the other way: if each number below n comes, each comes once, and nothing else comes
-module _ (n : ℕ) (f : ℕ → ℕ) (s : (v : ℕ) → v < n → (i : ℕ) × (i < n) × (f i ≡ v)) where
-  back : {v : ℕ} → Dec (v < n) → ℕ
-  back {v} (yes h) = s v h .0
-  back {v} (no h) = 0
-
-  back-in : {v : ℕ} (d : Dec (v < n)) → v < n → back d < n
-  unfolding back
-  back-in {v} (yes h) k = s v h .1
-  back-in {v} (no h) k = absurd (h k)
-
-  back-is : {v : ℕ} (d : Dec (v < n)) → v < n → f (back d) ≡ v
-  unfolding back
-  back-is {v} (yes h) k = s v h .2
-  back-is {v} (no h) k = absurd (h k)
-
-  inverse : ℕ → ℕ
-  inverse v = back (decLt v n)
-
-  inverse-injects : Injects n n inverse
-  unfolding inverse
-  inverse-injects = record {
-    into = λ v h. back-in (decLt v n) h;
-    apart = λ v w h k e. sym (back-is (decLt v n) h) ∙ ap f e ∙ back-is (decLt w n) k;
-  }
-
-  -- i is where f i stands
-  comes : (i : ℕ) → i < n → (f i < n) × (inverse (f i) ≡ i)
-  unfolding inverse
-  comes i h =
-      let p = onto n inverse inverse-injects i h in
-      let e : f i ≡ p .0 = ap f (sym (p .2)) ∙ back-is (decLt (p .0) n) (p .1) in
-      (subst (λ (v : ℕ). v < n) (sym e) (p .1), ap inverse e ∙ p .2)
-
-  pub onto-injects : Injects n n f
-  onto-injects = record {
-    into = λ i h. comes i h .0;
-    apart = λ i j h k e. sym (comes i h .1) ∙ ap inverse e ∙ comes j k .1;
-  }

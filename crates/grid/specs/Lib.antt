@@ -2,4 +2,5 @@ pub mod Lists
 pub mod Cells
 pub mod Units
 pub mod Fillings
+pub mod Marks
 pub mod code

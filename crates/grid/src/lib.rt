@@ -1,14 +1,11 @@
 // The grid: rows, columns and boxes, who sees whom, and the verifier of filled grids (module 10).
 // A cell is its number, 0 to 80; a unit its number, 0 to 8 for rows, 9 to 17 for columns, 18 to 26 for boxes.
 ghost use mathlib.Core.Path.{_≡_};
-ghost use Prim.Native.Nat.{_<_};
 ghost use Rattle.grid.specs.Cells.{row, col, box, aligned, sees};
-ghost use Rattle.grid.specs.Units as definitions;
 ghost use Rattle.grid.specs.Units.{unitCell};
 ghost use Rattle.grid.specs.Fillings.{verified};
-ghost use Rattle.grid.specs.code.Seen.{numberMask, numberMasks, complete};
-use candidates::digits;
-use candidates::masks;
+
+mod verifier;
 
 pub const UNITS: [[u8; 9]; 27] = [
     [0, 1, 2, 3, 4, 5, 6, 7, 8],
@@ -101,52 +98,18 @@ pub fn are_peers(a: usize, b: usize) -> bool
     positions_see_each_other(a, b)
 }
 
-// The mask of a number: the bit of its digit, or bit 9 for a number that is no digit.
-fn number_mask(number: i32) -> u16
-    ensures { λ r. ⌜ r ≡ numberMask number ⌝ }
-{
-    masks::digit_mask(digits::place_of(number))
-}
-
-fn number_masks(grid: &[i32; 81]) -> [u16; 81]
-    ensures { λ r. ⌜ r ≡ numberMasks (now (grid .entry)) ⌝ }
-{
-    let mut masks = [0u16; 81];
-    let mut cell: usize = 0;
-    while cell < 81 {
-        masks[cell] = number_mask(grid[cell]);
-        cell += 1;
-    }
-    masks
-}
-
-// Whether the masks of a unit's cells are the nine digits, and so each once.
-fn unit_complete(units: &[[u8; 9]; 27], masks: &[u16; 81], unit: usize) -> bool
-    requires { ⌜ (now units ≡ definitions.units) × (unit < 27) ⌝ }
-    ensures { λ r. ⌜ r ≡ complete (now (masks .entry)) unit ⌝ }
-{
-    let cells = units[unit];
-    let mut mask: u16 = 0;
-    let mut place: usize = 0;
-    while place < 9 {
-        mask = masks::join(mask, masks[cells[place] as usize]);
-        place += 1;
-    }
-    mask == 511
-}
-
 // Yes exactly if all numbers are 1 to 9 and no row, column or box repeats one. Any other number is a plain no.
+// Each cell is met once: its digit is marked in its three units, and the first number that is no digit or is marked already makes it no.
 pub fn verify_solution(grid: &[i32; 81]) -> bool
     ensures { λ r. ⌜ r ≡ verified (now (grid .entry)) ⌝ }
 {
-    let units = UNITS;
-    let masks = number_masks(grid);
-    let mut unit: usize = 0;
-    while unit < 27 {
-        if !unit_complete(&units, &masks, unit) {
+    let mut marks = [0u16; 27];
+    let mut band: usize = 0;
+    while band < 3 {
+        if !verifier::mark_band(grid, &mut marks, band) {
             return false;
         }
-        unit += 1;
+        band += 1;
     }
     true
 }

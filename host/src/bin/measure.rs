@@ -2,7 +2,8 @@
 //!
 //!     measure SIDE CALL ROUNDS
 //!
-//! SIDE is original, plain or engine; CALL a step number, 255 for no step, or one of `verify`, `read`, `open`, `count`, `record`, `card` and `setN`
+//! SIDE is original, plain or engine; CALL a step number, 255 for no step, or one of `verify`, `repeat` (the verifier where the second cell
+//! repeats the first), `read`, `open`, `count`, `record`, `card` and `setN`
 //! (0 insert, 1 remove, 2 contains, 3 len, 4 single_candidate). A round is 64 boards. What a call costs is the difference of two runs,
 //! divided by the difference of their calls; for a step also less what making the board costs, which 255 has alone:
 //!
@@ -23,7 +24,8 @@ fn main() {
     let Ok(rounds) = rounds.parse::<usize>() else { usage() };
     let mut random = Random::new(1);
     match (side.as_str(), call.as_str()) {
-        (_, "verify") => verifying(side, &mut random, rounds),
+        (_, "verify") => verifying(side, &mut random, false, rounds),
+        (_, "repeat") => verifying(side, &mut random, true, rounds),
         (_, "read") => reading(side, &mut random, rounds),
         (_, "open") => opening(side, &mut random, rounds),
         (_, "count") => counting(side, &mut random, rounds),
@@ -38,7 +40,7 @@ fn main() {
 }
 
 fn usage() -> ! {
-    eprintln!("measure original|plain|engine STEP|verify|read|open|count|record|card|setN ROUNDS");
+    eprintln!("measure original|plain|engine STEP|verify|repeat|read|open|count|record|card|setN ROUNDS");
     std::process::exit(2)
 }
 
@@ -86,8 +88,11 @@ fn engine_stepping(random: &mut Random, number: u8, rounds: usize) {
     }
 }
 
-fn verifying(side: &str, random: &mut Random, rounds: usize) {
-    let grids: Vec<Clues> = (0..BOARDS).map(|_| grids::filling(random)).collect();
+fn verifying(side: &str, random: &mut Random, repeat: bool, rounds: usize) {
+    let mut grids: Vec<Clues> = (0..BOARDS).map(|_| grids::filling(random)).collect();
+    if repeat {
+        grids.iter_mut().for_each(|grid| grid[1] = grid[0]);
+    }
     let rows: Vec<[[i32; 9]; 9]> = grids.iter().map(oracle::rows).collect();
     for _ in 0..rounds {
         for at in 0..BOARDS {

@@ -1,11 +1,12 @@
 -- The way in which the code makes fresh masks: row by row of the grid, each given digit joins the sets of its three units.
 use mathlib.Core.Bool.{cond}
 use mathlib.Core.List.{List}
-use Prim.Native.Nat.{ℕ, _+_, _*_, _-_, _/_}
+use Prim.Native.Nat.{ℕ, _-_}
 use lib.Dec.{eqb}
-use lib.ListN.{getD, set, replicate}
-use Rattle.candidates.specs.Masks.{minus, union, placeMask}
+use lib.ListN.{set, replicate}
+use Rattle.candidates.specs.Masks.{minus, placeMask}
 use Rattle.grid.specs.Cells.{cell}
+use Rattle.grid.specs.Marks.{joinUnits, seen}
 use Rattle.steps.specs.Boards.{given, givenMask, isOpen}
 use Rattle.steps.specs.Loops.{each, upTo}
 
@@ -15,19 +16,8 @@ digitMask d = cond (eqb d 0) 0 (placeMask (d - 1))
 
 -- ---- the digits that each unit is given
 
--- the digits of x join those of unit u
-abbrev pub joinAt : ℕ → ℕ → List ℕ → List ℕ
-joinAt u x s = set s u (union (getD s u 0) x)
-
--- the box of row r and column k
-abbrev pub boxUnit : ℕ → ℕ → ℕ
-boxUnit r k = 18 + (3 * (r / 3) + k / 3)
-
-unfoldable pub joinUnits : ℕ → ℕ → ℕ → List ℕ → List ℕ
-joinUnits r k x s = joinAt (boxUnit r k) x (joinAt (9 + k) x (joinAt r x s))
-
 unfoldable pub joinGiven : List ℕ → ℕ → ℕ → List ℕ → List ℕ
-joinGiven g r k s = cond (isOpen g (cell r k)) s (joinUnits r k (givenMask g (cell r k)) s)
+joinGiven g r k s = cond (isOpen g (cell r k)) s (joinUnits (cell r k) (givenMask g (cell r k)) s)
 
 unfoldable pub joinRow : List ℕ → ℕ → List ℕ → List ℕ
 joinRow g r s = each (joinGiven g r) (upTo 9) s
@@ -37,13 +27,9 @@ unitSets g = each (joinRow g) (upTo 9) (replicate 27 0)
 
 -- ---- the fresh masks
 
--- the digits of a cell's row, column and box
-abbrev pub seen : List ℕ → ℕ → ℕ → ℕ
-seen sets r k = union (union (getD sets r 0) (getD sets (9 + k) 0)) (getD sets (boxUnit r k) 0)
-
 -- the fresh mask of a cell, from its given digit and the digits that it sees
 abbrev pub freshMask : ℕ → ℕ → ℕ
 freshMask d s = cond (eqb d 0) (minus 511 s) (digitMask d)
 
 unfoldable pub freshRow : List ℕ → List ℕ → ℕ → List ℕ → List ℕ
-freshRow g sets r m = each (λ k m. set m (cell r k) (freshMask (given g (cell r k)) (seen sets r k))) (upTo 9) m
+freshRow g sets r m = each (λ k m. set m (cell r k) (freshMask (given g (cell r k)) (seen sets (cell r k)))) (upTo 9) m

@@ -9,13 +9,14 @@ use Rattle.grid.specs.Cells.{cell}
 use Rattle.grid.specs.Lists.{each, range}
 use Rattle.grid.proofs.Lists.{turn-done, turns-over}
 use Rattle.steps.specs.Boards.{given}
-use Rattle.board.specs.code.Fresh.{seen, freshMask, freshRow}
+use Rattle.grid.specs.Marks.{seen}
+use Rattle.board.specs.code.Fresh.{freshMask, freshRow}
 use Rattle.board.proofs.fresh.fresh_row.Statement.{statement}
 use Rattle.board.proofs.fresh.fresh_row.Tie as tie
 
 -- one turn of the loop
 abbrev turn : List ℕ → List ℕ → ℕ → ℕ → List ℕ → List ℕ
-turn g sets r k m = set m (cell r k) (freshMask (given g (cell r k)) (seen sets r k))
+turn g sets r k m = set m (cell r k) (freshMask (given g (cell r k)) (seen sets (cell r k)))
 
 abbrev Inv-loop : tie.InvT-loop
 Inv-loop givens sets masks₀ row col₀ masks col =

@@ -9,9 +9,10 @@ use borrow.Author.Tests.{eq-eqb, ne-eqb}
 use Rattle.candidates.proofs.Tests.{cond-true, cond-false}
 use Rattle.grid.specs.Cells.{cell}
 use Rattle.grid.specs.Lists.{each, range}
+use Rattle.grid.specs.Marks.{joinUnits}
 use Rattle.grid.proofs.Lists.{turn-done, turns-over}
 use Rattle.steps.specs.Boards.{given, givenMask, isOpen}
-use Rattle.board.specs.code.Fresh.{joinUnits, joinGiven, joinRow}
+use Rattle.board.specs.code.Fresh.{joinGiven, joinRow}
 use Rattle.board.proofs.fresh.join_row.Statement.{statement}
 use Rattle.board.proofs.fresh.join_row.Tie as tie
 
@@ -66,9 +67,9 @@ loop-again c =
     joined =
         unfold joinGiven in
         ⊎-elim
-        (λ w. w .4 ∙ w .3 .ensures ∙ ap (λ (x : ℕ). joinUnits r k x s) (w .2 .ensures)
-        ∙ sym (cond-false (isOpen g (cell r k)) s (joinUnits r k (givenMask g (cell r k)) s) (ne-eqb (given g (cell r k)) 0 (w .0 .taken))))
-        (λ w. w .1 ∙ sym (cond-true (isOpen g (cell r k)) s (joinUnits r k (givenMask g (cell r k)) s) (eq-eqb (given g (cell r k)) 0 (w .0 .left))))
+        (λ w. w .4 ∙ w .3 .ensures ∙ ap (λ (x : ℕ). joinUnits (cell r k) x s) (w .2 .ensures)
+        ∙ sym (cond-false (isOpen g (cell r k)) s (joinUnits (cell r k) (givenMask g (cell r k)) s) (ne-eqb (given g (cell r k)) 0 (w .0 .taken))))
+        (λ w. w .1 ∙ sym (cond-true (isOpen g (cell r k)) s (joinUnits (cell r k) (givenMask g (cell r k)) s) (eq-eqb (given g (cell r k)) 0 (w .0 .left))))
         (c .if1 .came)
 
 returns : tie.Need-returns Inv-loop μ-loop

@@ -1,6 +1,7 @@
 -- `board::fresh::seen_digits` meets its contract. Assumes nothing.
 use mathlib.Core.Path.{_∙_}
 use borrow.Author.Needs.{needs}
+use Rattle.grid.proofs.Marks.{seen-three}
 use Rattle.board.proofs.fresh.seen_digits.Statement.{statement}
 use Rattle.board.proofs.fresh.seen_digits.Tie as tie
 
@@ -35,7 +36,13 @@ join-requires-2 : tie.Need-join-requires-2
 join-requires-2 c κs = search needs
 
 returns : tie.Need-returns
-returns c = c .join2 .ensures ∙ rw (c .before .before .before .join .ensures, c .before .before .box-unit .ensures)
+returns c =
+    let box = c .before .before in
+    let start = box .before .before .before .before in
+    let a = start .args in
+    c .join2 .ensures
+    ∙ rw (box .before .join .ensures)
+    (seen-three (a .row) (a .col) (box .box-unit .result) (start .pre .1) (box .box-unit .ensures) (a .sets .now))
 
 pub seen-digits-spec : {M : Type 1} → statement M
 seen-digits-spec =

@@ -11,17 +11,17 @@ use Rattle.candidates.proofs.Tests.{cond-false}
 use Rattle.candidates.proofs.masks.digit_mask.Statement.{statement}
 use Rattle.candidates.proofs.masks.digit_mask.Tie as tie
 
-cast-result : tie.Need-cast-result
-cast-result c = search needs
+small : (c : tie.Then1) → 2 ^ c .before .args .place < 2 ^ 16
+small c = pow-lt (c .if1 .taken)
 
 shl-result : tie.Need-shl-result
 shl-result c = search needs
 
+cast-result : tie.Need-cast-result
+cast-result c = omega (arith, small c)
+
 returns : tie.Need-returns
-returns c =
-    let p = c .before .args .place in
-    let small : 2 ^ p < 2 ^ 16 = pow-lt (c .if1 .taken) in
-    omega arith ∙ sym (place-single p (c .if1 .taken))
+returns c = omega (arith, small c) ∙ sym (place-single (c .before .args .place) (c .if1 .taken))
 
 returns-2 : tie.Need-returns-2
 returns-2 c =
@@ -29,4 +29,4 @@ returns-2 c =
     sym (cond-false (ltb p 16) (2 ^ p) 0 (le-ltb p 16 (c .if1 .left)))
 
 pub digit-mask-spec : {M : Type 1} → statement M
-digit-mask-spec = tie.close (tie.spec cast-result shl-result returns returns-2)
+digit-mask-spec = tie.close (tie.spec shl-result cast-result returns returns-2)
