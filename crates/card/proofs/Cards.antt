@@ -20,9 +20,9 @@ use Rattle.board.proofs.Answered.{clues-few}
 use Rattle.techniques.proofs.ReportLists.{singles-few}
 use Rattle.card.specs.declared.layout.Card.{Card}
 use Rattle.card.specs.Cards.{cardFor, cardBytes, verdictWord}
-use Rattle.card.specs.Decimals.{decimal}
+use Rattle.output.specs.Decimals.{decimal}
 use Rattle.card.specs.Layout.{lineOf, cluesLabel, reportedLabel, sweepsLabel, removedLabel, verdictLabel, gridLabel, gridBytes, refusedLabel, signed, refusalBytes}
-use Rattle.card.proofs.Decimals.{decimal-few}
+use Rattle.output.proofs.Decimals.{decimal-few}
 
 -- ---- how long a card is
 

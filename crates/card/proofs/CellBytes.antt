@@ -13,7 +13,7 @@ use Rattle.candidates.specs.declared.SingleCandidate.the-variants as only
 use Rattle.candidates.proofs.FewDigits.{one-count}
 use Rattle.candidates.proofs.Only.{Tells, single-tells}
 use Rattle.candidates.proofs.Tests.{cond-true, cond-false}
-use Rattle.card.specs.Decimals.{digitByte}
+use Rattle.output.specs.Decimals.{digitByte}
 use Rattle.card.specs.Layout.{onlyByte, cellByte}
 
 -- the byte of each answer

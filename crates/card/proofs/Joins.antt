@@ -1,14 +1,12 @@
--- Bytes one after the other: lists of them joined, in a value and over lent ones. Assumes nothing.
+-- Bytes one after the other: lists of them joined, in a value and copied out of it. Assumes nothing.
 use mathlib.Core.Path.{_≡_, refl, sym, ap, _∙_}
 use mathlib.Core.List.{List, [], _∷_, _++_, map, append-assoc, append-nil}
-use Prim.Native.Nat.{ℕ, zero, suc, _+_, _-_, _≤_, _<_}
-use native.Mathlib.Nat.{not-suc-le-zero, le-of-suc-le-suc}
-use native.Mathlib.Numerals.{add-one}
+use Prim.Native.Nat.{ℕ, _+_, _-_, _≤_, _<_}
 use native.Mathlib.Omega.{arith}
 use borrow.Author.Tests.{lt-ltb}
 use lib.Dec.{ltb}
-use lib.ListN.{length, getD, set, take, drop, replicate, length-append, drop-of-length-le}
-use lib.Seq.{drop-cons, take-at}
+use lib.ListN.{length, set, take, replicate, length-append}
+use lib.Seq.{take-at}
 use Rattle.candidates.proofs.Tests.{cond-true}
 use Rattle.grid.proofs.Fills.{fill-next}
 use Rattle.steps.specs.Loops.{each}
@@ -16,7 +14,7 @@ use Rattle.steps.proofs.Loops.{each-append}
 use Rattle.card.specs.declared.lines.Lines.{Lines}
 use Rattle.card.specs.Layout.{lineOf}
 use Rattle.card.specs.code.Lines.{linesOf, pushed, append}
-use Rattle.card.specs.Layout.{over}
+use Rattle.output.specs.Lent.{over}
 
 -- ---- lists after a value
 
@@ -37,16 +35,6 @@ pub line-joined : (label rest : List ℕ) (q : Lines) {a b r : Lines} → a ≡ 
 unfolding lineOf
 line-joined label rest q l m n =
     joined (label ++ rest) (10 ∷ []) q (joined label rest q l m) (n ∙ append-one 10 _)
-
--- a word from its byte i on
-module _ (word : List ℕ) (i : ℕ) (q : Lines) where
-  pub word-on : i < length word → append (drop (i + 1) word) (pushed q (getD word i 0)) ≡ append (drop i word) q
-  unfolding append each
-  word-on h = rw (add-one, drop-cons word i 0)
-
-  pub word-end : length word ≤ i → append (drop i word) q ≡ q
-  unfolding append each
-  word-end h = ap (λ (l : List ℕ). append l q) (drop-of-length-le word h)
 
 -- a byte for each number of a list
 pub append-each : (f : ℕ → ℕ) (ns : List ℕ) (q : Lines) → append (map f ns) q ≡ each (λ n q. pushed q (f n)) ns q
@@ -76,20 +64,6 @@ append-on xs (y ∷ ys) h =
 -- a list that has room stands in the value that it was pushed into
 pub stands : (ys : List ℕ) → length ys ≤ 256 → append ys (linesOf []) ≡ linesOf ys
 stands ys h = append-on [] ys (omega arith)
-
--- ---- bytes over lent ones
-
-pub over-next : (xs lent : List ℕ) (i : ℕ) → i < length xs → set (over (take i xs) lent) i (getD xs i 0) ≡ over (take (suc i) xs) lent
-over-next [] lent i h = absurd (not-suc-le-zero h)
-over-next (x ∷ xs) [] zero h = refl
-over-next (x ∷ xs) (y ∷ lent) zero h = refl
-over-next (x ∷ xs) [] (suc i) h = refl
-over-next (x ∷ xs) (y ∷ lent) (suc i) h = ap (λ (l : List ℕ). x ∷ l) (over-next xs lent i (le-of-suc-le-suc h))
-
-pub over-length : (xs lent : List ℕ) → length (over xs lent) ≡ length lent
-over-length [] lent = refl
-over-length (x ∷ xs) [] = refl
-over-length (x ∷ xs) (y ∷ lent) = ap suc (over-length xs lent)
 
 -- ---- lines that are copied out
 

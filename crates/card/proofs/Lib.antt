@@ -1,4 +1,3 @@
-pub mod Decimals
 pub mod Joins
 pub mod Cards
 pub mod Printed

@@ -10,7 +10,7 @@ use Rattle.stops.proofs.Answers.{gives-same, stop-gives}
 use Rattle.text.specs.Texts.{parseOf}
 use Rattle.card.specs.declared.layout.Card.{Card}
 use Rattle.card.specs.Cards.{textIn, cardFor, cardOf, cardBytes, cardLines, refusalLine, printed}
-use Rattle.card.specs.Layout.{over}
+use Rattle.output.specs.Lent.{over}
 use Rattle.card.proofs.Cards.{read-short}
 
 abbrev written : Answer Card → Answer ℕ

@@ -12,7 +12,7 @@ use mir.Facts.{toZ-ofZ}
 use mir.Syntax.{w64}
 use mir.Val.{SFits, toZ, ofZ}
 use Rattle.candidates.proofs.Tests.{cond-false}
-use Rattle.card.specs.Decimals.{decimal}
+use Rattle.output.specs.Decimals.{decimal}
 use Rattle.card.specs.Layout.{signed}
 
 -- below 0: one less than its size

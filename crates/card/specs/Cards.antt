@@ -14,7 +14,7 @@ use Rattle.board.specs.declared.Verdict.{Verdict}
 use Rattle.board.specs.declared.Verdict.the-variants as verdict
 use Rattle.text.specs.Texts.{parseOf}
 use Rattle.card.specs.declared.layout.Card.{Card}
-use Rattle.card.specs.Decimals.{decimal}
+use Rattle.output.specs.Decimals.{decimal}
 use Rattle.card.specs.Layout.{lineOf, cluesLabel, reportedLabel, sweepsLabel, removedLabel, verdictLabel, gridLabel, gridBytes, refusalBytes}
 
 -- ---- what stands on a card

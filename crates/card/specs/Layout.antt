@@ -11,7 +11,7 @@ use Rattle.candidates.specs.Masks.{lowNine, count}
 use Rattle.candidates.specs.Sets.{onlyOf}
 use Rattle.grid.specs.Cells.{cells}
 use Rattle.steps.specs.Boards.{at}
-use Rattle.card.specs.Decimals.{digitByte, decimal}
+use Rattle.output.specs.Decimals.{digitByte, decimal}
 
 -- a label, what stands after it, and byte 10
 unfoldable pub lineOf : List ℕ → List ℕ → List ℕ
@@ -69,11 +69,3 @@ signed (negsuc n) = 45 ∷ decimal (suc n)
 -- "`refused N P`"
 unfoldable pub refusalBytes : Stop → List ℕ
 refusalBytes s = (refusedLabel ++ decimal (rowOf s .number)) ++ lineOf (32 ∷ []) (signed (rowOf s .detail))
-
--- ---- lent bytes
-
--- bytes over the first of those that are lent: "later bytes keep"
-abbrev pub over : List ℕ → List ℕ → List ℕ
-over [] lent = lent
-over (x ∷ xs) [] = []
-over (x ∷ xs) (y ∷ ys) = x ∷ over xs ys

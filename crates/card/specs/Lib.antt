@@ -1,4 +1,3 @@
-pub mod Decimals
 pub mod Layout
 pub mod Cards
 pub mod code

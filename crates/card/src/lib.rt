@@ -5,7 +5,7 @@ ghost use Prim.Native.Nat.{_≤_};
 ghost use lib.ListN.{length};
 ghost use Rattle.stops.specs.Answer.{map, writingAnswer};
 ghost use Rattle.card.specs.Cards.{cardBytes, cardFor, cardLines, cardOf, refusalLine, textLength};
-ghost use Rattle.card.specs.Layout.{over};
+ghost use Rattle.output.specs.Lent.{over};
 use board::clues::givens_of;
 use board::count_clues;
 use board::fresh::fresh_masks;

@@ -1,7 +1,7 @@
 // Lines of bytes with room for 256, more than any card or refusal has: words, numbers in decimal and cells, one after the other.
 ghost use mathlib.Core.Path.{_≡_};
 ghost use mathlib.Core.List.{[]};
-ghost use Rattle.card.specs.Decimals.{decimal};
+ghost use Rattle.output.specs.Decimals.{decimal};
 ghost use Rattle.card.specs.Layout.{cellByte, gridBytes, signed};
 ghost use Rattle.card.specs.code.Lines.{linesOf, pushed, append};
 use candidates::SingleCandidate;

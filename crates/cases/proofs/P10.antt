@@ -25,7 +25,7 @@ use Rattle.text.specs.Texts.{parseOf}
 use Rattle.card.specs.declared.layout.Card.{Card}
 use Rattle.board.specs.declared.Verdict.the-variants.{Open}
 use Rattle.card.specs.Cards.{cardFor, cardBytes}
-use Rattle.card.specs.Decimals.{digitsIn, decimal}
+use Rattle.output.specs.Decimals.{digitsIn, decimal}
 use Rattle.card.specs.Layout.{lineOf, cellByte}
 use Rattle.cases.specs.Bytes.{p10Text, p10Card}
 use Rattle.cases.specs.Cases.{Case10, freshMasks, onFresh}

@@ -21,7 +21,7 @@ use Rattle.steps.specs.Singles.{nakedSingles, hiddenSingles}
 use Rattle.board.specs.Boards.{openOf}
 use Rattle.text.specs.Texts.{parseOf}
 use Rattle.card.specs.Cards.{printed}
-use Rattle.card.specs.Decimals.{digitsIn, decimal}
+use Rattle.output.specs.Decimals.{digitsIn, decimal}
 use Rattle.card.specs.Layout.{lineOf, refusalBytes}
 use Rattle.cases.specs.Bytes.{p3Text, p2Line, p3Line}
 use Rattle.cases.specs.Grids.{gridOf, gridA, p1, p4Low, p4High, p5, exchanged}

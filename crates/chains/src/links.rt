@@ -5,46 +5,18 @@ ghost use mathlib.Core.List.{[], _∷_, _++_};
 ghost use Prim.Native.Nat.{_+_, _≤_, _<_};
 ghost use lib.Dec.{ltb};
 ghost use Rattle.grid.specs.Units.{inUnit};
+ghost use Rattle.grid.specs.code.Scopes.{inScope};
 ghost use Rattle.steps.specs.Boards.{at};
 ghost use Rattle.steps.specs.Loops.{select};
 ghost use Rattle.chains.specs.code.Lists.{Lists, listed};
 ghost use Rattle.steps.specs.Chains.{twoOf};
-ghost use Rattle.chains.specs.code.Links.{inScope, others, unitCounts, weakIn, strongIn, linksIn};
+ghost use Rattle.chains.specs.code.Links.{others, unitCounts, weakIn, strongIn, linksIn};
 use crate::lists::Cells;
-use grid::are_peers;
 use grid::box_of;
 use grid::col_of;
 use grid::row_of;
-
-// The peers of a cell, or the cells of a unit.
-pub enum Scope {
-    Peers(usize),
-    Unit(usize),
-}
-
-fn lies_in(unit: usize, cell: usize) -> bool
-    ensures { λ r. ⌜ r ≡ inUnit unit cell ⌝ }
-{
-    if unit < 9 {
-        return row_of(cell) == unit;
-    }
-    if unit < 18 {
-        return col_of(cell) == unit - 9;
-    }
-    if unit < 27 {
-        return box_of(cell) == unit - 18;
-    }
-    false
-}
-
-fn in_scope(scope: Scope, cell: u8) -> bool
-    ensures { λ r. ⌜ r ≡ inScope scope cell ⌝ }
-{
-    match scope {
-        Scope::Peers(of) => are_peers(of, cell as usize),
-        Scope::Unit(unit) => lies_in(unit, cell as usize),
-    }
-}
+use grid::scopes::Scope;
+use grid::scopes::in_scope;
 
 fn holders_in(holders: &[u8; 81], count: usize, scope: Scope) -> Cells
     requires { ⌜ count ≤ 81 ⌝ }

@@ -10,7 +10,8 @@ use native.Mathlib.Decide.{ℕ-discrete}
 use native.Mathlib.Omega.{arith}
 use borrow.Author.Tests.{eqb-true, eq-eqb}
 use lib.IntN.{ℤ, pos, negsuc}
-use lib.ListN.{length, getD}
+use lib.ListN.{length, getD, drop, drop-of-length-le}
+use lib.Seq.{drop-cons}
 use Rattle.grid.specs.Lists.{range, select, all, each}
 use Rattle.grid.specs.Fillings.{sameNumber, among, distinct}
 use Rattle.candidates.proofs.Tests.{cond-false, both, both-left, both-right}
@@ -28,6 +29,12 @@ pub place-mem {ℓ} : {A : Type ℓ} (l : List A) (d : A) (i : ℕ) → i < leng
 place-mem [] d i h = absurd (not-suc-le-zero h)
 place-mem (x ∷ xs) d zero h = List·Memᴰ·head refl
 place-mem (x ∷ xs) d (suc i) h = List·Memᴰ·tail (place-mem xs d i (le-of-suc-le-suc h))
+
+-- past which number a list is read does not matter inside it
+pub getD-any {ℓ} : {A : Type ℓ} (l : List A) (i : ℕ) (d e : A) → i < length l → getD l i d ≡ getD l i e
+getD-any [] i d e h = absurd (not-suc-le-zero h)
+getD-any (x ∷ xs) zero d e h = refl
+getD-any (x ∷ xs) (suc i) d e h = getD-any xs i d e (le-of-suc-le-suc h)
 
 -- ---- ranges and selections
 
@@ -112,6 +119,20 @@ module _ {ℓ} {S : Type ℓ} (f : ℕ → S → S) (n i : ℕ) {s whole : S} wh
 
   pub turns-over : n ≤ i → each f (range (n - i) i) s ≡ whole → s ≡ whole
   turns-over h left = sym (each-end f n i s h) ∙ left
+
+-- the same over the members of a list, from place i on
+module _ {ℓ} {S : Type ℓ} (f : ℕ → S → S) (xs : List ℕ) (i : ℕ) {s whole : S} where
+  pub member-done : {next : S} → i < length xs → next ≡ f (getD xs i 0) s → each f (drop i xs) s ≡ whole → each f (drop (i + 1) xs) next ≡ whole
+  unfolding each
+  member-done h e left =
+      ap (each f (drop (i + 1) xs)) e
+      ∙ ap (λ (k : ℕ). each f (drop k xs) (f (getD xs i 0) s)) (add-one i)
+      ∙ ap (λ (ys : List ℕ). each f ys s) (sym (drop-cons xs i 0 h))
+      ∙ left
+
+  pub members-over : length xs ≤ i → each f (drop i xs) s ≡ whole → s ≡ whole
+  unfolding each
+  members-over h left = ap (λ (ys : List ℕ). each f ys s) (sym (drop-of-length-le xs h)) ∙ left
 
 pub all-on : (f : ℕ → Bool) (n i : ℕ) → i < n → f i ≡ true → all f (range (n - i) i) ≡ all f (range (n - (i + 1)) (i + 1))
 all-on f n i h e = ap (all f) (range-on n i h) ∙ ap (λ (t : Bool). t && all f (range (n - (i + 1)) (i + 1))) e

@@ -1,6 +1,6 @@
 -- The 81 cells, and which of them see each other. A cell is its number, 0 to 80.
 use mathlib.Core.Bool.{Bool, not, _&&_, _||_}
-use mathlib.Core.List.{List}
+use mathlib.Core.List.{List, map}
 use Prim.Native.Nat.{ℕ, _+_, _*_, _/_, _%_}
 use lib.Dec.{eqb}
 use Rattle.grid.specs.Lists.{range, select}
@@ -34,3 +34,7 @@ cells = range 81 0
 -- "Peers of a cell: the 20 others that share a unit with it", rising
 unfoldable pub peers : ℕ → List ℕ
 peers c = select (sees c) cells
+
+-- "a peer table of 1,620 cell numbers, 81 rows of 20, rising"
+unfoldable pub peerTable : List (List ℕ)
+peerTable = map peers cells

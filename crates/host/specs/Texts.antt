@@ -6,7 +6,7 @@ use lib.ListN.{length}
 use Rattle.stops.specs.Answer.{map}
 use Rattle.text.specs.Texts.{writeOf, written}
 use Rattle.card.specs.Cards.{cardBytes, cardLines, cardOf}
-use Rattle.card.specs.Layout.{over}
+use Rattle.output.specs.Lent.{over}
 use Rattle.host.specs.Codes.{coded}
 
 -- ---- the text writer, which "returns 81"

@@ -1,4 +1,3 @@
-pub mod Peers
 pub mod Taking
 pub mod PlaceTurns
 pub mod PlaceDue

@@ -6,15 +6,17 @@ mod lones;
 mod places;
 
 use cells::unions;
+use grid::peer_table;
 
 // Lone: a cell that holds nothing but d, or nothing: its peers lose d.
 pub fn lone(givens: &[u8; 81], masks: &mut [u16; 81])
     ensures { λ _. ⌜ now (masks .exit) ≡ pass (now (givens .entry)) Lone (now (masks .entry)) ⌝ }
 {
+    let peers = peer_table();
     let sets = unions::shared_sets(masks);
     let mut cell: usize = 0;
     while cell < 81 {
-        lones::lone_cell(givens, masks, &sets, cell);
+        lones::lone_cell(givens, masks, &peers, &sets, cell);
         cell += 1;
     }
 }

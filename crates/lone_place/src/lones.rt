@@ -1,63 +1,62 @@
 // Lone, by cells and instances.
 ghost use mathlib.Core.Path.{_≡_};
 ghost use Prim.Native.Nat.{_<_};
+ghost use Rattle.grid.specs.Cells.{peerTable};
 ghost use Rattle.steps.specs.Instances.{lone};
 ghost use Rattle.steps.specs.Passes.{instanceTaken};
-ghost use Rattle.lone_place.specs.code.Turns.{othersLose, peersLose, loneCell};
+ghost use Rattle.lone_place.specs.code.Turns.{peersLose, loneCell};
 ghost use Rattle.lone_place.specs.code.Due.{Covers, sharedNear, loneDue};
 use candidates::masks;
-use cells::lose_places;
+use cells::lose_at;
 use cells::mask_at;
 use grid::box_of;
 use grid::col_of;
 use grid::row_of;
 
-// The other open cells of the unit lose the digits of `lost`.
-fn lose_others(givens: &[u8; 81], masks: &mut [u16; 81], unit: usize, place: usize, lost: u16)
-    requires { ⌜ (unit < 27) × (place < 9) ⌝ }
-    ensures { λ _. ⌜ now (masks .exit) ≡ othersLose (now (givens .entry)) unit place lost (now (masks .entry)) ⌝ }
-{
-    let places = masks::lose(511, masks::digit_mask(place));
-    lose_places(givens, masks, unit, places, lost);
-}
-
-// A cell's peers are the other cells of its row, its column and its box.
-fn lose_peers(givens: &[u8; 81], masks: &mut [u16; 81], cell: usize, lost: u16)
-    requires { ⌜ cell < 81 ⌝ }
+// The open peers of the cell lose the digits of `lost`. `peers` is the peer table.
+fn lose_peers(
+    givens: &[u8; 81],
+    masks: &mut [u16; 81],
+    peers: &[[u8; 20]; 81],
+    cell: usize,
+    lost: u16,
+)
+    requires { ⌜ (cell < 81) × (now peers ≡ peerTable) ⌝ }
     ensures { λ _. ⌜ now (masks .exit) ≡ peersLose (now (givens .entry)) cell lost (now (masks .entry)) ⌝ }
 {
-    let row = row_of(cell);
-    let col = col_of(cell);
-    lose_others(givens, masks, row, col, lost);
-    lose_others(givens, masks, 9 + col, row, lost);
-    lose_others(
-        givens,
-        masks,
-        18 + box_of(cell),
-        3 * (row % 3) + col % 3,
-        lost,
-    );
+    let row = peers[cell];
+    let mut i: usize = 0;
+    while i < 20 {
+        lose_at(givens, masks, row[i] as usize, lost);
+        i += 1;
+    }
 }
 
 // One instance.
-fn lone_at(givens: &[u8; 81], masks: &mut [u16; 81], cell: usize, digit: usize)
-    requires { ⌜ (cell < 81) × (digit < 9) ⌝ }
+fn lone_at(
+    givens: &[u8; 81],
+    masks: &mut [u16; 81],
+    peers: &[[u8; 20]; 81],
+    cell: usize,
+    digit: usize,
+)
+    requires { ⌜ (cell < 81) × (digit < 9) × (now peers ≡ peerTable) ⌝ }
     ensures { λ _. ⌜ now (masks .exit) ≡ instanceTaken (now (givens .entry)) (lone cell digit) (now (masks .entry)) ⌝ }
 {
     let one = masks::digit_mask(digit);
     if masks::is_none(masks::meet(mask_at(masks, cell), masks::lose(511, one))) {
-        lose_peers(givens, masks, cell, one);
+        lose_peers(givens, masks, peers, cell, one);
     }
 }
 
 // The instances of a cell.
-fn lone_digits(givens: &[u8; 81], masks: &mut [u16; 81], cell: usize)
-    requires { ⌜ cell < 81 ⌝ }
+fn lone_digits(givens: &[u8; 81], masks: &mut [u16; 81], peers: &[[u8; 20]; 81], cell: usize)
+    requires { ⌜ (cell < 81) × (now peers ≡ peerTable) ⌝ }
     ensures { λ _. ⌜ now (masks .exit) ≡ loneCell (now (givens .entry)) cell (now (masks .entry)) ⌝ }
 {
     let mut digit: usize = 0;
     while digit < 9 {
-        lone_at(givens, masks, cell, digit);
+        lone_at(givens, masks, peers, cell, digit);
         digit += 1;
     }
 }
@@ -85,12 +84,18 @@ fn lone_due(mask: u16, near: u16) -> bool
 }
 
 // The instances of a cell, passed over where none of them loses anything. The sets may be of earlier masks, since masks only shrink.
-pub fn lone_cell(givens: &[u8; 81], masks: &mut [u16; 81], sets: &[u16; 27], cell: usize)
-    requires { ⌜ (cell < 81) × Covers (now sets) (now masks) ⌝ }
+pub fn lone_cell(
+    givens: &[u8; 81],
+    masks: &mut [u16; 81],
+    peers: &[[u8; 20]; 81],
+    sets: &[u16; 27],
+    cell: usize,
+)
+    requires { ⌜ (cell < 81) × Covers (now sets) (now masks) × (now peers ≡ peerTable) ⌝ }
     ensures { λ _. ⌜ now (masks .exit) ≡ loneCell (now (givens .entry)) cell (now (masks .entry)) ⌝ }
 {
     let mask = masks::meet(mask_at(masks, cell), 511);
     if lone_due(mask, shared_near(sets, cell)) {
-        lone_digits(givens, masks, cell);
+        lone_digits(givens, masks, peers, cell);
     }
 }

@@ -3,7 +3,7 @@ ghost use mathlib.Core.Path.{_≡_};
 ghost use Prim.Native.Nat.{_≤_};
 ghost use lib.ListN.{length};
 ghost use Rattle.card.specs.Cards.{cardOf, printed};
-ghost use Rattle.card.specs.Layout.{over};
+ghost use Rattle.output.specs.Lent.{over};
 use libc::STDIN_FILENO;
 use libc::STDOUT_FILENO;
 use stops::Writing;

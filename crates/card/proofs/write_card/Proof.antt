@@ -14,7 +14,7 @@ use Rattle.text.specs.Texts.{parseOf}
 use Rattle.card.specs.declared.layout.Card.{Card}
 use Rattle.card.specs.Cards.{textIn, cardFor, cardOf, cardBytes, cardLines}
 use Rattle.card.specs.code.Lines.{linesOf, append}
-use Rattle.card.specs.Layout.{over}
+use Rattle.output.specs.Lent.{over}
 use Rattle.card.proofs.Cards.{read-short}
 use Rattle.card.proofs.Joins.{stands, room, copied}
 use Rattle.card.proofs.Newlines.{text-most}

@@ -3,7 +3,7 @@ use mathlib.Core.Path.{sym, ap, _∙_}
 use native.Mathlib.Omega.{arith}
 use lib.ListN.{length}
 use Rattle.card.specs.Layout.{refusalBytes}
-use Rattle.card.specs.Layout.{over}
+use Rattle.output.specs.Lent.{over}
 use Rattle.card.proofs.Joins.{room, copied}
 use borrow.Author.Needs.{needs}
 use Rattle.stops.specs.Answer.{writingAnswer}

@@ -9,16 +9,10 @@ use Rattle.grid.specs.Cells.{row, col, box, sees}
 use Rattle.grid.specs.Units.{inUnit}
 use Rattle.steps.specs.Chains.{orElse, firstSome, onPath, twoOf}
 use Rattle.steps.specs.Loops.{for, select, upTo}
-use Rattle.chains.specs.declared.links.Scope.{Scope}
-use Rattle.chains.specs.declared.links.Scope.the-variants as scope
 
 abbrev pub isSome : Option ℕ → Bool
 isSome none = false
 isSome (some e) = true
-
-abbrev pub inScope : Scope → ℕ → Bool
-inScope (scope.Peers c) e = sees c e
-inScope (scope.Unit u) e = inUnit u e
 
 -- those that are not the cell
 abbrev pub others : ℕ → List ℕ → List ℕ

@@ -5,7 +5,7 @@ use Prim.Native.Nat.{ℕ}
 use lib.Dec.{eqb}
 use Rattle.candidates.specs.Masks.{minus, single}
 use Rattle.grid.specs.Cells.{peers}
-use Rattle.grid.specs.Units.{unit, unitCell}
+use Rattle.grid.specs.Units.{unitCell}
 use Rattle.steps.specs.Boards.{isOpen}
 use Rattle.steps.specs.Instances.{lone, place}
 use Rattle.steps.specs.Loops.{each, upTo}
@@ -13,10 +13,6 @@ use Rattle.steps.specs.Passes.{instanceTaken}
 use Rattle.steps.specs.Steps.{loseAt, loseAll}
 
 -- ---- Lone
-
--- the cells of the unit but the one at this place lose the digits of k
-unfoldable pub othersLose : List ℕ → ℕ → ℕ → ℕ → List ℕ → List ℕ
-othersLose g u i k m = loseAll (isOpen g) (unit u) (λ e. cond (eqb e (unitCell u i)) 0 k) m
 
 -- the peers of the cell lose the digits of k
 unfoldable pub peersLose : List ℕ → ℕ → ℕ → List ℕ → List ℕ

@@ -4,7 +4,7 @@ use Prim.Native.Nat.{_≤_}
 use native.Mathlib.Omega.{arith}
 use lib.ListN.{length}
 use lib.Seq.{length-take-le}
-use Rattle.card.proofs.Joins.{over-length}
+use Rattle.output.proofs.Lent.{over-length}
 use borrow.Author.Needs.{needs}
 use Rattle.scorecard.proofs.main.Statement.{statement}
 use Rattle.scorecard.proofs.main.Tie as tie

@@ -6,7 +6,7 @@ use Rattle.stops.specs.Answer.{Answer, writingAnswer}
 use Rattle.stops.specs.declared.Writing.{Writing}
 use Rattle.card.specs.Cards.{cardOf, printed, refusalLine}
 use Rattle.card.specs.declared.layout.Card.{Card}
-use Rattle.card.specs.Layout.{over}
+use Rattle.output.specs.Lent.{over}
 use Rattle.card.proofs.Printed.{card-room, prints-card, prints-refusal}
 use borrow.Author.Needs.{needs}
 use Rattle.scorecard.proofs.print.Statement.{statement}

@@ -2,7 +2,7 @@
 use mathlib.Core.Path.{ap, _∙_}
 use mathlib.Core.List.{[], _++_}
 use Rattle.card.specs.Cards.{cardBytes, verdictWord}
-use Rattle.card.specs.Decimals.{decimal}
+use Rattle.output.specs.Decimals.{decimal}
 use Rattle.card.specs.Layout.{lineOf, cluesLabel, reportedLabel, sweepsLabel, removedLabel, verdictLabel, gridLabel, gridBytes}
 use Rattle.card.specs.code.Lines.{linesOf, append}
 use Rattle.card.proofs.Joins.{joined}

@@ -6,8 +6,8 @@ use native.Mathlib.Numerals.{add-one}
 use native.Mathlib.Omega.{arith}
 use borrow.Author.Needs.{needs}
 use lib.ListN.{length, getD, set, take}
-use Rattle.card.specs.Layout.{over}
-use Rattle.card.proofs.Joins.{over-next}
+use Rattle.output.specs.Lent.{over}
+use Rattle.output.proofs.Lent.{over-next}
 use Rattle.card.proofs.layout.copy_out.Statement.{statement}
 use Rattle.card.proofs.layout.copy_out.Tie as tie
 

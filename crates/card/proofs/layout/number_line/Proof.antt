@@ -1,5 +1,5 @@
 -- `card::layout::number_line` meets its contract. Assumes nothing.
-use Rattle.card.specs.Decimals.{decimal}
+use Rattle.output.specs.Decimals.{decimal}
 use Rattle.card.proofs.Joins.{line-joined}
 use borrow.Author.Needs.{needs}
 use Rattle.card.proofs.layout.number_line.Statement.{statement}

@@ -1,6 +1,6 @@
 -- `card::layout::refusal_lines` meets its contract. Assumes nothing.
 use native.Mathlib.Omega.{arith}
-use Rattle.card.specs.Decimals.{decimal}
+use Rattle.output.specs.Decimals.{decimal}
 use Rattle.card.specs.code.Lines.{linesOf, append}
 use Rattle.card.proofs.Cards.{refusal-short}
 use borrow.Author.Needs.{needs}

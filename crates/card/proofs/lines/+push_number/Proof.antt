@@ -4,10 +4,10 @@ use mathlib.Core.List.{List, [], _∷_}
 use Prim.Native.Nat.{ℕ, _<_, _/_, _%_}
 use native.Mathlib.Nat.{div-lt-self}
 use native.Mathlib.Omega.{arith}
-use Rattle.card.specs.Decimals.{digitByte, decimal}
+use Rattle.output.specs.Decimals.{digitByte, decimal}
 use Rattle.card.specs.declared.lines.Lines.{Lines}
 use Rattle.card.specs.code.Lines.{pushed, append}
-use Rattle.card.proofs.Decimals.{decimal-one, decimal-more}
+use Rattle.output.proofs.Decimals.{decimal-one, decimal-more}
 use Rattle.card.proofs.Joins.{append-one, append-both}
 use borrow.Fn.Kinds.{In}
 use borrow.Fn.PlainCycle.{Measures, is, falls, and}

@@ -9,7 +9,7 @@ use mir.Val.{Fits}
 use Rattle.candidates.specs.Sets.{singleCandidateOf}
 use Rattle.candidates.specs.declared.SingleCandidate.the-variants as only
 use Rattle.candidates.proofs.Only.{Only, single-tells, digit-read, digit-fits}
-use Rattle.card.specs.Decimals.{digitByte}
+use Rattle.output.specs.Decimals.{digitByte}
 use Rattle.card.proofs.CellBytes.{cell-said}
 use Rattle.card.proofs.lines.cell_byte.Statement.{statement}
 use Rattle.card.proofs.lines.cell_byte.Tie as tie

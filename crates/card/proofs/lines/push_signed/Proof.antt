@@ -10,7 +10,7 @@ use lib.Signed.{nonNeg}
 use mir.Facts.{toZ-ofZ}
 use mir.Syntax.{w64}
 use mir.Val.{Fits, SFits, toZ, ofZ}
-use Rattle.card.specs.Decimals.{decimal}
+use Rattle.output.specs.Decimals.{decimal}
 use Rattle.card.specs.code.Lines.{append}
 use Rattle.card.proofs.Joins.{append-one, joined}
 use Rattle.card.proofs.Signs.{Negative, negative, Positive, positive}

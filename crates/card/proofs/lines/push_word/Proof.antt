@@ -1,11 +1,11 @@
 -- `card::lines::push_word` meets its contract. The invariant: the bytes from i on still make all of the word. Assumes nothing.
-use mathlib.Core.Path.{_≡_, refl, sym, ap, _∙_}
-use Prim.Native.Nat.{_-_, _+_}
+use mathlib.Core.Path.{_≡_, refl}
+use Prim.Native.Nat.{_-_}
 use native.Mathlib.Omega.{arith}
 use borrow.Author.Needs.{needs}
 use lib.ListN.{length, drop}
-use Rattle.card.specs.code.Lines.{append}
-use Rattle.card.proofs.Joins.{word-on, word-end}
+use Rattle.grid.proofs.Lists.{member-done, members-over}
+use Rattle.card.specs.code.Lines.{pushed, append}
 use Rattle.card.proofs.lines.push_word.Statement.{statement}
 use Rattle.card.proofs.lines.push_word.Tie as tie
 
@@ -31,15 +31,16 @@ loop-less : tie.Need-loop-less Inv-loop μ-loop
 loop-less c = omega arith
 
 loop-again : tie.Need-loop-again Inv-loop μ-loop
+unfolding append
 loop-again c =
     let l = c .before .before .before in
-    let word = l .before .before .args .word .now in
-    ap (append (drop (l .loop .i + 1) word)) (c .push .ensures) ∙ word-on word (l .loop .i) (l .loop .longer) (c .before .before .loop-test .taken) ∙ l .loop .inv
+    member-done (λ b q. pushed q b) (l .before .before .args .word .now) (l .loop .i) (c .before .before .loop-test .taken) (c .push .ensures) (l .loop .inv)
 
 returns : tie.Need-returns Inv-loop μ-loop
+unfolding append
 returns c =
     let l = c .before in
-    sym (word-end (l .before .before .args .word .now) (l .loop .i) (l .loop .longer) (c .loop-test .left)) ∙ l .loop .inv
+    members-over (λ b q. pushed q b) (l .before .before .args .word .now) (l .loop .i) (c .loop-test .left) (l .loop .inv)
 
 pub push-word-spec : {M : Type 1} → statement M
 push-word-spec =

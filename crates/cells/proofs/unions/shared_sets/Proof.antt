@@ -11,17 +11,22 @@ use Rattle.cells.proofs.unions.shared_sets.Statement.{statement}
 use Rattle.cells.proofs.unions.shared_sets.Tie as tie
 
 abbrev Inv-loop : tie.InvT-loop
-Inv-loop masks sets₀ unit₀ sets unit = filled (λ u. sharedOf (allMasks masks u)) 27 unit sets ≡ sharedSets masks
+Inv-loop masks units sets₀ unit₀ sets unit = filled (λ u. sharedOf (allMasks masks u)) 27 unit sets ≡ sharedSets masks
 
 abbrev μ-loop : tie.MeasureT-loop
-μ-loop masks sets₀ unit₀ sets unit = 27 - unit
+μ-loop masks units sets₀ unit₀ sets unit = 27 - unit
+
+unit-table-requires : tie.Need-unit-table-requires Inv-loop μ-loop
+unit-table-requires c κs = search needs
 
 loop-holds : tie.Need-loop-holds Inv-loop μ-loop
 unfolding sharedSets
 loop-holds c = fill-start _ 27 (replicate 27 0) refl
 
-all-masks-requires : tie.Need-all-masks-requires Inv-loop μ-loop
-all-masks-requires c κs = search needs
+listed-masks-requires : tie.Need-listed-masks-requires Inv-loop μ-loop
+listed-masks-requires c κs =
+    let inside = c .before in
+    (inside .loop-test .taken, inside .before .before .unit-table .ensures)
 
 shared-requires : tie.Need-shared-requires Inv-loop μ-loop
 shared-requires c κs = search needs
@@ -41,8 +46,8 @@ loop-less c = omega arith
 loop-again : tie.Need-loop-again Inv-loop μ-loop
 loop-again c =
     let nine = c .before .before in
-    let l = nine .before .before in
-    fill-on _ 27 (l .loop .unit) (l .loop .sets) (l .loop .inv) (omega arith) (c .shared .ensures ∙ ap sharedOf (nine .all-masks .ensures))
+    let l = nine .before .before .before in
+    fill-on _ 27 (l .loop .unit) (l .loop .sets) (l .loop .inv) (omega arith) (c .shared .ensures ∙ ap sharedOf (nine .listed-masks .ensures))
 
 returns : tie.Need-returns Inv-loop μ-loop
 returns c = fill-end _ 27 (c .before .loop .unit) (c .before .loop .sets) (c .before .loop .inv) (c .loop-test .left)
@@ -53,8 +58,9 @@ shared-sets-spec =
     (tie.spec
     Inv-loop
     μ-loop
+    unit-table-requires
     loop-holds
-    all-masks-requires
+    listed-masks-requires
     shared-requires
     mul-sets
     array-write-sets

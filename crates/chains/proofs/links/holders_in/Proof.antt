@@ -6,7 +6,7 @@ use native.Mathlib.Omega.{arith}
 use borrow.Author.Needs.{needs}
 use Rattle.steps.specs.Loops.{select}
 use Rattle.chains.specs.code.Lists.{listed}
-use Rattle.chains.specs.code.Links.{inScope}
+use Rattle.grid.specs.code.Scopes.{inScope}
 use Rattle.chains.proofs.Listing.{rest, rest-all, rest-on, rest-end, Gathered, none-yet, chosen, passed, all-looked-at}
 use Rattle.chains.proofs.links.holders_in.Statement.{statement}
 use Rattle.chains.proofs.links.holders_in.Tie as tie

@@ -21,7 +21,9 @@ lone-due-requires : tie.Need-lone-due-requires
 lone-due-requires c κs = search needs
 
 lone-digits-requires : tie.Need-lone-digits-requires
-lone-digits-requires c κs = c .before .before .before .before .before .before .before .pre .0
+lone-digits-requires c κs =
+    let p = c .before .before .before .before .before .before .before .pre in
+    (p .0, p .2)
 
 returns : tie.Need-returns
 returns c = c .lone-digits .ensures

@@ -16,17 +16,19 @@ turn : List ℕ → ℕ → ℕ → List ℕ → List ℕ
 turn g c d m = instanceTaken g (lone c d) m
 
 abbrev Inv-loop : tie.InvT-loop
-Inv-loop givens masks₀ cell digit₀ masks digit = (digit ≤ 9) × (each (turn givens cell) (range (9 - digit) digit) masks ≡ loneCell givens cell masks₀)
+Inv-loop givens masks₀ peers cell digit₀ masks digit = (digit ≤ 9) × (each (turn givens cell) (range (9 - digit) digit) masks ≡ loneCell givens cell masks₀)
 
 abbrev μ-loop : tie.MeasureT-loop
-μ-loop givens masks₀ cell digit₀ masks digit = 9 - digit
+μ-loop givens masks₀ peers cell digit₀ masks digit = 9 - digit
 
 loop-holds : tie.Need-loop-holds Inv-loop μ-loop
 unfolding loneCell turn
 loop-holds c = (omega arith, refl)
 
 lone-at-requires : tie.Need-lone-at-requires Inv-loop μ-loop
-lone-at-requires c κs = omega arith
+lone-at-requires c κs =
+    let p = c .before .before .before .pre in
+    (p .0, c .before .loop-test .taken, p .1)
 
 add-digit : tie.Need-add-digit Inv-loop μ-loop
 add-digit c = omega arith

@@ -9,7 +9,7 @@ use borrow.Author.Tests.{lt-ltb, le-ltb}
 use lib.Dec.{ltb}
 use lib.ListN.{length, length-append}
 use Rattle.candidates.proofs.Tests.{cond-true, cond-false}
-use Rattle.card.specs.Decimals.{digitByte, digitsIn, decimal}
+use Rattle.output.specs.Decimals.{digitByte, digitsIn, decimal}
 
 module _ (k n : ℕ) where
   one-digit : n < 10 → digitsIn (suc k) n ≡ digitByte n ∷ []

@@ -1,4 +1,4 @@
--- `chains::links::lies_in` meets its contract. Assumes nothing.
+-- `grid::scopes::in_unit` meets its contract. Assumes nothing.
 use mathlib.Core.Path.{sym, ap, _∙_}
 use Prim.Native.Nat.{ℕ, _-_}
 use native.Mathlib.Omega.{arith}
@@ -6,8 +6,8 @@ use borrow.Author.Needs.{needs}
 use borrow.Author.Tests.{lt-ltb, le-ltb}
 use lib.Dec.{eqb, ltb}
 use Rattle.candidates.proofs.Tests.{cond-true, cond-false}
-use Rattle.chains.proofs.links.lies_in.Statement.{statement}
-use Rattle.chains.proofs.links.lies_in.Tie as tie
+use Rattle.grid.proofs.scopes.in_unit.Statement.{statement}
+use Rattle.grid.proofs.scopes.in_unit.Tie as tie
 
 row-of-requires : tie.Need-row-of-requires
 row-of-requires c κs = search needs
@@ -40,8 +40,8 @@ returns-4 c =
     let a = c .before .before .before .args in
     sym (cond-false (ltb (a .unit) 9) _ _ (le-ltb (a .unit) 9 (omega arith)) ∙ cond-false (ltb (a .unit) 18) _ _ (le-ltb (a .unit) 18 (omega arith)) ∙ cond-false (ltb (a .unit) 27) _ _ (le-ltb (a .unit) 27 (omega arith)))
 
-pub lies-in-spec : {M : Type 1} → statement M
-lies-in-spec =
+pub in-unit-spec : {M : Type 1} → statement M
+in-unit-spec =
     tie.close
     (tie.spec
     row-of-requires

@@ -1,0 +1,3 @@
+mod Tapes
+mod Numbers
+mod Texts

@@ -1,0 +1,49 @@
+-- `table_text::rows::push_entry` meets its contract. Assumes nothing.
+use mathlib.Core.Path.{sym, ap, _∙_}
+use mathlib.Core.Bool.{Bool}
+use mathlib.Core.List.{[], _∷_}
+use borrow.Author.Needs.{needs}
+use Rattle.output.specs.Decimals.{decimal}
+use Rattle.table_text.specs.code.Pushes.{tape, append, entry}
+use Rattle.table_text.proofs.Tapes.{joined}
+use Rattle.table_text.proofs.rows.push_entry.Statement.{statement}
+use Rattle.table_text.proofs.rows.push_entry.Tie as tie
+
+push-number-requires : tie.Need-push-number-requires
+push-number-requires c κs = search needs
+
+returns : tie.Need-returns
+unfolding entry
+returns c =
+    let then = c .before .before in
+    let a = then .before .args in
+    c .push-number .ensures ∙ ap (λ (first : Bool). append (entry first (a .n)) (tape (a .text .now) (a .at))) (sym (then .if1 .taken))
+
+slice-aggregate-push-word : tie.Need-slice-aggregate-push-word
+slice-aggregate-push-word c = search needs
+
+push-word-requires : tie.Need-push-word-requires
+push-word-requires c κs = search needs
+
+push-number-requires-2 : tie.Need-push-number-requires-2
+push-number-requires-2 c κs = search needs
+
+returns-2 : tie.Need-returns-2
+unfolding entry
+returns-2 c =
+    let word = c .before .before in
+    let else = word .before .before .before in
+    let a = else .before .args in
+    joined (44 ∷ 32 ∷ []) (decimal (a .n)) (tape (a .text .now) (a .at)) (word .push-word .ensures) (c .push-number2 .ensures)
+    ∙ ap (λ (first : Bool). append (entry first (a .n)) (tape (a .text .now) (a .at))) (sym (else .if1 .left))
+
+pub push-entry-spec : {M : Type 1} → statement M
+push-entry-spec =
+    tie.close
+    (tie.spec
+    push-number-requires
+    returns
+    slice-aggregate-push-word
+    push-word-requires
+    push-number-requires-2
+    returns-2)

@@ -1,0 +1,38 @@
+-- `table_text::rows::push_row` meets its contract. Assumes nothing.
+use mathlib.Core.Path.{_∙_}
+use borrow.Author.Needs.{needs}
+use Rattle.table_text.specs.code.Pushes.{tape, inRow}
+use Rattle.table_text.proofs.Tapes.{append-one}
+use Rattle.table_text.proofs.Texts.{row-joined}
+use Rattle.table_text.proofs.rows.push_row.Statement.{statement}
+use Rattle.table_text.proofs.rows.push_row.Tie as tie
+
+push-requires : tie.Need-push-requires
+push-requires c κs = search needs
+
+push-cells-requires : tie.Need-push-cells-requires
+push-cells-requires c κs = search needs
+
+slice-aggregate-push-word : tie.Need-slice-aggregate-push-word
+slice-aggregate-push-word c = search needs
+
+push-word-requires : tie.Need-push-word-requires
+push-word-requires c κs = search needs
+
+returns : tie.Need-returns
+returns c =
+    let cells = c .before .before .before in
+    let bracket = cells .before .before in
+    let a = bracket .before .before .args in
+    let t = tape (a .text .now) (a .at) in
+    row-joined t (inRow (a .scope)) (bracket .push .ensures ∙ append-one 91 t) (cells .push-cells .ensures) (c .push-word .ensures)
+
+pub push-row-spec : {M : Type 1} → statement M
+push-row-spec =
+    tie.close
+    (tie.spec
+    push-requires
+    push-cells-requires
+    slice-aggregate-push-word
+    push-word-requires
+    returns)

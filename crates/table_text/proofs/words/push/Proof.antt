@@ -1,0 +1,32 @@
+-- `table_text::words::push` meets its contract. Assumes nothing.
+use mathlib.Core.Path.{sym}
+use Prim.Native.Nat.{_+_}
+use borrow.Author.Needs.{needs}
+use borrow.Author.Tests.{lt-ltb, le-ltb}
+use lib.Dec.{ltb}
+use lib.ListN.{set}
+use Rattle.candidates.proofs.Tests.{cond-true, cond-false}
+use Rattle.table_text.specs.code.Pushes.{tape, pushed}
+use Rattle.table_text.proofs.words.push.Statement.{statement}
+use Rattle.table_text.proofs.words.push.Tie as tie
+
+element-write-text : tie.Need-element-write-text
+element-write-text c = search needs
+
+add-result : tie.Need-add-result
+add-result c = search needs
+
+returns : tie.Need-returns
+unfolding pushed
+returns c =
+    let a = c .before .args in
+    sym (cond-true (ltb (a .at) 7515) (tape (set (a .text .now) (a .at) (a .byte)) (a .at + 1)) (tape (a .text .now) (a .at)) (lt-ltb (a .at) 7515 (c .if1 .taken)))
+
+returns-2 : tie.Need-returns-2
+unfolding pushed
+returns-2 c =
+    let a = c .before .args in
+    sym (cond-false (ltb (a .at) 7515) (tape (set (a .text .now) (a .at) (a .byte)) (a .at + 1)) (tape (a .text .now) (a .at)) (le-ltb (a .at) 7515 (c .if1 .left)))
+
+pub push-spec : {M : Type 1} → statement M
+push-spec = tie.close (tie.spec element-write-text add-result returns returns-2)

@@ -1,0 +1,59 @@
+-- `table_text::words::push_number` meets its contract. Assumes nothing.
+use mathlib.Core.Path.{sym, ap, _∙_}
+use mathlib.Core.List.{List, [], _∷_}
+use Prim.Native.Nat.{ℕ, _/_, _%_}
+use borrow.Author.Needs.{needs}
+use Rattle.output.specs.Decimals.{digitByte}
+use Rattle.output.proofs.Decimals.{decimal-one}
+use Rattle.table_text.specs.code.Pushes.{tape, append}
+use Rattle.table_text.proofs.Tapes.{append-one, joined}
+use Rattle.table_text.proofs.Numbers.{two-digits}
+use Rattle.table_text.proofs.words.push_number.Statement.{statement}
+use Rattle.table_text.proofs.words.push_number.Tie as tie
+
+add-push : tie.Need-add-push
+add-push c = search needs
+
+push-requires : tie.Need-push-requires
+push-requires c κs = search needs
+
+returns : tie.Need-returns
+returns c =
+    let small = c .before .before in
+    let a = small .before .args in
+    c .push .ensures ∙ append-one (digitByte (a .n)) (tape (a .text .now) (a .at)) ∙ ap (λ (bs : List ℕ). append bs (tape (a .text .now) (a .at))) (sym (decimal-one (a .n) (small .if1 .taken)))
+
+add-push-2 : tie.Need-add-push-2
+add-push-2 c = search needs
+
+push-requires-2 : tie.Need-push-requires-2
+push-requires-2 c κs = search needs
+
+add-push-3 : tie.Need-add-push-3
+add-push-3 c = search needs
+
+push-requires-3 : tie.Need-push-requires-3
+push-requires-3 c κs = search needs
+
+returns-2 : tie.Need-returns-2
+returns-2 c =
+    let tens = c .before .before in
+    let large = tens .before .before in
+    let start = large .before in
+    let a = start .args in
+    let t = tape (a .text .now) (a .at) in
+    joined (digitByte (a .n / 10) ∷ []) (digitByte (a .n % 10) ∷ []) t (tens .push2 .ensures ∙ append-one (digitByte (a .n / 10)) t) (c .push3 .ensures ∙ append-one (digitByte (a .n % 10)) _)
+    ∙ ap (λ (bs : List ℕ). append bs t) (two-digits (a .n) (large .if1 .left) (start .pre))
+
+pub push-number-spec : {M : Type 1} → statement M
+push-number-spec =
+    tie.close
+    (tie.spec
+    add-push
+    push-requires
+    returns
+    add-push-2
+    push-requires-2
+    add-push-3
+    push-requires-3
+    returns-2)
