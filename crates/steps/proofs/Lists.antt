@@ -24,11 +24,11 @@ use Rattle.steps.proofs.Fresh.{fresh-admissible, total-most}
 use Rattle.steps.proofs.Ported.{nakedPairs-reach, boxLines-reach, xWings-reach}
 use Rattle.steps.proofs.Masks.{total-under}
 use Rattle.steps.proofs.Reach.{Reach, start, reach-trans, reach-eq, reach-under, reach-length, reach-admissible, reach-keeps, pass-reach, one-end}
-use Rattle.steps.proofs.Settling.{Settling, settles-in}
+use Rattle.steps.proofs.Settling.{SettledIn, settles-in}
 
 -- ---- one call
 
-settling-from : (g m : List ℕ) → Givens g → Admissible g m → Settling g m (settle g m)
+settling-from : (g m : List ℕ) → Givens g → Admissible g m → SettledIn g m (settle g m)
 settling-from g m ok a = settles-in g 730 m (omega (arith, total-most g m ok a))
 
 -- its masks come by wide instances, or are the fresh ones again

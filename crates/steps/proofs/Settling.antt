@@ -34,7 +34,7 @@ each-still {A} f down long (y ∷ ys) m e x k =
     first = under-antisym (long y m) (down y m) (subst (λ (n : List ℕ). Under n (f y m)) e (lower ys (f y m)))
 
 -- what an induction over the sweeps shows of settling
-pub record Settling (g m : List ℕ) (s : Sweeps) : Type 0 where
+pub record SettledIn (g m : List ℕ) (s : Sweeps) : Type 0 where
   pub ends : Settled g (s .left)
   pub reach : Reach g m (s .left)
   pub some : 0 < s .sweeps
@@ -63,7 +63,7 @@ module _ (g : List ℕ) where
 
   -- ---- sweeps as module 9 counts them
 
-  settles-now : (m : List ℕ) → m ≡ sweep g m → Settling g m (record { sweeps = 1; left = sweep g m })
+  settles-now : (m : List ℕ) → m ≡ sweep g m → SettledIn g m (record { sweeps = 1; left = sweep g m })
   unfolding swept
   settles-now m e =
       record {
@@ -76,7 +76,7 @@ module _ (g : List ℕ) where
         goes = λ j h. absurd (omega arith);
       }
 
-  settles-later : (m : List ℕ) (s : Sweeps) → m ≢ sweep g m → total (sweep g m) < total m → Settling g (sweep g m) s → Settling g m (record { sweeps = s .sweeps + 1; left = s .left })
+  settles-later : (m : List ℕ) (s : Sweeps) → m ≢ sweep g m → total (sweep g m) < total m → SettledIn g (sweep g m) s → SettledIn g m (record { sweeps = s .sweeps + 1; left = s .left })
   unfolding swept
   settles-later m s d less t =
       record {
@@ -96,11 +96,11 @@ module _ (g : List ℕ) where
       goes zero h = λ e. d (sym e)
       goes (suc j) h = t .goes j (omega arith)
 
-  pub settles-in : (n : ℕ) (m : List ℕ) → total m < n → Settling g m (settleIn n g m)
+  pub settles-in : (n : ℕ) (m : List ℕ) → total m < n → SettledIn g m (settleIn n g m)
   unfolding settleIn
   settles-in zero m h = absurd (omega arith)
   settles-in (suc n) m h =
-      by-test (Settling g m) _ _ _ (λ t. settles-now m (same-eq m (sweep g m) t))
+      by-test (SettledIn g m) _ _ _ (λ t. settles-now m (same-eq m (sweep g m) t))
       (λ t. settles-later m (settleIn n g (sweep g m)) (differ m (sweep g m) t) (less t) (settles-in n (sweep g m) (omega (arith, less t))))
     where
       less : sameMasks m (sweep g m) ≡ false → total (sweep g m) < total m
