@@ -92,7 +92,9 @@ def opened(clues):
 
 def verdict(masks):
     counts = [bin(number).count("1") for number in masks]
-    return "dead" if 0 in counts else "finished" if counts == [1] * 81 else "open"
+    # document 02, F-4: one digit in every cell is finished only if no two peers have the same
+    repeats = any(masks[cell] == masks[peer] for cell in range(81) for peer in PEERS[cell])
+    return "dead" if 0 in counts else "open" if counts != [1] * 81 else "dead" if repeats else "finished"
 
 
 def calls(a, at, clues, masks):
@@ -145,11 +147,11 @@ for at in [0, 80]:
 calls(6, 0, grid(c1=1, c80=10), [511] * 81)
 calls(7, 0, grid(c0=-1, c1=1, c80=10), [511] * 81)
 calls(8, 0, grid(c80=1), [511] * 81)
-for a, text in [(9, A), (10, "." + A[1:80] + "."), (11, "0..4567893" + "." * 71)]:
+for a, text in [(9, A), (10, "." + A[1:80] + "."), (11, "0..4567893" + "." * 71), (12, "21" + A[2:])]:
     clues = [0 if letter == "." else int(letter) for letter in text]
     for at in [0, 80, 81, 4294967295]:
         calls(a, at, clues, fresh(clues))
     for lent in [0, 80, 81, 100]:
         write(a, lent, clues)
 for lent in [0, 80, 81, 100]:
-    write(12, lent, put([9] * 81, 80, 10))
+    write(13, lent, put([9] * 81, 80, 10))

@@ -118,7 +118,9 @@ def card(data):
     board = Board(clues)
     sweeps, removed = board.settle()
     counts = [len(digits) for digits in board.sets]
-    verdict = "dead" if 0 in counts else "finished" if counts == [1] * 81 else "open"
+    # document 02, F-4: one digit in every cell is finished only if no unit repeats one
+    correct = all(set().union(*(board.sets[cell] for cell in unit)) == set(DIGITS) for unit in UNITS)
+    verdict = "dead" if 0 in counts else "open" if counts != [1] * 81 else "finished" if correct else "dead"
     line = "".join("!" if not digits else str(min(digits)) if len(digits) == 1 else "." for digits in board.sets)
     return (
         f"clues {sum(clue != 0 for clue in clues)}\nreported {reported}\nsweeps {sweeps}\nremoved {removed}\n"
@@ -158,6 +160,7 @@ INPUTS = [
     A,
     b"." + A[1:],
     b"11" + A[2:],
+    b"21" + A[2:],
     P8,
     P11,
     PUZZLE,

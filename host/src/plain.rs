@@ -496,7 +496,12 @@ pub fn verdict(clues: &Clues, masks: &Masks) -> Result<&'static str, Stop> {
     if masks.contains(&0) {
         return Ok("dead");
     }
-    Ok(if masks.iter().all(|mask| mask.count_ones() == 1) { "finished" } else { "open" })
+    if masks.iter().any(|mask| mask.count_ones() > 1) {
+        return Ok("open");
+    }
+    // "`finished` is printed only if the 81 digits also pass the verifier" (document 02, F-4)
+    let digits = masks.map(|mask| mask.trailing_zeros() as i32 + 1);
+    Ok(if verify(&digits) { "finished" } else { "dead" })
 }
 
 pub fn one_mask(clues: &Clues, masks: &Masks, cell: usize) -> Result<u16, Stop> {

@@ -143,6 +143,18 @@ fn p11_conflicting_clues() {
 }
 
 /// docs/DIFFERENCES.md: the chain pass, in the Rust too, removes a digit that a correct filling takes.
+/// Document 02, F-4: 81 clues are finished only where they pass the verifier.
+#[test]
+fn full_grids() {
+    let right = of_text(GRID_A);
+    let mut exchanged = right;
+    exchanged.swap(0, 1);
+    for (clues, verdict) in [(right, "finished"), (exchanged, "dead")] {
+        assert_eq!(plain::verdict(&clues, &fresh(&clues)), Ok(verdict));
+        assert_eq!(sudoku_host::verdict(&clues, &fresh(&clues)), Ok(verdict));
+    }
+}
+
 #[test]
 fn the_chain_pass_can_cost_a_filling() {
     let mut clues = OPEN;

@@ -13,6 +13,7 @@ use Rattle.candidates.specs.Masks.{lowNine, count}
 use Rattle.candidates.proofs.Order.{sub-le}
 use Rattle.candidates.proofs.Tests.{by-test, cond-true, cond-false}
 use Rattle.grid.specs.Cells.{cells}
+use Rattle.grid.specs.Fillings.{verified}
 use Rattle.grid.specs.Lists.{range, all}
 use Rattle.grid.proofs.Lists.{range-on, range-end}
 use Rattle.steps.specs.Boards as S
@@ -22,7 +23,7 @@ use Rattle.steps.specs.Loops.{first}
 use Rattle.steps.proofs.Check.{clues-givens, fitting, stops-none}
 use Rattle.steps.proofs.Fresh.{freshAt-small}
 use Rattle.steps.proofs.Searches.{none-cells}
-use Rattle.board.specs.Boards.{clueCount, cellMask, noneEmpty, allSingle, verdictOf}
+use Rattle.board.specs.Boards.{clueCount, cellMask, noneEmpty, allSingle, onlyDigits, verdictOf}
 use Rattle.board.specs.declared.Verdict.the-variants.{Finished, Open, Dead}
 use Rattle.grid.proofs.Cells.{all-cells}
 
@@ -62,13 +63,16 @@ module _ (m : List ℕ) (c : ℕ) where
 module _ (m : List ℕ) where
   pub is-dead : noneEmpty m ≡ false → Dead ≡ verdictOf m
   unfolding verdictOf
-  is-dead e = sym (cond-false (noneEmpty m) (cond (allSingle m) Finished Open) Dead e)
+  is-dead e = sym (cond-false (noneEmpty m) (cond (allSingle m) (cond (verified (onlyDigits m)) Finished Dead) Open) Dead e)
 
   module _ (e : noneEmpty m ≡ true) where
-    pub is-finished : allSingle m ≡ true → Finished ≡ verdictOf m
+    some : verdictOf m ≡ cond (allSingle m) (cond (verified (onlyDigits m)) Finished Dead) Open
     unfolding verdictOf
-    is-finished t = sym (cond-true (allSingle m) Finished Open t) ∙ sym (cond-true (noneEmpty m) (cond (allSingle m) Finished Open) Dead e)
+    some = cond-true (noneEmpty m) (cond (allSingle m) (cond (verified (onlyDigits m)) Finished Dead) Open) Dead e
 
     pub is-open : allSingle m ≡ false → Open ≡ verdictOf m
-    unfolding verdictOf
-    is-open t = sym (cond-false (allSingle m) Finished Open t) ∙ sym (cond-true (noneEmpty m) (cond (allSingle m) Finished Open) Dead e)
+    is-open t = sym (some ∙ cond-false (allSingle m) (cond (verified (onlyDigits m)) Finished Dead) Open t)
+
+    -- each cell holds one digit: the verifier decides
+    pub is-full : allSingle m ≡ true → verdictOf m ≡ cond (verified (onlyDigits m)) Finished Dead
+    is-full t = some ∙ cond-true (allSingle m) (cond (verified (onlyDigits m)) Finished Dead) Open t

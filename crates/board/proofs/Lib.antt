@@ -2,3 +2,4 @@ pub mod Signs
 pub mod Taken
 pub mod Checks
 pub mod Answered
+pub mod VerdictSays

@@ -1,6 +1,6 @@
 -- What the calls of this crate answer on a board (modules 2 and 13, and the accessors).
 use mathlib.Core.Bool.{Bool, cond, not}
-use mathlib.Core.List.{List, [], _∷_}
+use mathlib.Core.List.{List, [], _∷_, map}
 use Prim.Native.Nat.{ℕ, suc}
 use lib.Dec.{eqb, ltb}
 use lib.IntN.{ℤ, pos}
@@ -8,7 +8,9 @@ use lib.ListN.{replicate}
 use Rattle.stops.specs.Answer.{Answer, gives, stop, passing, stopAt}
 use Rattle.stops.specs.declared.Stop.the-variants.{BadClue, NoCell}
 use Rattle.candidates.specs.Masks.{lowNine, count}
+use Rattle.candidates.specs.Sets.{onlyOf, digitOr0}
 use Rattle.grid.specs.Cells.{cells}
+use Rattle.grid.specs.Fillings.{verified}
 use Rattle.grid.specs.Lists.{all}
 use Rattle.steps.specs.Boards as S
 use Rattle.steps.specs.Boards.{at, isOpen}
@@ -55,6 +57,10 @@ noneEmpty m = all (λ c. not (eqb (count (lowNine (at m c))) 0)) cells
 abbrev pub allSingle : List ℕ → Bool
 allSingle m = all (λ c. eqb (count (lowNine (at m c))) 1) cells
 
--- "`dead` if some mask is empty, else `finished` if all 81 hold one digit, else `open`"
+-- the digit of each cell that holds one, else 0
+unfoldable pub onlyDigits : List ℕ → List ℤ
+onlyDigits m = map (λ c. digitOr0 (onlyOf (at m c))) cells
+
+-- "`dead` if some mask is empty", `open` if some mask holds several, else "`finished` .. only if the 81 digits also pass the verifier. A board with one digit in every cell that fails it is `dead`." (document 02, F-4)
 unfoldable pub verdictOf : List ℕ → Verdict
-verdictOf m = cond (noneEmpty m) (cond (allSingle m) Finished Open) Dead
+verdictOf m = cond (noneEmpty m) (cond (allSingle m) (cond (verified (onlyDigits m)) Finished Dead) Open) Dead

@@ -1,3 +1,4 @@
 pub mod Boards
+pub mod Verdicts
 pub mod Answers
 pub mod code

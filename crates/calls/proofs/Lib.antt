@@ -2,3 +2,4 @@ pub mod Numbers
 pub mod Arms
 pub mod Runs
 pub mod Demand3
+pub mod Verdicts

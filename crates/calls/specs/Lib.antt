@@ -1,3 +1,4 @@
 pub mod StepNumbers
 pub mod Replays
 pub mod Demand3
+pub mod Verdicts

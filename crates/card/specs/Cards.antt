@@ -1,4 +1,5 @@
 -- The card (module 15): what stands on it, and its bytes.
+use mathlib.Core.Path.{_≡_}
 use mathlib.Core.Bool.{cond}
 use mathlib.Core.List.{List, [], _∷_, _++_}
 use Prim.Native.Nat.{ℕ, _-_}
@@ -7,9 +8,12 @@ use lib.IntN.{ℤ}
 use lib.ListN.{length, getD, take}
 use Rattle.stops.specs.Answer.{Answer, gives, stop, map, valueOr}
 use Rattle.grid.specs.Cells.{cells}
+use Rattle.grid.specs.Fillings.{Correct}
 use Rattle.steps.specs.Boards.{givensOf, fresh}
 use Rattle.steps.specs.Calls.{advancedCall, settlingCall, outcome}
-use Rattle.board.specs.Boards.{clueCount, verdictOf}
+use Rattle.steps.specs.Fillings.{KeepsClues}
+use Rattle.board.specs.Boards.{clueCount, onlyDigits, verdictOf}
+use Rattle.board.specs.Verdicts.{OneSolution}
 use Rattle.board.specs.declared.Verdict.{Verdict}
 use Rattle.board.specs.declared.Verdict.the-variants as verdict
 use Rattle.text.specs.Texts.{parseOf}
@@ -75,3 +79,13 @@ cardLines a = valueOr [] (map cardBytes a)
 abbrev pub refusalLine : Answer ℕ → List ℕ
 refusalLine (gives n) = []
 refusalLine (stop s) = refusalBytes s
+
+-- ---- what its verdict says
+
+-- Beyond the demands: a finished card is of a puzzle with one solution, the digits of its last line, and a dead one of a puzzle with none.
+pub record CardSays (clues : List ℤ) : Type 0 where
+  pub finished : cardFor clues .verdict ≡ verdict.Finished → OneSolution clues (onlyDigits (cardFor clues .masks))
+  pub dead : cardFor clues .verdict ≡ verdict.Dead → (f : List ℤ) → Correct f → ¬ (KeepsClues clues f)
+
+pub record CardsSay : Type 0 where
+  pub read : (input : List ℕ) (clues : List ℤ) → parseOf (textIn input) ≡ gives clues → CardSays clues

@@ -6,6 +6,7 @@ use Rattle.cases.proofs.P7.{p7-holds}
 use Rattle.cases.proofs.P8.{p8-holds, p9-holds}
 use Rattle.cases.proofs.P10.{p10-holds}
 use Rattle.cases.proofs.P11.{p11-holds}
+use Rattle.cases.proofs.Full.{full-holds}
 
 pub cases : Cases
 cases =
@@ -21,4 +22,5 @@ cases =
       nine = p9-holds;
       ten = p10-holds;
       eleven = p11-holds;
+      full = full-holds;
     }

@@ -8,5 +8,6 @@ pub mod P7
 pub mod P8
 pub mod P10
 pub mod P11
+pub mod Full
 pub mod Cases
 pub mod Misread

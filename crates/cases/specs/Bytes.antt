@@ -1,6 +1,7 @@
 -- The texts of the cases that `scorecard` is given, and what it prints for them by document 01, byte by byte; the characters stand in the comments.
-use mathlib.Core.List.{List, [], _∷_, _++_}
-use Prim.Native.Nat.{ℕ}
+use mathlib.Core.List.{List, [], _∷_, _++_, map}
+use Prim.Native.Nat.{ℕ, _+_}
+use lib.IntN.{ℤ, natAbs}
 use lib.ListN.{replicate}
 
 -- a text with the newline that is dropped: "drops one final newline (byte 10)"
@@ -23,6 +24,10 @@ p10Text =
     46 ∷ 46 ∷ 46 ∷ 46 ∷ 46 ∷ 46 ∷ 46 ∷ 46 ∷ 46 ∷
     46 ∷ 46 ∷ 46 ∷ 46 ∷ 46 ∷ 46 ∷ 46 ∷ 46 ∷ 46 ∷
     46 ∷ 46 ∷ 46 ∷ 46 ∷ 46 ∷ 46 ∷ 46 ∷ 46 ∷ 46 ∷ []
+
+-- the text of 81 digits
+abbrev pub digitText : List ℤ → List ℕ
+digitText grid = map (λ z. natAbs z + 48) grid
 
 -- ---- what is printed
 
@@ -59,3 +64,27 @@ p10Card =
     46 ∷ 46 ∷ 46 ∷ 46 ∷ 46 ∷ 46 ∷ 46 ∷ 46 ∷ 46 ∷
     46 ∷ 46 ∷ 46 ∷ 46 ∷ 46 ∷ 46 ∷ 46 ∷ 46 ∷ 46 ∷
     10 ∷ []
+
+-- the card of 81 clues, with its verdict and its last line
+unfoldable pub fullCard : List ℕ → List ℕ → List ℕ
+fullCard verdict line =
+    -- `clues 81`
+    (99 ∷ 108 ∷ 117 ∷ 101 ∷ 115 ∷ 32 ∷ 56 ∷ 49 ∷ 10 ∷
+    -- `reported 0`
+    114 ∷ 101 ∷ 112 ∷ 111 ∷ 114 ∷ 116 ∷ 101 ∷ 100 ∷ 32 ∷ 48 ∷ 10 ∷
+    -- `sweeps 1`
+    115 ∷ 119 ∷ 101 ∷ 101 ∷ 112 ∷ 115 ∷ 32 ∷ 49 ∷ 10 ∷
+    -- `removed 0`
+    114 ∷ 101 ∷ 109 ∷ 111 ∷ 118 ∷ 101 ∷ 100 ∷ 32 ∷ 48 ∷ 10 ∷
+    -- `verdict `
+    118 ∷ 101 ∷ 114 ∷ 100 ∷ 105 ∷ 99 ∷ 116 ∷ 32 ∷ [])
+    ++ verdict ++
+    -- `line `
+    (10 ∷ 108 ∷ 105 ∷ 110 ∷ 101 ∷ 32 ∷ []) ++ line ++ (10 ∷ [])
+
+-- `finished` and `dead`
+abbrev pub finishedWord : List ℕ
+finishedWord = 102 ∷ 105 ∷ 110 ∷ 105 ∷ 115 ∷ 104 ∷ 101 ∷ 100 ∷ []
+
+abbrev pub deadWord : List ℕ
+deadWord = 100 ∷ 101 ∷ 97 ∷ 100 ∷ []

@@ -1,4 +1,4 @@
--- The published cases P1 to P11, each of document 01's sentences as an equation about the definitions; proofs/Cases.antt shows them all.
+-- The published cases P1 to P11, each of document 01's sentences as an equation about the definitions, and those of document 02's requests; proofs/Cases.antt shows them all.
 use mathlib.Core.Path.{_≡_}
 use mathlib.Core.Bool.{true, false}
 use mathlib.Core.List.{List, [], _∷_, map}
@@ -18,7 +18,7 @@ use Rattle.board.specs.Boards.{openOf}
 use Rattle.text.specs.Texts.{parseOf}
 use Rattle.record.specs.Records.{recordOf}
 use Rattle.card.specs.Cards.{cardOf, printed}
-use Rattle.cases.specs.Bytes.{ended, p3Text, p10Text, p2Line, p3Line, p10Card}
+use Rattle.cases.specs.Bytes.{ended, p3Text, p10Text, digitText, p2Line, p3Line, p10Card, fullCard, finishedWord, deadWord}
 use Rattle.cases.specs.Grids.{gridA, p1, p4Low, p4High, p5, exchanged, p7, p8, p10, p11}
 
 -- the fresh masks of a grid
@@ -131,6 +131,11 @@ pub record Case11 : Type 0 where
   pub others : (c : ℕ) → 2 ≤ c → c < 9 → has (at (opened p11 .masks) c) 4 ≡ false
   pub emptied : (c : ℕ) → 2 ≤ c → c < 9 → at (onFresh settlingCall p11 .masks) c ≡ 0
 
+-- Document 02, F-4: "A setter typed 81 clues with a repeated digit and the card said `finished`". Grid A's card says `finished`; with cells 0 and 1 exchanged it says `dead`, and its last line has the 81 digits.
+pub record CaseFull : Type 0 where
+  pub right : printed (cardOf (digitText gridA)) ≡ fullCard finishedWord (digitText gridA)
+  pub repeated : printed (cardOf (digitText exchanged)) ≡ fullCard deadWord (digitText exchanged)
+
 -- The cases as a group.
 pub record Cases : Type 0 where
   pub one : Case1
@@ -144,3 +149,4 @@ pub record Cases : Type 0 where
   pub nine : Case9
   pub ten : Case10
   pub eleven : Case11
+  pub full : CaseFull
