@@ -123,13 +123,13 @@ pub fn check(clues: &[i32; 81], masks: &[u16; 81]) -> Check
 }
 
 // How many cells have a clue.
-pub fn count_clues(givens: &[u8; 81]) -> usize
-    ensures { λ r. ⌜ r ≡ clueCount (now (givens .entry)) cells ⌝ }
+pub fn count_clues(clues: &[i32; 81]) -> usize
+    ensures { λ r. ⌜ r ≡ clueCount (givensOf (now (clues .entry))) cells ⌝ }
 {
     let mut count: usize = 0;
     let mut cell: usize = 0;
     while cell < 81 {
-        if givens[cell] != 0 {
+        if clues::given_digit(clues[cell]) != 0 {
             count += 1;
         }
         cell += 1;
@@ -237,7 +237,7 @@ impl Board {
         let masks = self.masks;
         match check(&clues, &masks) {
             Check::Refused(stop) => Counting::Refused(stop),
-            Check::Passed => Counting::Clues(count_clues(&clues::givens_of(&clues))),
+            Check::Passed => Counting::Clues(count_clues(&clues)),
         }
     }
 

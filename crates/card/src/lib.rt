@@ -45,7 +45,7 @@ fn card_of(clues: &[i32; 81]) -> Card
     let reported = singles(&givens, &masks).count;
     let counts = settle(&givens, &mut masks);
     Card {
-        clues: count_clues(&givens),
+        clues: count_clues(clues),
         reported,
         sweeps: counts.sweeps,
         removed: counts.removed,

@@ -2,25 +2,28 @@
 ghost use mathlib.Core.Path.{_≡_};
 ghost use Rattle.stops.specs.Answer.{checkAnswer, passing, valueOr};
 ghost use Rattle.host.specs.Boards.{clueNumber};
-use board::clues::givens_of;
 use board::count_clues;
 use stops::Check;
 
-pub fn clues_kept(check: Check, clues: [i32; 81], lent: [i32; 81]) -> [i32; 81]
-    ensures { λ r. ⌜ r ≡ valueOr lent (passing (checkAnswer check) clues) ⌝ }
+pub fn put_clues(check: Check, clues: &[i32; 81], lent: &mut [i32; 81])
+    ensures { λ _. ⌜ now (lent .exit) ≡ valueOr (now (lent .entry)) (passing (checkAnswer check) (now (clues .entry))) ⌝ }
 {
     match check {
-        Check::Refused(_) => lent,
-        Check::Passed => clues,
+        Check::Refused(_) => {}
+        Check::Passed => {
+            *lent = *clues;
+        }
     }
 }
 
-pub fn masks_kept(check: Check, masks: [u16; 81], lent: [u16; 81]) -> [u16; 81]
-    ensures { λ r. ⌜ r ≡ valueOr lent (passing (checkAnswer check) masks) ⌝ }
+pub fn put_masks(check: Check, masks: &[u16; 81], lent: &mut [u16; 81])
+    ensures { λ _. ⌜ now (lent .exit) ≡ valueOr (now (lent .entry)) (passing (checkAnswer check) (now (masks .entry))) ⌝ }
 {
     match check {
-        Check::Refused(_) => lent,
-        Check::Passed => masks,
+        Check::Refused(_) => {}
+        Check::Passed => {
+            *lent = *masks;
+        }
     }
 }
 
@@ -28,5 +31,5 @@ pub fn masks_kept(check: Check, masks: [u16; 81], lent: [u16; 81]) -> [u16; 81]
 pub fn clue_number(clues: &[i32; 81]) -> i64
     ensures { λ r. ⌜ r ≡ clueNumber (now (clues .entry)) ⌝ }
 {
-    count_clues(&givens_of(clues)) as i64
+    count_clues(clues) as i64
 }

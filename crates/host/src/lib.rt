@@ -49,7 +49,7 @@ pub extern "C" fn sudoku_read(text: &[u8], clues: &mut [i32; 81], answer: &mut [
     let parsing = parsed.answer;
     let read = parsed.clues;
     *answer = codes::of_check(parsing, arrays::clue_number(&read), 0);
-    *clues = arrays::clues_kept(parsing, read, *clues);
+    arrays::put_clues(parsing, &read, clues);
 }
 
 // The text of 81 clues.
@@ -71,7 +71,7 @@ pub extern "C" fn sudoku_open(clues: &[i32; 81], masks: &mut [u16; 81], answer: 
     let grid = opened.board.clues;
     let fresh = opened.board.masks;
     *answer = codes::of_check(opening, arrays::clue_number(&grid), 0);
-    *masks = arrays::masks_kept(opening, fresh, *masks);
+    arrays::put_masks(opening, &fresh, masks);
 }
 
 // A question to a board by its number; `cell` is the cell whose mask is asked for.
@@ -110,7 +110,7 @@ pub extern "C" fn sudoku_original_puzzle(
     let check = found.answer;
     let grid = found.clues;
     *answer = codes::of_check(check, 0, 0);
-    *puzzle = arrays::clues_kept(check, grid, *puzzle);
+    arrays::put_clues(check, &grid, puzzle);
 }
 
 // The masks of a board.
@@ -131,7 +131,7 @@ pub extern "C" fn sudoku_get_candidates(
     let check = found.answer;
     let sets = found.masks;
     *answer = codes::of_check(check, 0, 0);
-    *candidates = arrays::masks_kept(check, sets, *candidates);
+    arrays::put_masks(check, &sets, candidates);
 }
 
 // A board call by its step number.
@@ -145,13 +145,7 @@ pub extern "C" fn sudoku_step(
 )
     ensures { λ _. ⌜ (now (answer .exit) ≡ stepCode step (handed (now (clues .entry)) (now (masks .entry)))) × (now (masks .exit) ≡ stepMasks step (handed (now (clues .entry)) (now (masks .entry)))) × (now (reports .exit) ≡ stepReports step (handed (now (clues .entry)) (now (masks .entry))) (now (reports .entry))) ⌝ }
 {
-    let written = step_calls::step(step, *clues, *masks, *reports);
-    let numbers = written.answer;
-    let left = written.masks;
-    let found = written.reports;
-    *answer = numbers;
-    *masks = left;
-    *reports = found;
+    *masks = step_calls::step(step, *clues, *masks, reports, answer);
 }
 
 // A list of steps from the fresh board of the clues.
@@ -168,7 +162,7 @@ pub extern "C" fn sudoku_run(
     let replaying = done.answer;
     let board = done.board;
     *answer = step_calls::of_replaying(replaying, board);
-    *masks = step_calls::run_into(replaying, board, *masks);
+    step_calls::put_run(replaying, board, masks);
 }
 
 // The record of a board.
@@ -204,8 +198,8 @@ pub extern "C" fn sudoku_read_record(
     let grid = read.board.clues;
     let sets = read.board.masks;
     *answer = codes::of_check(reading, arrays::clue_number(&grid), 0);
-    *clues = arrays::clues_kept(reading, grid, *clues);
-    *masks = arrays::masks_kept(reading, sets, *masks);
+    arrays::put_clues(reading, &grid, clues);
+    arrays::put_masks(reading, &sets, masks);
 }
 
 // The card of a text.

@@ -27,7 +27,7 @@ fn of_values(number: u8, made: bool, reports: usize, sweeps: usize, removed: usi
     [0, 0, codes::of_test(made), reports as i64]
 }
 
-pub fn of_stepping(
+fn of_stepping(
     number: u8,
     stepping: Stepping,
     reports: usize,
@@ -41,16 +41,6 @@ pub fn of_stepping(
         Stepping::Refused(stop) => codes::of_stop(stop, 0),
         Stepping::Made(made) => of_values(number, made, reports, sweeps, removed),
         Stepping::NoStep => codes::of_unknown(number),
-    }
-}
-
-pub fn reports_into(stepping: Stepping, found: [u8; 648], lent: [u8; 648]) -> [u8; 648]
-    ensures { λ r. ⌜ r ≡ partsKept (steppingAnswer stepping) found lent ⌝ }
-{
-    match stepping {
-        Stepping::Refused(_) => lent,
-        Stepping::Made(_) => found,
-        Stepping::NoStep => lent,
     }
 }
 
@@ -68,13 +58,16 @@ pub fn of_replaying(replaying: Replaying, board: Board) -> [i64; 4]
     }
 }
 
-pub fn run_into(replaying: Replaying, board: Board, lent: [u16; 81]) -> [u16; 81]
-    ensures { λ r. ⌜ r ≡ ranMasks (replayingAnswer replaying (boardOf board)) lent ⌝ }
+pub fn put_run(replaying: Replaying, board: Board, lent: &mut [u16; 81])
+    ensures { λ _. ⌜ now (lent .exit) ≡ ranMasks (replayingAnswer replaying (boardOf board)) (now (lent .entry)) ⌝ }
 {
     match replaying {
-        Replaying::Refused(_) => lent,
-        Replaying::Done => board.masks,
-        Replaying::NoStep(_) => lent,
+        Replaying::Refused(_) => {}
+        Replaying::Done => {
+            let masks = board.masks;
+            *lent = masks;
+        }
+        Replaying::NoStep(_) => {}
     }
 }
 
@@ -88,42 +81,44 @@ fn used(count: usize) -> usize
 }
 
 // Two bytes a report, and zeros after the last.
-pub fn bytes_of(reports: Reports) -> [u8; 648]
-    ensures { λ r. ⌜ r ≡ reportBytes reports ⌝ }
+fn put_bytes(reports: Reports, bytes: &mut [u8; 648])
+    ensures { λ _. ⌜ now (bytes .exit) ≡ reportBytes reports ⌝ }
 {
-    let cells = reports.cells;
-    let digits = reports.digits;
     let count = used(reports.count);
-    let mut bytes = [0u8; 648];
+    *bytes = [0u8; 648];
     let mut report: usize = 0;
     while report < count {
-        bytes[2 * report] = cells[report];
-        bytes[2 * report + 1] = digits[report];
+        bytes[2 * report] = reports.cells[report];
+        bytes[2 * report + 1] = reports.digits[report];
         report += 1;
     }
-    bytes
 }
 
-// What a step writes.
-pub struct Written {
-    pub answer: [i64; 4],
-    pub masks: [u16; 81],
-    pub reports: [u8; 648],
+fn put_reports(stepping: Stepping, found: Reports, lent: &mut [u8; 648])
+    ensures { λ _. ⌜ now (lent .exit) ≡ partsKept (steppingAnswer stepping) (reportBytes found) (now (lent .entry)) ⌝ }
+{
+    match stepping {
+        Stepping::Refused(_) => {}
+        Stepping::Made(_) => put_bytes(found, lent),
+        Stepping::NoStep => {}
+    }
 }
 
-pub fn step(number: u8, clues: [i32; 81], masks: [u16; 81], lent: [u8; 648]) -> Written
-    ensures { λ r. ⌜ (r .answer ≡ stepCode number (handed clues masks)) × (r .masks ≡ stepMasks number (handed clues masks)) × (r .reports ≡ stepReports number (handed clues masks) lent) ⌝ }
+// A board call on arrays: the masks that it leaves.
+pub fn step(
+    number: u8,
+    clues: [i32; 81],
+    masks: [u16; 81],
+    reports: &mut [u8; 648],
+    answer: &mut [i64; 4],
+) -> [u16; 81]
+    ensures { λ r. ⌜ (r ≡ stepMasks number (handed clues masks)) × (now (reports .exit) ≡ stepReports number (handed clues masks) (now (reports .entry))) × (now (answer .exit) ≡ stepCode number (handed clues masks)) ⌝ }
 {
     let done = calls::step(number, Board { clues, masks });
     let stepping = done.answer;
     let found = done.reports;
     let board = done.board;
-    let answer = of_stepping(number, stepping, found.count, done.sweeps, done.removed);
-    let reports = reports_into(stepping, bytes_of(found), lent);
-    let after = board.masks;
-    Written {
-        answer,
-        masks: after,
-        reports,
-    }
+    *answer = of_stepping(number, stepping, found.count, done.sweeps, done.removed);
+    put_reports(stepping, found, reports);
+    board.masks
 }

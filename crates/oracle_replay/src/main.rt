@@ -79,7 +79,7 @@ fn print_opened(line: &[u8; 94], clues: [i32; 81]) {
         Check::Refused(stop) => refused(stop),
         Check::Passed => {
             word(b"open");
-            number(board::count_clues(&board::clues::givens_of(&clues)) as u64);
+            number(board::count_clues(&clues) as u64);
             number(mask_sum(&masks));
             word(b"\n");
             print_list(line, board);

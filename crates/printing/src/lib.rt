@@ -1,4 +1,6 @@
 // What the checking programs print to standard output: words, numbers, stops, and checksums of masks.
+ghost use mathlib.Core.Path.{_≡_};
+ghost use Rattle.printing.specs.code.Sums.{folded, sumOf};
 use libc::STDOUT_FILENO;
 use stops::Stop;
 
@@ -28,11 +30,17 @@ pub fn refusal(stop: Stop) {
     signed(stops::detail(stop));
 }
 
-pub fn fold(sum: u64, n: u16) -> u64 {
+// A number joins a checksum.
+pub fn fold(sum: u64, n: u16) -> u64
+    ensures { λ r. ⌜ r ≡ folded sum n ⌝ }
+{
     (sum % 72057594037927931 * 31 + n as u64) % 72057594037927931
 }
 
-pub fn mask_sum(masks: &[u16; 81]) -> u64 {
+// The checksum of 81 masks.
+pub fn mask_sum(masks: &[u16; 81]) -> u64
+    ensures { λ r. ⌜ r ≡ sumOf (now (masks .entry)) 81 ⌝ }
+{
     let mut sum: u64 = 0;
     let mut cell: usize = 0;
     while cell < 81 {

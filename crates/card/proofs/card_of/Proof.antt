@@ -38,7 +38,7 @@ returns : tie.Need-returns
 unfolding cardFor outcome reportsOf
 returns c =
     let counted = c .before .before in
-    let settled = counted .before .before in
+    let settled = counted .before in
     let found = settled .before .before .before in
     let made = found .before .before .before in
     let given = made .before .before in
@@ -51,7 +51,7 @@ returns c =
     let left : settled .settle .last .1 .0 ≡ settle g f .left = s .1 .1 ∙ rw (is, masks) in
     let sweeps : settled .settle .result .sweeps ≡ settle g f .sweeps = s .0 ∙ rw (is, masks) in
     let removed : settled .settle .result .removed ≡ removedBy f (settle g f .left) = s .1 .0 ∙ rw (masks, left) in
-    let clues : counted .count-clues .result ≡ clueCount g cells = counted .count-clues .ensures ∙ ap (λ (g : List ℕ). clueCount g cells) is in
+    let clues : counted .count-clues .result ≡ clueCount g cells = counted .count-clues .ensures in
     let verdict : c .verdict-of .result ≡ verdictOf (settle g f .left) = c .verdict-of .ensures ∙ ap verdictOf left in
     let reported : found .singles .result .count ≡ length (nakedSingles g f ++ hiddenSingles g f) = ap (λ (q : Reports). q .count) reports in
     cc

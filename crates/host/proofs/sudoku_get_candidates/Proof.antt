@@ -14,17 +14,17 @@ get-candidates-requires c κs = search needs
 of-check-requires : tie.Need-of-check-requires
 of-check-requires c κs = search needs
 
-masks-kept-requires : tie.Need-masks-kept-requires
-masks-kept-requires c κs = search needs
+put-masks-requires : tie.Need-put-masks-requires
+put-masks-requires c κs = search needs
 
 returns : tie.Need-returns
 returns c =
-    let o = c .before .before in
+    let o = c .before .before .before in
     let f = o .before .before in
     let a = f .before .before .before .args in
     let e = f .get-candidates .ensures in
-    (o .of-check .ensures ∙ ap (λ (k : Answer (Unit {0})). coded (map noNumber k) 0) (e .0), handed-out (a .masks .now) noMasks (a .candidates .now) (e .0) (e .1) (c .masks-kept .ensures))
+    (o .of-check .ensures ∙ ap (λ (k : Answer (Unit {0})). coded (map noNumber k) 0) (e .0), handed-out (a .masks .now) noMasks (a .candidates .now) (e .0) (e .1) (c .put-masks .ensures))
 
 pub sudoku-get-candidates-spec : {M : Type 1} → statement M
 sudoku-get-candidates-spec =
-    tie.close (tie.spec get-candidates-requires of-check-requires masks-kept-requires returns)
+    tie.close (tie.spec get-candidates-requires of-check-requires put-masks-requires returns)

@@ -19,22 +19,22 @@ clue-number-requires c κs = search needs
 of-check-requires : tie.Need-of-check-requires
 of-check-requires c κs = search needs
 
-masks-kept-requires : tie.Need-masks-kept-requires
-masks-kept-requires c κs = search needs
+put-masks-requires : tie.Need-put-masks-requires
+put-masks-requires c κs = search needs
 
 returns : tie.Need-returns
 returns c =
-    let o = c .before .before in
+    let o = c .before .before .before in
     let n = o .before in
     let p = n .before .before .before .before in
     let k = checkAnswer (p .new .result .answer) in
     let b = boardOf (p .new .result .board) in
     let e = p .new .ensures .0 in (
       o .of-check .ensures ∙ coded-value k b e boardNumber (toZ-ofZ (record { sfits = n .clue-number .ok }) ∙ n .clue-number .ensures),
-      c .masks-kept .ensures ∙ kept-part k b e (λ (b : Board). b .masks) (p .before .before .args .masks .now),
+      c .put-masks .ensures ∙ kept-part k b e (λ (b : Board). b .masks) (p .before .before .args .masks .now),
     )
 
 pub sudoku-open-spec : {M : Type 1} → statement M
 sudoku-open-spec =
     tie.close
-    (tie.spec new-requires clue-number-requires of-check-requires masks-kept-requires returns)
+    (tie.spec new-requires clue-number-requires of-check-requires put-masks-requires returns)

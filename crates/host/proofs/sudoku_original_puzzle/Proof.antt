@@ -14,17 +14,17 @@ original-puzzle-requires c κs = search needs
 of-check-requires : tie.Need-of-check-requires
 of-check-requires c κs = search needs
 
-clues-kept-requires : tie.Need-clues-kept-requires
-clues-kept-requires c κs = search needs
+put-clues-requires : tie.Need-put-clues-requires
+put-clues-requires c κs = search needs
 
 returns : tie.Need-returns
 returns c =
-    let o = c .before .before in
+    let o = c .before .before .before in
     let f = o .before .before in
     let a = f .before .before .before .args in
     let e = f .original-puzzle .ensures in
-    (o .of-check .ensures ∙ ap (λ (k : Answer (Unit {0})). coded (map noNumber k) 0) (e .0), handed-out (a .clues .now) noClues (a .puzzle .now) (e .0) (e .1) (c .clues-kept .ensures))
+    (o .of-check .ensures ∙ ap (λ (k : Answer (Unit {0})). coded (map noNumber k) 0) (e .0), handed-out (a .clues .now) noClues (a .puzzle .now) (e .0) (e .1) (c .put-clues .ensures))
 
 pub sudoku-original-puzzle-spec : {M : Type 1} → statement M
 sudoku-original-puzzle-spec =
-    tie.close (tie.spec original-puzzle-requires of-check-requires clues-kept-requires returns)
+    tie.close (tie.spec original-puzzle-requires of-check-requires put-clues-requires returns)

@@ -17,18 +17,18 @@ clue-number-requires c κs = search needs
 of-check-requires : tie.Need-of-check-requires
 of-check-requires c κs = search needs
 
-clues-kept-requires : tie.Need-clues-kept-requires
-clues-kept-requires c κs = search needs
+put-clues-requires : tie.Need-put-clues-requires
+put-clues-requires c κs = search needs
 
 returns : tie.Need-returns
 returns c =
-    let o = c .before .before in
+    let o = c .before .before .before in
     let n = o .before in
     let p = n .before .before .before in
     let k = checkAnswer (p .parse-string .result .answer) in
     let e = p .parse-string .ensures .0 in (
       o .of-check .ensures ∙ coded-value k (p .parse-string .result .clues) e clueNumber (toZ-ofZ (record { sfits = n .clue-number .ok }) ∙ n .clue-number .ensures),
-      c .clues-kept .ensures ∙ ap (valueOr (p .before .before .args .clues .now)) e,
+      c .put-clues .ensures ∙ ap (valueOr (p .before .before .args .clues .now)) e,
     )
 
 pub sudoku-read-spec : {M : Type 1} → statement M
@@ -38,5 +38,5 @@ sudoku-read-spec =
     parse-string-requires
     clue-number-requires
     of-check-requires
-    clues-kept-requires
+    put-clues-requires
     returns)

@@ -19,16 +19,16 @@ clue-number-requires c κs = search needs
 of-check-requires : tie.Need-of-check-requires
 of-check-requires c κs = search needs
 
-clues-kept-requires : tie.Need-clues-kept-requires
-clues-kept-requires c κs = search needs
+put-clues-requires : tie.Need-put-clues-requires
+put-clues-requires c κs = search needs
 
-masks-kept-requires : tie.Need-masks-kept-requires
-masks-kept-requires c κs = search needs
+put-masks-requires : tie.Need-put-masks-requires
+put-masks-requires c κs = search needs
 
 returns : tie.Need-returns
 returns c =
-    let kept = c .before .before in
-    let o = kept .before .before in
+    let kept = c .before .before .before in
+    let o = kept .before .before .before in
     let n = o .before in
     let p = n .before .before .before .before in
     let k = checkAnswer (p .read-record .result .answer) in
@@ -36,8 +36,8 @@ returns c =
     let a = p .before .before .args in
     let e = p .read-record .ensures .0 in (
       o .of-check .ensures ∙ coded-value k b e boardNumber (toZ-ofZ (record { sfits = n .clue-number .ok }) ∙ n .clue-number .ensures),
-      kept .clues-kept .ensures ∙ kept-part k b e (λ (b : Board). b .clues) (a .clues .now),
-      c .masks-kept .ensures ∙ kept-part k b e (λ (b : Board). b .masks) (a .masks .now),
+      kept .put-clues .ensures ∙ kept-part k b e (λ (b : Board). b .clues) (a .clues .now),
+      c .put-masks .ensures ∙ kept-part k b e (λ (b : Board). b .masks) (a .masks .now),
     )
 
 pub sudoku-read-record-spec : {M : Type 1} → statement M
@@ -47,6 +47,6 @@ sudoku-read-record-spec =
     read-record-requires
     clue-number-requires
     of-check-requires
-    clues-kept-requires
-    masks-kept-requires
+    put-clues-requires
+    put-masks-requires
     returns)

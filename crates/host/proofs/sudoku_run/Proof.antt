@@ -19,16 +19,16 @@ of-replaying-requires c κs =
     let a = r .before .before .before .args in
     subst RunFits (sym (r .replay .ensures .answer)) (replay-fits (a .clues .now) (a .steps .now) (omega arith))
 
-run-into-requires : tie.Need-run-into-requires
-run-into-requires c κs = search needs
+put-run-requires : tie.Need-put-run-requires
+put-run-requires c κs = search needs
 
 returns : tie.Need-returns
 returns c =
     let o = c .before .before in
     let r = o .before .before in
     let e = r .replay .ensures .answer in
-    (o .of-replaying .ensures ∙ ap ranCode e, c .run-into .ensures ∙ ap (λ (a : Answer Run). ranMasks a (r .before .before .before .args .masks .now)) e)
+    (o .of-replaying .ensures ∙ ap ranCode e, c .put-run .ensures ∙ ap (λ (a : Answer Run). ranMasks a (r .before .before .before .args .masks .now)) e)
 
 pub sudoku-run-spec : {M : Type 1} → statement M
 sudoku-run-spec =
-    tie.close (tie.spec replay-requires of-replaying-requires run-into-requires returns)
+    tie.close (tie.spec replay-requires of-replaying-requires put-run-requires returns)

@@ -1,7 +1,5 @@
 -- `board::Board::clue_count` meets its contract. Assumes nothing.
 use mathlib.Core.Path.{ap, _∙_}
-use mathlib.Core.List.{List}
-use Prim.Native.Nat.{ℕ}
 use borrow.Author.Needs.{needs}
 use Rattle.stops.specs.Answer.{Answer, gives, passing}
 use Rattle.stops.proofs.Answers.{told}
@@ -20,9 +18,6 @@ enum-known-stop c = search needs
 enum-told : tie.Need-enum-told
 enum-told c = search needs
 
-givens-of-requires : tie.Need-givens-of-requires
-givens-of-requires c κs = search needs
-
 count-clues-requires : tie.Need-count-clues-requires
 count-clues-requires c κs = search needs
 
@@ -34,10 +29,10 @@ returns c =
 
 returns-2 : tie.Need-returns-2
 returns-2 c =
-    let e = c .before .before .before .before in
+    let e = c .before .before in
     let k = e .before .before in
     let n = clueCount (givensOf (k .before .before .before .before .before .args .self .clues)) cells in
-    ap gives (c .count-clues .ensures ∙ ap (λ (g : List ℕ). clueCount g cells) (c .before .before .givens-of .ensures))
+    ap gives (c .count-clues .ensures)
     ∙ ap (λ (a : Answer (Unit {0})). passing a n) (told (k .check .ensures) (e .enum-told .given .1))
 
 pub clue-count-spec : {M : Type 1} → statement M
@@ -47,7 +42,6 @@ clue-count-spec =
     check-requires
     enum-known-stop
     enum-told
-    givens-of-requires
     count-clues-requires
     returns
     returns-2)

@@ -1,4 +1,4 @@
--- The parts that the step hands back, coded.
+-- The parts that the step hands back, coded, and its reports in what was lent.
 use mathlib.Core.Path.{_≡_, sym, ap, ap₂, subst, _∙_}
 use mathlib.Core.Bool.{Bool}
 use mathlib.Core.List.{List}
@@ -56,31 +56,26 @@ step-requires c κs = search needs
 of-stepping-requires : tie.Need-of-stepping-requires
 of-stepping-requires c κs =
     let d = c .before .before in
-    let s = d .before in
-    fit (s .args .number) (handed (s .args .clues) (s .args .masks)) (d .step .result) (d .step .ensures) (omega arith) (omega arith)
+    let a = d .before .args in
+    fit (a .number) (handed (a .clues) (a .masks)) (d .step .result) (d .step .ensures) (omega arith) (omega arith)
 
-bytes-of-requires : tie.Need-bytes-of-requires
-bytes-of-requires c κs = search needs
-
-reports-into-requires : tie.Need-reports-into-requires
-reports-into-requires c κs = search needs
+put-reports-requires : tie.Need-put-reports-requires
+put-reports-requires c κs = search needs
 
 returns : tie.Need-returns
 returns c =
     let w = c .before in
     let o = w .before .before in
     let d = o .before .before .before in
-    let s = d .before .args in
-    let b = handed (s .clues) (s .masks) in
+    let a = d .before .args in
+    let b = handed (a .clues) (a .masks) in
     let r = d .step .result in
     let hands = d .step .ensures in (
-      o .of-stepping .ensures ∙ coded (s .number) b r hands,
       ap (λ (b : S.Board). b .masks) (hands .board),
-      w .reports-into .ensures ∙ ap (λ (x : List ℕ). partsKept (steppingAnswer (r .answer)) x (s .lent)) (w .before .bytes-of .ensures)
-          ∙ bytes (s .number) b r hands (s .lent),
+      w .put-reports .ensures ∙ bytes (a .number) b r hands (a .reports .now),
+      o .of-stepping .ensures ∙ coded (a .number) b r hands,
     )
 
 pub step-spec : {M : Type 1} → statement M
 step-spec =
-    tie.close
-    (tie.spec step-requires of-stepping-requires bytes-of-requires reports-into-requires returns)
+    tie.close (tie.spec step-requires of-stepping-requires put-reports-requires returns)

@@ -10,16 +10,16 @@ use lib.ListN.{replicate}
 use Rattle.grid.proofs.Lists.{turn-done, turns-over}
 use Rattle.steps.specs.Loops.{each, range}
 use Rattle.host.specs.Steps.{putReport, reportBytes, used}
-use Rattle.host.proofs.step_calls.bytes_of.Statement.{statement}
-use Rattle.host.proofs.step_calls.bytes_of.Tie as tie
+use Rattle.host.proofs.step_calls.put_bytes.Statement.{statement}
+use Rattle.host.proofs.step_calls.put_bytes.Tie as tie
 
 abbrev Inv-loop : tie.InvT-loop
-Inv-loop cells digits count bytes₀ report₀ bytes report =
+Inv-loop bytes₀ reports count report₀ bytes report =
     (report ≤ count) × (count ≤ 324)
-    × (each (putReport cells digits) (range (count - report) report) bytes ≡ each (putReport cells digits) (range count 0) (replicate 648 0))
+    × (each (putReport (reports .cells) (reports .digits)) (range (count - report) report) bytes ≡ each (putReport (reports .cells) (reports .digits)) (range count 0) (replicate 648 0))
 
 abbrev μ-loop : tie.MeasureT-loop
-μ-loop cells digits count bytes₀ report₀ bytes report = count - report
+μ-loop bytes₀ reports count report₀ bytes report = count - report
 
 room : (n : ℕ) → used n ≤ 324
 room n = go (ltb n 324) refl
@@ -33,25 +33,26 @@ used-requires c κs = search needs
 
 loop-holds : tie.Need-loop-holds Inv-loop μ-loop
 loop-holds c =
-    let q = c .before .before .before .args .reports in
-    let n = c .used .result in
+    let u = c .before in
+    let q = u .before .args .t1 in
+    let n = u .used .result in
     let all : n - 0 ≡ n = omega arith in (
       omega arith,
-      omega (arith, c .used .ensures, room (q .count)),
+      omega (arith, u .used .ensures, room (q .count)),
       ap (λ (k : ℕ). each (putReport (q .cells) (q .digits)) (range k 0) (replicate 648 0)) all,
     )
 
-array-read-bytes : tie.Need-array-read-bytes Inv-loop μ-loop
-array-read-bytes c = omega arith
+element-copy-out-bytes : tie.Need-element-copy-out-bytes Inv-loop μ-loop
+element-copy-out-bytes c = omega arith
 
 mul-bytes : tie.Need-mul-bytes Inv-loop μ-loop
 mul-bytes c = omega arith
 
-array-write-bytes : tie.Need-array-write-bytes Inv-loop μ-loop
-array-write-bytes c = omega arith
+element-write-bytes : tie.Need-element-write-bytes Inv-loop μ-loop
+element-write-bytes c = omega arith
 
-array-read-bytes-2 : tie.Need-array-read-bytes-2 Inv-loop μ-loop
-array-read-bytes-2 c = omega arith
+element-copy-out-bytes-2 : tie.Need-element-copy-out-bytes-2 Inv-loop μ-loop
+element-copy-out-bytes-2 c = omega arith
 
 mul-bytes-2 : tie.Need-mul-bytes-2 Inv-loop μ-loop
 mul-bytes-2 c = omega arith
@@ -59,8 +60,8 @@ mul-bytes-2 c = omega arith
 add-bytes : tie.Need-add-bytes Inv-loop μ-loop
 add-bytes c = omega arith
 
-array-write-bytes-2 : tie.Need-array-write-bytes-2 Inv-loop μ-loop
-array-write-bytes-2 c = omega arith
+element-write-bytes-2 : tie.Need-element-write-bytes-2 Inv-loop μ-loop
+element-write-bytes-2 c = omega arith
 
 add-report : tie.Need-add-report Inv-loop μ-loop
 add-report c = omega arith
@@ -70,9 +71,9 @@ loop-less c = omega arith
 
 loop-again : tie.Need-loop-again Inv-loop μ-loop
 loop-again c =
-    let l = c .before in
-    let u = l .before in
-    let q = u .before .before .before .args .reports in (
+    let l = c .before .before .before in
+    let u = l .before .before in
+    let q = u .before .args .t1 in (
       omega arith,
       omega arith,
       turn-done (putReport (q .cells) (q .digits)) (u .used .result) (l .loop .report) (omega arith) refl (l .loop .inv .2),
@@ -82,26 +83,26 @@ returns : tie.Need-returns Inv-loop μ-loop
 unfolding reportBytes
 returns c =
     let l = c .before in
-    let u = l .before in
-    let q = u .before .before .before .args .reports in
+    let u = l .before .before in
+    let q = u .before .args .t1 in
     turns-over (putReport (q .cells) (q .digits)) (u .used .result) (l .loop .report) (c .loop-test .left) (l .loop .inv .2)
     ∙ ap (λ (k : ℕ). each (putReport (q .cells) (q .digits)) (range k 0) (replicate 648 0)) (u .used .ensures)
 
-pub bytes-of-spec : {M : Type 1} → statement M
-bytes-of-spec =
+pub put-bytes-spec : {M : Type 1} → statement M
+put-bytes-spec =
     tie.close
     (tie.spec
     Inv-loop
     μ-loop
     used-requires
     loop-holds
-    array-read-bytes
+    element-copy-out-bytes
     mul-bytes
-    array-write-bytes
-    array-read-bytes-2
+    element-write-bytes
+    element-copy-out-bytes-2
     mul-bytes-2
     add-bytes
-    array-write-bytes-2
+    element-write-bytes-2
     add-report
     loop-less
     loop-again
