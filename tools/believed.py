@@ -39,6 +39,8 @@ ORDER = [
     ("board/specs/Boards", "opener, accessors, verdict"),
     ("board/specs/Verdicts", "what a verdict says of the puzzle"),
     ("text/specs/Texts", "module 12: texts"),
+    ("text/specs/Sheets", "document 02, F-2: pasted sheets"),
+    ("text/specs/SheetLaws", "the promise on sheets"),
     ("record/specs/Sections", "module 14: the sections of a record"),
     ("record/specs/Records", "module 14: the record of a board"),
     ("record/specs/Laws", "the promise on records"),
@@ -64,6 +66,7 @@ ORDER = [
     ("host/specs/Boards", "the exports of the board"),
     ("host/specs/Steps", "the exports of steps and lists"),
     ("host/specs/Texts", "the exports of texts and cards"),
+    ("host/specs/Sheets", "the exports of sheets"),
     ("host/specs/Records", "the exports of records"),
 ]
 PASSED_OVER = re.compile(r"\s*($|--|use |pub use |unfoldable pub use |pub mod |mod )")

@@ -1,17 +1,19 @@
 #!/usr/bin/env python3
-"""What the program board_check must print: the reader, the opener, the calls on a board and the writer at their edges. Made from
-the paper's words (cells and masks, modules 2, 12 and 13, the table of stops); it knows nothing of the program.
+"""What the program board_check must print: the readers, the opener, the calls on a board and the writers at their edges. Made from
+the paper's words (cells and masks, modules 2, 12 and 13, the table of stops) and document 02's on pasted sheets; it knows nothing of the program.
 
     python3 tools/board_check.py > crates/board_check/stdout
 
 A line for each call, NAME A B STOP DETAIL. A refused call has its stop and what stands beside it. Else STOP is 0, and DETAIL is
     text, byte            the checksum of the clues; A is the length, or the byte, and B its index
+    sheet, sheet_byte     the checksum of the clues; A is the length, or the byte, and B which bytes stand after 81 cells, or the byte's offset
+    ruled                 the same of a sheet as programs print it
     open                  the checksum of the masks; A is the place of the clue in NUMBERS, and B its cell
     puzzle, candidates    the checksum of the clues, of the masks; A is the board, and B a cell (for each call on a board)
     update                the checksum of the masks, which stand after it in the line `left`, refused or not
     count, mask           the clue count, the mask of cell B
     dead finished open    the verdict, 0
-    write                 what it returns; A is the grid, and B how many bytes are lent; the line `lent` has all hundred bytes' checksum
+    write, canonical      what it returns; A is the grid, and B how many bytes are lent; the line `lent` has all hundred bytes' checksum
 """
 
 P = 2**56 - 5
@@ -85,6 +87,18 @@ def parse(text):
     return 0, fold(0 if chr(byte) == "." else int(chr(byte)) for byte in text)
 
 
+def sheet(pasted):
+    if len(pasted) > 4096:
+        return 10, len(pasted)
+    cells = []
+    for offset, byte in enumerate(pasted):
+        if chr(byte) in "0123456789.":
+            cells.append(0 if chr(byte) == "." else int(chr(byte)))
+        elif chr(byte) not in " |-+\r\n":
+            return 2, offset
+    return (0, fold(cells)) if len(cells) == 81 else (11, len(cells))
+
+
 def opened(clues):
     cell = bad_clue(clues)
     return (0, fold(fresh(clues))) if cell is None else (3, cell)
@@ -109,18 +123,27 @@ def calls(a, at, clues, masks):
     line("verdict" if stopped else verdict(masks), a, at, stopped or (0, 0))
 
 
-def write(a, lent, clues):
+def write(name, a, lent, clues, text):
     kept = "x" * 100
     cell = bad_clue(clues)
-    if lent < 81:
+    if lent < len(text):
         answer = 6, lent
     elif cell is not None:
         answer = 3, cell
     else:
-        answer = 0, 81
-        kept = "".join(str(clue) if clue else "." for clue in clues) + kept[81:]
-    line("write", a, lent, answer)
+        answer = 0, len(text)
+        kept = text + kept[len(text) :]
+    line(name, a, lent, answer)
     line("lent", a, lent, (0, fold(kept.encode())))
+
+
+def writes(a, clues):
+    text = "".join(".123456789"[clue] if 0 <= clue <= 9 else "?" for clue in clues)
+    for lent in [0, 80, 81, 100]:
+        write("write", a, lent, clues, text)
+    sheet = "".join(text[9 * row : 9 * row + 9] + "\n" for row in range(9))
+    for lent in [0, 89, 90, 91]:
+        write("canonical", a, lent, clues, sheet)
 
 
 def grid(**clues):
@@ -136,6 +159,18 @@ for length in [0, 80, 81, 82, 4096]:
 for byte in range(256):
     line("byte", byte, 0, parse(bytes([byte]) + b"." * 80))
     line("byte", byte, 80, parse(b"." * 80 + bytes([byte])))
+line("sheet", 0, 0, sheet(b""))
+for which, after in enumerate([b".", b" ", b"x"]):
+    for length in [80, 81, 82, 4096, 4097]:
+        line("sheet", length, which, sheet((b"7" * 81 + after * 4096)[:length]))
+for byte in range(256):
+    line("sheet_byte", byte, 1, sheet(b" " + bytes([byte]) + b"." * 80))
+    line("sheet_byte", byte, 88, sheet(b"5" * 40 + b"|-+\r\n" + b"5" * 41 + b" \n" + bytes([byte])))
+PASTED = "53..7....6..195....98....6.8...6...34..8.3..17...2...6.6....28....419..5....8..79"
+RULING = "+-------+-------+-------+\r\n"
+ROWS = [PASTED[9 * row : 9 * row + 9] for row in range(9)]
+LINES = ["| " + " | ".join(" ".join(row[block : block + 3]) for block in (0, 3, 6)) + " |\r\n" for row in ROWS]
+line("ruled", 0, 0, sheet((RULING + "".join("".join(LINES[band : band + 3]) + RULING for band in (0, 3, 6))).encode()))
 for place, number in enumerate(NUMBERS):
     line("open", place, 0, opened(grid(c0=number)))
     line("open", place, 80, opened(grid(c80=number)))
@@ -151,7 +186,5 @@ for a, text in [(9, A), (10, "." + A[1:80] + "."), (11, "0..4567893" + "." * 71)
     clues = [0 if letter == "." else int(letter) for letter in text]
     for at in [0, 80, 81, 4294967295]:
         calls(a, at, clues, fresh(clues))
-    for lent in [0, 80, 81, 100]:
-        write(a, lent, clues)
-for lent in [0, 80, 81, 100]:
-    write(13, lent, put([9] * 81, 80, 10))
+    writes(a, clues)
+writes(13, put([9] * 81, 80, 10))

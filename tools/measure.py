@@ -33,11 +33,13 @@ OTHERS = {
     "count": "clue_count",
     "verify": "verify_solution",
     "repeat": "verify_solution, the second cell repeats the first",
+    "sheet": "parse_sheet, a sheet of 338 bytes",
+    "canonical": "write_sheet",
     "record": "record written and read",
     "card": "card",
 }
 # what the original has not
-ENGINE_ALONE = {"7", "8", "9", "10", "11", "12", "record", "card"}
+ENGINE_ALONE = {"7", "8", "9", "10", "11", "12", "sheet", "canonical", "record", "card"}
 BOARDS = 64
 FEW, MANY = 1, 5
 

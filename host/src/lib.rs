@@ -7,6 +7,7 @@ pub mod plain;
 pub mod random;
 pub mod record_cases;
 pub mod records;
+pub mod sheet_cases;
 pub mod shrink;
 pub mod sides;
 pub mod text_cases;
@@ -31,6 +32,8 @@ extern "C" {
     fn sudoku_step(step: u8, clues: *const Clues, masks: *mut Masks, reports: *mut ReportBytes, answer: *mut Answer);
     fn sudoku_run(steps: *const u8, length: usize, clues: *const Clues, masks: *mut Masks, answer: *mut Answer);
     fn sudoku_write_text(clues: *const Clues, text: *mut u8, length: usize, answer: *mut Answer);
+    fn sudoku_read_sheet(sheet: *const u8, length: usize, clues: *mut Clues, answer: *mut Answer);
+    fn sudoku_write_sheet(clues: *const Clues, sheet: *mut u8, length: usize, answer: *mut Answer);
     fn sudoku_write_record(clues: *const Clues, masks: *const Masks, record: *mut u8, length: usize, answer: *mut Answer);
     fn sudoku_read_record(record: *const u8, length: usize, clues: *mut Clues, masks: *mut Masks, answer: *mut Answer);
     fn sudoku_card(input: *const u8, length: usize, card: *mut CardBytes, answer: *mut Answer);
@@ -49,6 +52,11 @@ fn answered(call: impl FnOnce(&mut Answer)) -> Result<(i64, i64), Stop> {
     call(&mut answer);
     let [number, detail, value, second] = answer;
     if number == 0 { Ok((value, second)) } else { Err(Stop { number, detail }) }
+}
+
+/// How many of 81 numbers are clues, which the readers answer.
+pub fn counted(clues: &Clues) -> i64 {
+    clues.iter().filter(|&&clue| clue != 0).count() as i64
 }
 
 // ---- the candidate set
@@ -178,6 +186,16 @@ pub fn run(steps: &[u8], clues: &Clues, masks: &mut Masks) -> Result<(), Stop> {
 /// The text of the clues in the first 81 lent bytes, and how many were written.
 pub fn write_text(clues: &Clues, text: &mut [u8]) -> Result<i64, Stop> {
     Ok(answered(|answer| unsafe { sudoku_write_text(clues, text.as_mut_ptr(), text.len(), answer) })?.0)
+}
+
+/// The clues of a pasted sheet, and how many they are.
+pub fn read_sheet(sheet: &[u8], clues: &mut Clues) -> Result<i64, Stop> {
+    Ok(answered(|answer| unsafe { sudoku_read_sheet(sheet.as_ptr(), sheet.len(), clues, answer) })?.0)
+}
+
+/// The canonical sheet of the clues in the first 90 lent bytes, and how many were written.
+pub fn write_sheet(clues: &Clues, sheet: &mut [u8]) -> Result<i64, Stop> {
+    Ok(answered(|answer| unsafe { sudoku_write_sheet(clues, sheet.as_mut_ptr(), sheet.len(), answer) })?.0)
 }
 
 /// The record of a board in the first lent bytes, and how many were written.

@@ -513,32 +513,78 @@ pub fn one_mask(clues: &Clues, masks: &Masks, cell: usize) -> Result<u16, Stop> 
 
 // ---- text
 
+/// "`1` to `9`; `0` and `.` are open"
+fn cell(byte: u8) -> Option<i32> {
+    match byte {
+        b'1'..=b'9' => Some((byte - b'0') as i32),
+        b'0' | b'.' => Some(0),
+        _ => None,
+    }
+}
+
 pub fn read_text(text: &[u8]) -> Result<Clues, Stop> {
     if text.len() != CELLS {
         return Err(Stop { number: 1, detail: text.len() as i64 });
     }
     let mut clues = [0; CELLS];
     for (at, &byte) in text.iter().enumerate() {
-        clues[at] = match byte {
-            b'1'..=b'9' => (byte - b'0') as i32,
-            b'0' | b'.' => 0,
-            _ => return Err(Stop { number: 2, detail: at as i64 }),
-        };
+        clues[at] = cell(byte).ok_or(Stop { number: 2, detail: at as i64 })?;
     }
     Ok(clues)
 }
 
-pub fn write_text(clues: &Clues, lent: &mut [u8]) -> Result<usize, Stop> {
-    if lent.len() < CELLS {
-        return Err(Stop { number: 6, detail: lent.len() as i64 });
+fn byte(clue: i32) -> u8 {
+    if clue == 0 { b'.' } else { b'0' + clue as u8 }
+}
+
+/// Stop 6, then stop 3, of a writer of so many bytes.
+fn unwritable(clues: &Clues, needed: usize, lent: &[u8]) -> Option<Stop> {
+    if lent.len() < needed {
+        return Some(Stop { number: 6, detail: lent.len() as i64 });
     }
-    if let Some(stop) = bad_clue(clues) {
+    bad_clue(clues)
+}
+
+pub fn write_text(clues: &Clues, lent: &mut [u8]) -> Result<usize, Stop> {
+    if let Some(stop) = unwritable(clues, CELLS, lent) {
         return Err(stop);
     }
     for (cell, &clue) in clues.iter().enumerate() {
-        lent[cell] = if clue == 0 { b'.' } else { b'0' + clue as u8 };
+        lent[cell] = byte(clue);
     }
     Ok(CELLS)
+}
+
+// ---- pasted sheets (document 02, F-2)
+
+/// "passes over space, `|`, `-`, `+`, carriage return and line feed, and takes the other bytes as 01's text reader does"
+pub fn read_sheet(sheet: &[u8]) -> Result<Clues, Stop> {
+    // "longer than 4,096 bytes, with its length, checked first"
+    if sheet.len() > 4096 {
+        return Err(Stop { number: 10, detail: sheet.len() as i64 });
+    }
+    let mut cells = Vec::new();
+    for (offset, &byte) in sheet.iter().enumerate() {
+        if !b" |-+\r\n".contains(&byte) {
+            cells.push(cell(byte).ok_or(Stop { number: 2, detail: offset as i64 })?);
+        }
+    }
+    // "not 81 cells after the last byte, with the number of cells"
+    cells.try_into().map_err(|cells: Vec<i32>| Stop { number: 11, detail: cells.len() as i64 })
+}
+
+/// "nine lines of nine characters, `.` for open, each with a line feed, and returns 90"
+pub fn write_sheet(clues: &Clues, lent: &mut [u8]) -> Result<usize, Stop> {
+    if let Some(stop) = unwritable(clues, 90, lent) {
+        return Err(stop);
+    }
+    let mut sheet = Vec::new();
+    for row in clues.chunks(9) {
+        sheet.extend(row.iter().map(|&clue| byte(clue)));
+        sheet.push(b'\n');
+    }
+    lent[..90].copy_from_slice(&sheet);
+    Ok(90)
 }
 
 // ---- the program's card

@@ -1,15 +1,26 @@
-//! Texts to be written and inputs of the card, and what is asked of both.
+//! Texts and sheets to be written and inputs of the card, and what is asked of them.
 
 use crate::cases::Case;
 use crate::random::Random;
 use crate::shrink::{changed, Smaller};
 use crate::sides::{BEHIND, LENT_BYTE};
-use crate::{grids, plain};
+use crate::{grids, plain, Clues, Stop};
 
-// ---- texts
+// ---- texts and canonical sheets
 
-/// How many bytes are lent to the text writer: from 0 to 100.
+/// How many bytes are lent to a writer: from 0 to 100.
 pub const LENGTHS: std::ops::RangeInclusive<usize> = 0..=100;
+
+/// A writer of 81 clues on both sides, how many bytes it writes, and the engine's reader of them.
+pub struct Writer {
+    first: fn(&Clues, &mut [u8]) -> Result<i64, Stop>,
+    second: fn(&Clues, &mut [u8]) -> Result<usize, Stop>,
+    bytes: usize,
+    read: fn(&[u8], &mut Clues) -> Result<i64, Stop>,
+}
+
+pub const TEXTS: Writer = Writer { first: crate::write_text, second: plain::write_text, bytes: 81, read: crate::read };
+pub const SHEETS: Writer = Writer { first: crate::write_sheet, second: plain::write_sheet, bytes: 90, read: crate::read_sheet };
 
 /// Clues, and now and then numbers that are none.
 pub fn text_case(random: &mut Random) -> Case {
@@ -20,15 +31,15 @@ pub fn text_case(random: &mut Random) -> Case {
     case
 }
 
-/// The text in lent bytes of each length: the answer, every lent byte and those behind; and reading it gives the clues.
-pub fn text_differs(case: &Case) -> Option<String> {
+/// What is written into lent bytes of each length: the answer, every lent byte and those behind; and reading it gives the clues.
+pub fn written_differs(writer: &Writer, case: &Case) -> Option<String> {
     let (clues, _) = case.board();
     LENGTHS.into_iter().find_map(|length| {
         let (mut ours, mut theirs) = (vec![LENT_BYTE; length + BEHIND], vec![LENT_BYTE; length + BEHIND]);
-        let answer = crate::write_text(&clues, &mut ours[..length]);
-        let expected = plain::write_text(&clues, &mut theirs[..length]).map(|written| written as i64);
+        let answer = (writer.first)(&clues, &mut ours[..length]);
+        let expected = (writer.second)(&clues, &mut theirs[..length]).map(|written| written as i64);
         let mut read = [7; 81];
-        let mut returned = || answer.is_err() || crate::read(&ours[..81], &mut read).is_ok() && read == clues;
+        let mut returned = || answer.is_err() || (writer.read)(&ours[..writer.bytes], &mut read).is_ok() && read == clues;
         let alike = answer == expected && ours == theirs && returned();
         (!alike).then(|| format!("{length} bytes lent\n  first  {answer:?} {}\n  second {expected:?} {}", shown(&ours), shown(&theirs)))
     })
@@ -42,7 +53,7 @@ fn shown(bytes: &[u8]) -> String {
 
 // ---- cards
 
-/// What the program read.
+/// Bytes that are read: by the program, or as a sheet.
 #[derive(Clone)]
 pub struct Input(pub Vec<u8>);
 
@@ -64,7 +75,7 @@ pub fn input(random: &mut Random) -> Input {
     Input(bytes)
 }
 
-fn grid_text(random: &mut Random) -> Vec<u8> {
+pub fn grid_text(random: &mut Random) -> Vec<u8> {
     let open = *random.pick(&[&b"."[..], b"0", b"0."]);
     grids::clues(random).iter().map(|&clue| if clue == 0 { *random.pick(open) } else { b'0' + clue as u8 }).collect()
 }

@@ -1,11 +1,13 @@
-//! The comparison has teeth: each misreading of document 01 below is found within some thousand cases, and made small.
+//! The comparison has teeth: each misreading of document 01 or 02 below is found within some thousand cases, and made small.
 
 use sudoku_host::cases::{differ, ported_case, Case};
 use sudoku_host::plain::{self, bit, block, col, row, see, unit, Outcome};
 use sudoku_host::random::Random;
 use sudoku_host::record_cases::{board_case, damaged, read_differs, record, written_differs, Record};
+use sudoku_host::sheet_cases::{sheet, sheet_differs};
 use sudoku_host::shrink::shrunk;
 use sudoku_host::sides::{Engine, Original, Plain, Records, Side, CHAIN};
+use sudoku_host::text_cases::Input;
 use sudoku_host::{Clues, Masks, Stop};
 
 /// The plain implementation with one step misread.
@@ -276,4 +278,65 @@ fn record_removal_not_fresh_before_not_rising() {
 #[test]
 fn record_half_an_entry_told_as_a_wrong_one() {
     assert_eq!(found_in_bytes::<HALF_ENTRIES>().0, [1, 0]);
+}
+
+// ---- pasted sheets
+
+type Reader = fn(&[u8]) -> Result<Clues, Stop>;
+
+fn sheet_with(misread: Reader) -> Input {
+    let sheets = (0..20_000).map(|at| sheet(&mut Random::of_case(7, at)));
+    sheets.into_iter().find(|sheet| sheet_differs(misread, sheet).is_some()).expect("the misreading is found")
+}
+
+fn smallest_sheet(misread: Reader) -> Vec<u8> {
+    let (smallest, shows) = shrunk(sheet_with(misread), &|sheet| sheet_differs(misread, sheet));
+    println!("{smallest}{shows}");
+    smallest.0
+}
+
+fn cells(bytes: &[u8]) -> impl Iterator<Item = &u8> {
+    bytes.iter().filter(|byte| b"0123456789.".contains(byte))
+}
+
+#[test]
+fn sheet_offset_counted_in_cells() {
+    let in_cells: Reader = |sheet| match plain::read_sheet(sheet) {
+        Err(Stop { number: 2, detail }) => Err(Stop { number: 2, detail: cells(&sheet[..detail as usize]).count() as i64 }),
+        answer => answer,
+    };
+    assert_eq!(smallest_sheet(in_cells).len(), 2);
+}
+
+#[test]
+fn sheet_cells_counted_before_a_later_byte_is_refused() {
+    let counted_first: Reader = |sheet| match plain::read_sheet(sheet) {
+        Err(Stop { number: 2, .. }) if cells(sheet).count() != 81 => Err(Stop { number: 11, detail: cells(sheet).count() as i64 }),
+        answer => answer,
+    };
+    assert_eq!(smallest_sheet(counted_first).len(), 1);
+}
+
+#[test]
+fn sheet_with_its_82nd_cell_ignored() {
+    let first_cells: Reader = |sheet| match plain::read_sheet(sheet) {
+        Err(Stop { number: 11, detail: 82.. }) => plain::read_text(&cells(sheet).copied().take(81).collect::<Vec<_>>()),
+        answer => answer,
+    };
+    assert_eq!(smallest_sheet(first_cells), [b'.'; 82]);
+}
+
+#[test]
+fn sheet_with_a_dash_for_an_open_cell() {
+    let dashes: Reader = |sheet| plain::read_sheet(&sheet.iter().map(|&byte| if byte == b'-' { b'.' } else { byte }).collect::<Vec<_>>());
+    assert_eq!(smallest_sheet(dashes), *b"-");
+}
+
+#[test]
+fn sheet_whose_bytes_are_looked_at_before_its_length() {
+    let bytes_first: Reader = |sheet| match sheet.iter().position(|byte| !b"0123456789. |-+\r\n".contains(byte)) {
+        Some(offset) => Err(Stop { number: 2, detail: offset as i64 }),
+        None => plain::read_sheet(sheet),
+    };
+    assert!(sheet_with(bytes_first).0.len() > 4096);
 }

@@ -1,9 +1,10 @@
-//! The published cases P1 to P11, the card and the stops of document 01, on the plain implementation; texts written, records and cards on
-//! the engine too.
+//! The published cases P1 to P11, the card and the stops of document 01, on the plain implementation; texts written, sheets, records and cards
+//! on the engine too.
 
 use sudoku_host::grids::{completed, of_text, GRID_A};
 use sudoku_host::plain::{self, fresh, step};
 use sudoku_host::random::Random;
+use sudoku_host::sheet_cases::{ruled, Style, BOXED};
 use sudoku_host::sides::{Engine, Original, Plain, Records, Side};
 use sudoku_host::{Clues, Masks, Stop};
 
@@ -197,6 +198,63 @@ fn the_text_writer() {
         assert_eq!((sudoku_host::write_text(&clues, &mut ours), &ours), (answer, &expected));
         assert_eq!((plain::write_text(&clues, &mut theirs), &theirs), (answer.map(|written| written as usize), &expected));
     }
+}
+
+// ---- pasted sheets (document 02, F-2), on both sides
+
+fn sheet(pasted: &[u8]) -> Result<Clues, Stop> {
+    let mut clues = [7; 81];
+    let answer = sudoku_host::read_sheet(pasted, &mut clues);
+    let expected = plain::read_sheet(pasted);
+    assert_eq!(answer, expected.map(|grid| sudoku_host::counted(&grid)));
+    assert_eq!(clues, expected.unwrap_or([7; 81]));
+    expected
+}
+
+#[test]
+fn sheets_with_rulings() {
+    let text = "53..7....6..195....98....6.8...6...34..8.3..17...2...6.6....28....419..5....8..79";
+    let ruled = String::from_utf8(ruled(text.as_bytes(), &Style { end: "\r\n", ..BOXED })).unwrap();
+    assert!(ruled.starts_with("+-------+-------+-------+\r\n| 5 3 . | . 7 . | . . . |\r\n| 6 . . | 1 9 5 | . . . |\r\n"));
+    assert_eq!(sheet(text.as_bytes()), Ok(of_text(text)));
+    assert_eq!(sheet(ruled.as_bytes()), Ok(of_text(text)));
+    assert_eq!(sheet(ruled.replace('.', "0").as_bytes()), Ok(of_text(text)));
+    assert_eq!(sheet(ruled.replace("5 3", "5\n\n\n3").as_bytes()), Ok(of_text(text)));
+    assert_eq!(sheet(ruled.replace('|', "/").as_bytes()), stop(2, 27));
+    assert_eq!(sheet(ruled.replace("7 9 |", "7 - |").as_bytes()), stop(11, 80));
+    assert_eq!(sheet(ruled.replace("7 9 |", "7 99 |").as_bytes()), stop(11, 82));
+}
+
+#[test]
+fn sheets_refused() {
+    assert_eq!(sheet(b""), stop(11, 0));
+    for cells in [80, 82, 4096] {
+        assert_eq!(sheet(&vec![b'.'; cells]), stop(11, cells as i64));
+    }
+    assert_eq!(sheet(&[b' '; 4096]), stop(11, 0));
+    assert_eq!(sheet(&[b' '; 4097]), stop(10, 4097));
+    assert_eq!(sheet(&[b'x'; 4097]), stop(10, 4097));
+    assert_eq!(sheet(&[[b'.'; 81].as_slice(), &[b'\n'; 4015]].concat()), Ok(OPEN));
+    assert_eq!(sheet(&[[b'.'; 81].as_slice(), b"\nx"].concat()), stop(2, 82));
+    assert_eq!(sheet(&[[b'.'; 85].as_slice(), b"\nx"].concat()), stop(2, 86));
+    assert_eq!(sheet(b" |x"), stop(2, 2));
+}
+
+#[test]
+fn sheets_written() {
+    let mut bad = OPEN;
+    (bad[4], bad[80]) = (10, -1);
+    let canonical = [".........\n456......\n789......\n", &".........\n".repeat(6)].concat();
+    for (clues, lent, answer) in [(p10(), 0, stop(6, 0)), (p10(), 89, stop(6, 89)), (p10(), 90, Ok(90)), (p10(), 91, Ok(90)), (bad, 89, stop(6, 89)), (bad, 90, stop(3, 4))] {
+        let mut expected = vec![b'x'; lent];
+        if answer.is_ok() {
+            expected[..90].copy_from_slice(canonical.as_bytes());
+        }
+        let (mut ours, mut theirs) = (vec![b'x'; lent], vec![b'x'; lent]);
+        assert_eq!((sudoku_host::write_sheet(&clues, &mut ours), &ours), (answer, &expected));
+        assert_eq!((plain::write_sheet(&clues, &mut theirs), &theirs), (answer.map(|written| written as usize), &expected));
+    }
+    assert_eq!(sheet(canonical.as_bytes()), Ok(p10()));
 }
 
 // ---- records, on both sides

@@ -1,4 +1,4 @@
-// The reader, the opener, the board's calls and the writer at their edges. A line for each call, `NAME A B STOP DETAIL`: A and B
+// The readers, the opener, the board's calls and the writers at their edges. A line for each call, `NAME A B STOP DETAIL`: A and B
 // say on what, and STOP is 0 where the call is not refused, with its number or a checksum of its result beside it.
 // tools/board_check.py makes the file `stdout` from the paper's words, and knows nothing of this crate.
 use board::Board;
@@ -69,6 +69,13 @@ fn read(name: &[u8], a: u64, b: u64, bytes: &[u8]) {
     checked(name, a, b, answer, clue_sum(&grid));
 }
 
+fn read_sheet(name: &[u8], a: u64, b: u64, bytes: &[u8]) {
+    let parsed = text::sheets::parse_sheet(bytes);
+    let answer = parsed.answer;
+    let grid = parsed.clues;
+    checked(name, a, b, answer, clue_sum(&grid));
+}
+
 fn opened(a: u64, b: u64, grid: [i32; 81]) {
     let opened = Board::new(grid);
     let answer = opened.answer;
@@ -102,6 +109,29 @@ fn writes(a: u64, grid: &[i32; 81]) {
     let mut more = [b'x'; 100];
     write(a, grid, &mut more[..100]);
     lent(a, 100, &more);
+}
+
+fn write_sheet(a: u64, grid: &[i32; 81], out: &mut [u8]) {
+    let lent = out.len() as u64;
+    match text::sheets::write_sheet(grid, out) {
+        Writing::Written(n) => line(b"canonical", a, lent, n as u64),
+        Writing::Refused(stop) => refused(b"canonical", a, lent, stop),
+    }
+}
+
+fn writes_sheets(a: u64, grid: &[i32; 81]) {
+    let mut none = [b'x'; 100];
+    write_sheet(a, grid, &mut none[..0]);
+    lent(a, 0, &none);
+    let mut few = [b'x'; 100];
+    write_sheet(a, grid, &mut few[..89]);
+    lent(a, 89, &few);
+    let mut just = [b'x'; 100];
+    write_sheet(a, grid, &mut just[..90]);
+    lent(a, 90, &just);
+    let mut more = [b'x'; 100];
+    write_sheet(a, grid, &mut more[..91]);
+    lent(a, 91, &more);
 }
 
 fn judged(a: u64, b: u64, verdict: Verdict) {
@@ -187,6 +217,71 @@ fn bytes() {
     }
 }
 
+// 81 cells and then bytes that are all alike.
+fn cells_before(after: u8) -> [u8; 4097] {
+    let mut sheet = [after; 4097];
+    let mut index: usize = 0;
+    while index < 81 {
+        sheet[index] = b'7';
+        index += 1;
+    }
+    sheet
+}
+
+fn first_bytes(b: u64, sheet: &[u8], length: usize) {
+    if length <= sheet.len() {
+        read_sheet(b"sheet", length as u64, b, &sheet[..length]);
+    }
+}
+
+fn lengths(b: u64, sheet: &[u8; 4097]) {
+    first_bytes(b, sheet, 80);
+    first_bytes(b, sheet, 81);
+    first_bytes(b, sheet, 82);
+    first_bytes(b, sheet, 4096);
+    first_bytes(b, sheet, 4097);
+}
+
+// A byte before 80 cells, and after 81 with passed-over bytes among them.
+fn sheet_byte(byte: u8) {
+    let mut first = [b'.'; 82];
+    first[0] = b' ';
+    first[1] = byte;
+    read_sheet(b"sheet_byte", byte as u64, 1, &first);
+    let mut last = [b'5'; 89];
+    last[40] = b'|';
+    last[41] = b'-';
+    last[42] = b'+';
+    last[43] = b'\r';
+    last[44] = b'\n';
+    last[86] = b' ';
+    last[87] = b'\n';
+    last[88] = byte;
+    read_sheet(b"sheet_byte", byte as u64, 88, &last);
+}
+
+fn sheet_bytes() {
+    let mut byte: u64 = 0;
+    while byte < 256 {
+        sheet_byte(byte as u8);
+        byte += 1;
+    }
+}
+
+fn sheets() {
+    read_sheet(b"sheet", 0, 0, b"");
+    lengths(0, &cells_before(b'.'));
+    lengths(1, &cells_before(b' '));
+    lengths(2, &cells_before(b'x'));
+    sheet_bytes();
+    read_sheet(
+        b"ruled",
+        0,
+        0,
+        b"+-------+-------+-------+\r\n| 5 3 . | . 7 . | . . . |\r\n| 6 . . | 1 9 5 | . . . |\r\n| . 9 8 | . . . | . 6 . |\r\n+-------+-------+-------+\r\n| 8 . . | . 6 . | . . 3 |\r\n| 4 . . | 8 . 3 | . . 1 |\r\n| 7 . . | . 2 . | . . 6 |\r\n+-------+-------+-------+\r\n| . 6 . | . . . | 2 8 . |\r\n| . . . | 4 1 9 | . . 5 |\r\n| . . . | . 8 . | . 7 9 |\r\n+-------+-------+-------+\r\n",
+    );
+}
+
 fn clue_numbers() {
     let mut i: usize = 0;
     while i < 7 {
@@ -238,11 +333,13 @@ fn good(a: u64, bytes: &[u8]) {
     calls(a, 81, board);
     calls(a, 4294967295, board);
     writes(a, &grid);
+    writes_sheets(a, &grid);
 }
 
 fn main() {
     texts();
     bytes();
+    sheets();
     clue_numbers();
     masks_at(0);
     masks_at(80);
@@ -265,4 +362,5 @@ fn main() {
     );
     let bad = with_clue([9; 81], 80, 10);
     writes(13, &bad);
+    writes_sheets(13, &bad);
 }

@@ -48,12 +48,13 @@ few-clues g = omega (arith, clues-few g cells)
 
 -- ---- the writers
 
-pub text-fits : (clues : List ℤ) (lent : ℕ) → Fitting (map pos (T.writeOf clues lent))
+-- texts and sheets: n bytes
+pub text-fits : (n : ℕ) (clues : List ℤ) (lent : ℕ) → n < 2 ^ 63 → Fitting (map pos (T.writeOf n clues lent))
 unfolding T.writeOf
-text-fits clues lent = go (leb 81 lent)
+text-fits n clues lent h = go (leb n lent)
   where
-    go : (t : Bool) → Fitting (map pos (cond t (passing (stopAt BadClue (firstBadClue clues)) 81) (stop (TooFewBytes (pos lent)))))
-    go true = passing-fits (stopAt BadClue (firstBadClue clues)) (omega arith)
+    go : (t : Bool) → Fitting (map pos (cond t (passing (stopAt BadClue (firstBadClue clues)) n) (stop (TooFewBytes (pos lent)))))
+    go true = passing-fits (stopAt BadClue (firstBadClue clues)) h
     go false = tt
 
 pub record-fits : (b : Board) (lent : ℕ) → Fitting (map pos (R.writeOf b lent))

@@ -4,7 +4,7 @@ use Prim.Native.Nat.{ℕ}
 use lib.IntN.{ℤ, pos}
 use lib.ListN.{length}
 use Rattle.stops.specs.Answer.{map}
-use Rattle.text.specs.Texts.{writeOf, written}
+use Rattle.text.specs.Texts.{textOf, writeOf, written}
 use Rattle.card.specs.Cards.{cardBytes, cardLines, cardOf}
 use Rattle.output.specs.Lent.{over}
 use Rattle.host.specs.Codes.{coded}
@@ -12,10 +12,10 @@ use Rattle.host.specs.Codes.{coded}
 -- ---- the text writer, which "returns 81"
 
 abbrev pub textCode : List ℤ → List ℕ → List ℤ
-textCode clues lent = coded (map pos (writeOf clues (length lent))) 0
+textCode clues lent = coded (map pos (writeOf 81 clues (length lent))) 0
 
 abbrev pub writtenText : List ℤ → List ℕ → List ℕ
-writtenText clues lent = written (writeOf clues (length lent)) clues lent
+writtenText clues lent = written (writeOf 81 clues (length lent)) (textOf clues) lent
 
 -- ---- the card: the value is how many bytes it has, and the stops are the reader's
 

@@ -1,7 +1,9 @@
 // What is written to lent arrays: a call's value, or what they held where the call was refused.
 ghost use mathlib.Core.Path.{_≡_};
-ghost use Rattle.stops.specs.Answer.{checkAnswer, passing, valueOr};
+ghost use Rattle.stops.specs.Answer.{checkAnswer, map, passing, valueOr};
 ghost use Rattle.host.specs.Boards.{clueNumber};
+ghost use Rattle.host.specs.Codes.{coded};
+use crate::codes;
 use board::count_clues;
 use stops::Check;
 
@@ -32,4 +34,12 @@ pub fn clue_number(clues: &[i32; 81]) -> i64
     ensures { λ r. ⌜ r ≡ clueNumber (now (clues .entry)) ⌝ }
 {
     count_clues(clues) as i64
+}
+
+// A grid that was read or made: its clues, and how many they are.
+pub fn put_grid(check: Check, grid: &[i32; 81], clues: &mut [i32; 81], answer: &mut [i64; 4])
+    ensures { λ _. ⌜ (now (answer .exit) ≡ coded (map clueNumber (passing (checkAnswer check) (now (grid .entry)))) 0) × (now (clues .exit) ≡ valueOr (now (clues .entry)) (passing (checkAnswer check) (now (grid .entry)))) ⌝ }
+{
+    *answer = codes::of_check(check, clue_number(grid), 0);
+    put_clues(check, grid, clues);
 }

@@ -6,6 +6,7 @@ ghost use Rattle.board.specs.Boards.{handed};
 ghost use Rattle.host.specs.Boards.{asked, checkCode, keptCheck, openCode, openMasks, readClues, readCode};
 ghost use Rattle.host.specs.Records.{recordClues, recordCode, recordMasks, recordReadCode, writtenRecord};
 ghost use Rattle.host.specs.Sets.{setCall, nextCall};
+ghost use Rattle.host.specs.Sheets.{sheetClues, sheetCode, sheetReadCode, writtenSheet};
 ghost use Rattle.host.specs.Steps.{runCode, runMasks, stepCode, stepMasks, stepReports};
 ghost use Rattle.host.specs.Texts.{cardCode, textCode, writtenCard, writtenText};
 use board::Board;
@@ -47,9 +48,8 @@ pub extern "C" fn sudoku_read(text: &[u8], clues: &mut [i32; 81], answer: &mut [
 {
     let parsed = text::parse_string(text);
     let parsing = parsed.answer;
-    let read = parsed.clues;
-    *answer = codes::of_check(parsing, arrays::clue_number(&read), 0);
-    arrays::put_clues(parsing, &read, clues);
+    let grid = parsed.clues;
+    arrays::put_grid(parsing, &grid, clues, answer);
 }
 
 // The text of 81 clues.
@@ -58,6 +58,26 @@ pub extern "C" fn sudoku_write_text(clues: &[i32; 81], text: &mut [u8], answer: 
     ensures { λ _. ⌜ (now (answer .exit) ≡ textCode (now (clues .entry)) (now (text .entry))) × (now (text .exit) ≡ writtenText (now (clues .entry)) (now (text .entry))) ⌝ }
 {
     let writing = text::write_text(clues, text);
+    *answer = codes::of_writing(writing);
+}
+
+// The clues of a pasted sheet.
+#[no_mangle]
+pub extern "C" fn sudoku_read_sheet(sheet: &[u8], clues: &mut [i32; 81], answer: &mut [i64; 4])
+    ensures { λ _. ⌜ (now (answer .exit) ≡ sheetReadCode (now (sheet .entry))) × (now (clues .exit) ≡ sheetClues (now (sheet .entry)) (now (clues .entry))) ⌝ }
+{
+    let parsed = text::sheets::parse_sheet(sheet);
+    let accepting = parsed.answer;
+    let cells = parsed.clues;
+    arrays::put_grid(accepting, &cells, clues, answer);
+}
+
+// The canonical sheet of 81 clues.
+#[no_mangle]
+pub extern "C" fn sudoku_write_sheet(clues: &[i32; 81], sheet: &mut [u8], answer: &mut [i64; 4])
+    ensures { λ _. ⌜ (now (answer .exit) ≡ sheetCode (now (clues .entry)) (now (sheet .entry))) × (now (sheet .exit) ≡ writtenSheet (now (clues .entry)) (now (sheet .entry))) ⌝ }
+{
+    let writing = text::sheets::write_sheet(clues, sheet);
     *answer = codes::of_writing(writing);
 }
 

@@ -2,7 +2,7 @@
 use Prim.Native.Nat.{ℕ}
 use lib.IntN.{ℤ, pos}
 use Rattle.stops.specs.declared.Stop.{Stop}
-use Rattle.stops.specs.declared.Stop.the-variants.{TextLength, OtherByte, BadClue, BadDigit, NoCell, TooFewBytes, RecordBytes, RecordEntry, NotFresh, BadMask}
+use Rattle.stops.specs.declared.Stop.the-variants.{TextLength, OtherByte, BadClue, BadDigit, NoCell, TooFewBytes, RecordBytes, RecordEntry, NotFresh, BadMask, SheetLength, SheetCells}
 
 pub record Row : Type 0 where
   pub number : ℕ
@@ -11,7 +11,7 @@ pub record Row : Type 0 where
 abbrev row : ℕ → ℤ → Row
 row n z = record { number = n; detail = z }
 
--- "No." and "Beside it" of each row
+-- "No." and "Beside it" of each row; from 10 on those of document 02: "Stops in these requests join 01's table."
 abbrev pub rowOf : Stop → Row
 rowOf (TextLength z) = row 1 z
 rowOf (OtherByte z) = row 2 z
@@ -23,3 +23,5 @@ rowOf (RecordBytes z) = row 7 z
 rowOf (RecordEntry z) = row 8 z
 rowOf (NotFresh z) = row 9 z
 rowOf (BadMask z) = row 9 z
+rowOf (SheetLength z) = row 10 z
+rowOf (SheetCells z) = row 11 z

@@ -1,4 +1,4 @@
-// The stops (refusals) of the paper's table, one enum for all calls: "A refusal hands back only number and detail".
+// The stops (refusals) of the paper's table and of document 02, one enum for all calls: "A refusal hands back only number and detail".
 ghost use mathlib.Core.Path.{_≡_};
 ghost use Rattle.stops.specs.Answer.{checkAnswer, passing, then, writingAnswer};
 ghost use Rattle.stops.specs.Stops.{rowOf};
@@ -25,6 +25,10 @@ pub enum Stop {
     NotFresh(i64),
     // The first cell whose mask holds what the fresh one lacks, or is a clue cell's and not its digit.
     BadMask(i64),
+    // The length of a sheet that is longer than 4,096 bytes.
+    SheetLength(i64),
+    // How many cells a sheet has, which is not 81.
+    SheetCells(i64),
 }
 
 // What a call answers whose value stands beside the answer.
@@ -60,6 +64,8 @@ pub fn number(stop: Stop) -> u8
         Stop::RecordEntry(_) => 8,
         Stop::NotFresh(_) => 9,
         Stop::BadMask(_) => 9,
+        Stop::SheetLength(_) => 10,
+        Stop::SheetCells(_) => 11,
     }
 }
 
@@ -78,6 +84,8 @@ pub fn detail(stop: Stop) -> i64
         Stop::RecordEntry(offset) => offset,
         Stop::NotFresh(offset) => offset,
         Stop::BadMask(cell) => cell,
+        Stop::SheetLength(length) => length,
+        Stop::SheetCells(count) => count,
     }
 }
 

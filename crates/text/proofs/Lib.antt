@@ -1,2 +1,5 @@
 pub mod Texts
 pub mod Readings
+pub mod Gathering
+pub mod SheetAnswers
+pub mod SheetLaws

@@ -63,7 +63,7 @@ plain-below b e = go (decLt b 58)
     go (no h) = absurd (true≢false (ap noCell (over b (λ q. omega (arith, q)) (omega arith) (omega arith)) ∙ e))
 
 -- a test of every byte that stands for a cell
-plain-test : (f : ℕ → Bool) → T (allBelow 58 (λ b. implies (not (isOther b)) (f b))) → (b : ℕ) → isOther b ≡ false → T (f b)
+pub plain-test : (f : ℕ → Bool) → T (allBelow 58 (λ b. implies (not (isOther b)) (f b))) → (b : ℕ) → isOther b ≡ false → T (f b)
 plain-test f t b e = implied (not (isOther b)) (f b) (below 58 (λ b. implies (not (isOther b)) (f b)) t b (plain-below b e)) (ap not e)
 
 byte-good : (b : ℕ) → isOther b ≡ false → badClue (byteClue b) ≡ false
@@ -81,7 +81,7 @@ digit-cell d h = go (ℕ-discrete d 0)
         let k : d + 48 - 48 ≡ d = omega arith in
         ap byteCell (cond-false (eqb d 0) 46 (d + 48) (ne-eqb d 0 n)) ∙ sym (digit (d + 48) (λ q. omega (arith, q)) (omega arith) (omega arith)) ∙ ap some k
 
-clue-cell : (z : ℤ) → byteCell (clueByte z) ≡ some (digitOf z)
+pub clue-cell : (z : ℤ) → byteCell (clueByte z) ≡ some (digitOf z)
 clue-cell z = digit-cell (digitOf z) (digit-small z)
 
 -- ---- reading and opening
@@ -126,8 +126,8 @@ module _ (z : List ℤ) (ok : Clues z) where
           at-cells (pos 0) (λ i. byteClue (getD (textOf z) i 0)) c h ∙ ap cellClue (byte-of c h) ∙ good-digit (getD z c (pos 0)) (ok .good c h)
 
   -- the first 81 lent bytes, read again
-  pub written-read : (lent : List ℕ) → 81 ≤ length lent → parseOf (take 81 (written (writeOf z (length lent)) z lent)) ≡ gives z
+  pub written-read : (lent : List ℕ) → 81 ≤ length lent → parseOf (take 81 (written (writeOf 81 z (length lent)) (textOf z) lent)) ≡ gives z
   unfolding cells
   written-read lent h =
-      ap (λ (w : Answer ℕ). parseOf (take 81 (written w z lent))) (sym (long-enough z (length lent) h) ∙ ap (λ (o : Option ℕ). passing (stopAt BadClue o) 81) (cells-none (λ c. badClue (getD z c (pos 0))) (ok .good)))
+      ap (λ (w : Answer ℕ). parseOf (take 81 (written w (textOf z) lent))) (sym (long-enough 81 z (length lent) h) ∙ ap (λ (o : Option ℕ). passing (stopAt BadClue o) 81) (cells-none (λ c. badClue (getD z c (pos 0))) (ok .good)))
       ∙ ap parseOf (take-at (textOf z) (drop 81 lent) 81 refl) ∙ writes-read

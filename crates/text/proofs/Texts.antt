@@ -1,17 +1,21 @@
 -- Grids as text: what a byte stands for, and what the reader and the writer answer. Assumes nothing.
-use mathlib.Core.Path.{_≡_, sym}
-use mathlib.Core.List.{List}
-use mathlib.Core.Option.{none, some}
+use mathlib.Core.Path.{_≡_, sym, ap, _∙_}
+use mathlib.Core.List.{List, _++_}
+use mathlib.Core.Option.{Option, none, some}
 use Prim.Native.Nat.{ℕ, _-_, _≤_, _<_}
+use native.Mathlib.Decide.{decLe}
+use native.Mathlib.Omega.{arith}
 use borrow.Author.Tests.{eq-eqb, ne-eqb, le-leb, lt-leb}
 use lib.Dec.{eqb, leb}
 use lib.IntN.{ℤ, pos}
-use lib.ListN.{length}
-use Rattle.stops.specs.Answer.{stop, passing, stopAt}
+use lib.ListN.{length, drop}
+use Rattle.stops.specs.Answer.{Answer, gives, stop, passing, stopAt}
+use Rattle.stops.specs.declared.Stop.{Stop}
 use Rattle.stops.specs.declared.Stop.the-variants.{TextLength, OtherByte, BadClue, TooFewBytes}
+use Rattle.stops.proofs.Answers.{gives-same, stop-gives}
 use Rattle.candidates.proofs.Tests.{cond-true, cond-false}
 use Rattle.steps.specs.Calls.{firstBadClue}
-use Rattle.text.specs.Texts.{byteCell, firstOther, cluesOf, parseOf, writeOf}
+use Rattle.text.specs.Texts.{byteCell, firstOther, cluesOf, parseOf, writeOf, written}
 
 -- ---- a byte
 
@@ -40,13 +44,34 @@ module _ (t : List ℕ) where
   unfolding parseOf
   right-length h = sym (cond-true (eqb (length t) 81) _ (stop (TextLength (pos (length t)))) (eq-eqb (length t) 81 h))
 
--- ---- the writer
+-- ---- a writer of m bytes
 
-module _ (z : List ℤ) (n : ℕ) where
-  pub too-short : n < 81 → stop (TooFewBytes (pos n)) ≡ writeOf z n
+module _ (m : ℕ) (z : List ℤ) (n : ℕ) where
+  pub too-short : n < m → stop (TooFewBytes (pos n)) ≡ writeOf m z n
   unfolding writeOf
-  too-short h = sym (cond-false (leb 81 n) _ (stop (TooFewBytes (pos n))) (lt-leb 81 n h))
+  too-short h = sym (cond-false (leb m n) _ (stop (TooFewBytes (pos n))) (lt-leb m n h))
 
-  pub long-enough : 81 ≤ n → passing (stopAt BadClue (firstBadClue z)) 81 ≡ writeOf z n
+  pub long-enough : m ≤ n → passing (stopAt BadClue (firstBadClue z)) m ≡ writeOf m z n
   unfolding writeOf
-  long-enough h = sym (cond-true (leb 81 n) _ (stop (TooFewBytes (pos n))) (le-leb 81 n h))
+  long-enough h = sym (cond-true (leb m n) _ (stop (TooFewBytes (pos n))) (le-leb m n h))
+
+  pub wrote-all : {k : ℕ} → gives k ≡ writeOf m z n → (k ≡ m) × (m ≤ n)
+  unfolding writeOf
+  wrote-all {k} e = go (decLe m n)
+    where
+      counted : (o : Option ℕ) → gives k ≡ passing (stopAt BadClue o) m → k ≡ m
+      counted none e = gives-same e
+      counted (some c) e = absurd (stop-gives (sym e))
+
+      go : Dec (m ≤ n) → (k ≡ m) × (m ≤ n)
+      go (yes h) = (counted (firstBadClue z) (e ∙ sym (long-enough h)), h)
+      go (no h) = absurd (stop-gives (too-short (omega arith) ∙ sym e))
+
+  -- what stands in the lent bytes after it
+  module _ (bytes lent : List ℕ) where
+    pub refusal-keeps : {s : Stop} → stop s ≡ writeOf m z n → lent ≡ written (writeOf m z n) bytes lent
+    refusal-keeps e = ap (λ (a : Answer ℕ). written a bytes lent) e
+
+    pub bytes-written : {k : ℕ} {out : List ℕ} → gives k ≡ writeOf m z n → out ≡ bytes ++ drop m lent → out ≡ written (writeOf m z n) bytes lent
+    bytes-written {k} e put =
+        put ∙ ap (λ (j : ℕ). bytes ++ drop j lent) (sym (wrote-all e .0)) ∙ ap (λ (a : Answer ℕ). written a bytes lent) e

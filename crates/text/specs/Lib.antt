@@ -1,1 +1,3 @@
 pub mod Texts
+pub mod Sheets
+pub mod SheetLaws

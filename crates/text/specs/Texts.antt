@@ -63,14 +63,14 @@ clueByte z = cond (eqb (digitOf z) 0) 46 (digitOf z + 48)
 abbrev pub textOf : List ℤ → List ℕ
 textOf clues = map (λ c. clueByte (getD clues c (pos 0))) cells
 
--- "lent bytes too few"; "then" the first bad clue; else it "returns 81"
-unfoldable pub writeOf : List ℤ → ℕ → Answer ℕ
-writeOf clues lent = cond (leb 81 lent) (passing (stopAt BadClue (firstBadClue clues)) 81) (stop (TooFewBytes (pos lent)))
+-- a writer of n bytes, 81 of a text: "lent bytes too few"; "then" the first bad clue; else it "returns" n
+unfoldable pub writeOf : ℕ → List ℤ → ℕ → Answer ℕ
+writeOf n clues lent = cond (leb n lent) (passing (stopAt BadClue (firstBadClue clues)) n) (stop (TooFewBytes (pos lent)))
 
--- "puts `.` for open into the first 81 lent bytes ..; later bytes keep"; a refusal leaves all of them
-abbrev pub written : Answer ℕ → List ℤ → List ℕ → List ℕ
-written (gives n) clues lent = textOf clues ++ drop 81 lent
-written (stop s) clues lent = lent
+-- what it writes "into the first .. lent bytes ..; later bytes keep"; a refusal leaves all of them
+abbrev pub written : Answer ℕ → List ℕ → List ℕ → List ℕ
+written (gives n) bytes lent = bytes ++ drop n lent
+written (stop s) bytes lent = lent
 
 -- a text as the writer would write its cells: `.` for `0`
 abbrev pub plainByte : ℕ → ℕ

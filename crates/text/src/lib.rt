@@ -1,6 +1,6 @@
 // Grids as text (module 12): 81 bytes, `1` to `9`; `0` and `.` are open.
 ghost use mathlib.Core.Path.{_≡_};
-ghost use Prim.Native.Nat.{_≤_};
+ghost use Prim.Native.Nat.{_<_, _^_, _≤_};
 ghost use lib.ListN.{drop, getD, length};
 ghost use mathlib.Core.List.{_++_};
 ghost use Rattle.stops.specs.Answer.{checkAnswer, passing, stopAt, valueOr, writingAnswer};
@@ -11,6 +11,8 @@ use board::clues;
 use stops::Check;
 use stops::Stop;
 use stops::Writing;
+
+pub mod sheets;
 
 // What a byte of a text is: a cell, with its digit or 0 where it is open, or any other byte.
 enum TextByte {
@@ -139,18 +141,26 @@ fn put_text(grid: &[i32; 81], out: &mut [u8])
     }
 }
 
-// The text of 81 clues, `.` for open, in the first 81 lent bytes: stop 6 with their length, then stop 3 with the cell.
-pub fn write_text(grid: &[i32; 81], out: &mut [u8]) -> Writing
-    ensures { λ r. ⌜ (writingAnswer r ≡ writeOf (now (grid .entry)) (length (now (out .entry)))) × (now (out .exit) ≡ written (writeOf (now (grid .entry)) (length (now (out .entry)))) (now (grid .entry)) (now (out .entry))) ⌝ }
+// What a writer of `needed` bytes answers: stop 6 with the length of the lent ones, then stop 3 with the cell.
+fn writing(needed: usize, grid: &[i32; 81], lent: usize) -> Writing
+    requires { ⌜ lent < 2 ^ 63 ⌝ }
+    ensures { λ r. ⌜ writingAnswer r ≡ writeOf needed (now (grid .entry)) lent ⌝ }
 {
-    if out.len() < 81 {
-        return Writing::Refused(Stop::TooFewBytes(out.len() as i64));
+    if lent < needed {
+        return Writing::Refused(Stop::TooFewBytes(lent as i64));
     }
-    match clues::check_clues(grid) {
-        Check::Refused(stop) => Writing::Refused(stop),
-        Check::Passed => {
-            put_text(grid, out);
-            Writing::Written(81)
-        }
-    }
+    let check = clues::check_clues(grid);
+    stops::written(check, needed)
+}
+
+// The text of 81 clues, `.` for open, in the first 81 lent bytes.
+pub fn write_text(grid: &[i32; 81], out: &mut [u8]) -> Writing
+    ensures { λ r. ⌜ (writingAnswer r ≡ writeOf 81 (now (grid .entry)) (length (now (out .entry)))) × (now (out .exit) ≡ written (writeOf 81 (now (grid .entry)) (length (now (out .entry)))) (textOf (now (grid .entry))) (now (out .entry))) ⌝ }
+{
+    let answer = writing(81, grid, out.len());
+    let Writing::Written(_) = answer else {
+        return answer;
+    };
+    put_text(grid, out);
+    answer
 }

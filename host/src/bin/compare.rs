@@ -14,10 +14,11 @@ use sudoku_host::cases::{self, Case};
 use sudoku_host::oracle::{self, SudokuCandidateSet, SudokuSolver};
 use sudoku_host::random::Random;
 use sudoku_host::record_cases as records;
+use sudoku_host::sheet_cases as sheets;
 use sudoku_host::shrink::{shrunk, Smaller};
 use sudoku_host::sides::{Engine, Original, Plain, Side, CHAIN, PORTED};
 use sudoku_host::text_cases as texts;
-use sudoku_host::{digits, grids, plain, read, set, single_candidate, verify, Clues, SetAnswer, SetCall, Stop};
+use sudoku_host::{counted, digits, grids, plain, read, set, single_candidate, verify, SetAnswer, SetCall, Stop};
 
 struct Options {
     seed: u64,
@@ -40,16 +41,18 @@ struct Counts {
     records: u64,
     bytes: u64,
     written: u64,
+    sheets: u64,
+    canonical: u64,
     cards: u64,
 }
 
 impl std::fmt::Display for Counts {
     fn fmt(&self, out: &mut std::fmt::Formatter) -> std::fmt::Result {
-        let Counts { sets, grids, texts, lists, calls, boards, damaged, runs, pairs, records, bytes, written, cards } = self;
+        let Counts { sets, grids, texts, lists, calls, boards, damaged, runs, pairs, records, bytes, written, sheets, canonical, cards } = self;
         write!(out, "{sets} set calls, {grids} filled grids, {texts} texts, {lists} lists of {calls} ported calls, ")?;
         write!(out, "{boards} boards through the wide passes, {damaged} damaged boards, {runs} runs of lists, {pairs} pairs of lists settled, ")?;
         write!(out, "{records} boards written as records and read back, {bytes} damaged and random records read, ")?;
-        write!(out, "{written} texts written, {cards} cards")
+        write!(out, "{written} texts written, {sheets} sheets read, {canonical} canonical sheets written, {cards} cards")
     }
 }
 
@@ -111,6 +114,7 @@ fn run(options: &Options, counts: &mut Counts) -> Result<(), String> {
 fn a_round(round: u64, random: &mut Random, counts: &mut Counts) -> Result<(), String> {
     some_grids(random, counts)?;
     some_texts(random, counts)?;
+    a_sheet(&sheets::sheet(random), counts)?;
     a_list(&cases::ported_case(random), counts)?;
     a_damaged_board(random, counts)?;
     match round % 4 {
@@ -119,7 +123,7 @@ fn a_round(round: u64, random: &mut Random, counts: &mut Counts) -> Result<(), S
         _ => a_run(random, counts)?,
     }
     match round % 4 {
-        0 => a_written_text(random, counts),
+        0 => a_written_text(random, counts).and_then(|()| some_sheets(random, counts)),
         2 => a_card(random, counts),
         _ => a_record(random, counts),
     }
@@ -245,10 +249,6 @@ fn some_texts(random: &mut Random, counts: &mut Counts) -> Result<(), String> {
     same(alike, || format!("text {words:?}: engine {ours:?}, original {theirs:?}"))
 }
 
-fn counted(clues: &Clues) -> i64 {
-    clues.iter().filter(|&&clue| clue != 0).count() as i64
-}
-
 // ---- lists of calls
 
 fn published(counts: &mut Counts) -> Result<(), String> {
@@ -317,7 +317,20 @@ fn a_record(random: &mut Random, counts: &mut Counts) -> Result<(), String> {
 
 fn a_written_text(random: &mut Random, counts: &mut Counts) -> Result<(), String> {
     counts.written += texts::LENGTHS.count() as u64;
-    sound(&texts::text_case(random), "a text written, engine and plain", &texts::text_differs)
+    sound(&texts::text_case(random), "a text written, engine and plain", &|case| texts::written_differs(&texts::TEXTS, case))
+}
+
+fn a_sheet(sheet: &texts::Input, counts: &mut Counts) -> Result<(), String> {
+    counts.sheets += 1;
+    sound(sheet, "a sheet read, engine and plain", &sheets::plain_differs)
+}
+
+/// A sheet with each byte put in somewhere, and a canonical sheet written.
+fn some_sheets(random: &mut Random, counts: &mut Counts) -> Result<(), String> {
+    let sheet = sheets::sheet(random);
+    sheets::with_every_byte(random, &sheet).iter().try_for_each(|sheet| a_sheet(sheet, counts))?;
+    counts.canonical += texts::LENGTHS.count() as u64;
+    sound(&texts::text_case(random), "a canonical sheet written, engine and plain", &|case| texts::written_differs(&texts::SHEETS, case))
 }
 
 fn a_card(random: &mut Random, counts: &mut Counts) -> Result<(), String> {

@@ -3,7 +3,7 @@
 //!     measure SIDE CALL ROUNDS
 //!
 //! SIDE is original, plain or engine; CALL a step number, 255 for no step, or one of `verify`, `repeat` (the verifier where the second cell
-//! repeats the first), `read`, `open`, `count`, `record`, `card` and `setN`
+//! repeats the first), `read`, `open`, `count`, `sheet`, `canonical` (a canonical sheet written), `record`, `card` and `setN`
 //! (0 insert, 1 remove, 2 contains, 3 len, 4 single_candidate). A round is 64 boards. What a call costs is the difference of two runs,
 //! divided by the difference of their calls; for a step also less what making the board costs, which 255 has alone:
 //!
@@ -13,8 +13,9 @@ use std::hint::black_box;
 
 use sudoku_host::oracle::{self, SudokuCandidateSet, SudokuSolver};
 use sudoku_host::random::Random;
+use sudoku_host::sheet_cases::{ruled, BOXED};
 use sudoku_host::sides::{Original, Plain, Side};
-use sudoku_host::{card, clue_count, grids, open, plain, read, read_record, records, set, step, verify, write_record, Clues, Masks, SetCall};
+use sudoku_host::{card, clue_count, grids, open, plain, read, read_record, read_sheet, records, set, step, verify, write_record, write_sheet, Clues, Masks, SetCall};
 
 const BOARDS: usize = 64;
 
@@ -29,6 +30,8 @@ fn main() {
         (_, "read") => reading(side, &mut random, rounds),
         (_, "open") => opening(side, &mut random, rounds),
         (_, "count") => counting(side, &mut random, rounds),
+        ("plain" | "engine", "sheet") => pasting(side, &mut random, rounds),
+        ("plain" | "engine", "canonical") => canonical(side, &mut random, rounds),
         ("plain" | "engine", "record") => recording(side, &mut random, rounds),
         ("plain" | "engine", "card") => carding(side, &mut random, rounds),
         (_, call) if call.starts_with("set") => setting(side, call[3..].parse().unwrap_or_else(|_| usage()), rounds),
@@ -40,7 +43,7 @@ fn main() {
 }
 
 fn usage() -> ! {
-    eprintln!("measure original|plain|engine STEP|verify|repeat|read|open|count|record|card|setN ROUNDS");
+    eprintln!("measure original|plain|engine STEP|verify|repeat|read|open|count|sheet|canonical|record|card|setN ROUNDS");
     std::process::exit(2)
 }
 
@@ -141,6 +144,32 @@ fn counting(side: &str, random: &mut Random, rounds: usize) {
             match side {
                 "engine" => drop(black_box(clue_count(black_box(&clues), &masks))),
                 _ => drop(black_box(black_box(&solver).clue_count())),
+            }
+        }
+    }
+}
+
+/// A sheet as a program prints it, with rulings; the original has none.
+fn pasting(side: &str, random: &mut Random, rounds: usize) {
+    let mut clues = [0; 81];
+    for (grid, _) in boards(random) {
+        let sheet = ruled(grid.map(|clue| clue.to_string()).concat().as_bytes(), &BOXED);
+        for _ in 0..rounds {
+            match side {
+                "engine" => drop(black_box(read_sheet(black_box(&sheet), &mut clues))),
+                _ => drop(black_box(plain::read_sheet(black_box(&sheet)))),
+            }
+        }
+    }
+}
+
+fn canonical(side: &str, random: &mut Random, rounds: usize) {
+    let mut bytes = [0; 90];
+    for (clues, _) in boards(random) {
+        for _ in 0..rounds {
+            match side {
+                "engine" => drop(black_box(write_sheet(black_box(&clues), &mut bytes))),
+                _ => drop(black_box(plain::write_sheet(black_box(&clues), &mut bytes))),
             }
         }
     }

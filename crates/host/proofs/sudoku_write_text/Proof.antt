@@ -1,5 +1,6 @@
 -- The writer's answer, coded; the text stands as it wrote it.
 use borrow.Author.Needs.{needs}
+use native.Mathlib.Omega.{arith}
 use lib.ListN.{length}
 use Rattle.host.proofs.Fitting.{text-fits}
 use mathlib.Core.Path.{sym, ap, subst, _∙_}
@@ -18,7 +19,7 @@ of-writing-requires : tie.Need-of-writing-requires
 of-writing-requires c κs =
     let w = c .before .before in
     let a = w .before .before .before .args in
-    subst (λ (x : Answer ℕ). Fitting (map pos x)) (sym (w .write-text .ensures .0)) (text-fits (a .clues .now) (length (a .text .now)))
+    subst (λ (x : Answer ℕ). Fitting (map pos x)) (sym (w .write-text .ensures .0)) (text-fits 81 (a .clues .now) (length (a .text .now)) (omega arith))
 
 same-length : tie.Need-same-length
 same-length c = search needs

@@ -52,6 +52,12 @@ enum-known-stop-9 c = search needs
 enum-known-stop-10 : tie.Need-enum-known-stop-10
 enum-known-stop-10 c = search needs
 
+enum-known-stop-11 : tie.Need-enum-known-stop-11
+enum-known-stop-11 c = search needs
+
+enum-known-stop-12 : tie.Need-enum-known-stop-12
+enum-known-stop-12 c = search needs
+
 returns : tie.Need-returns
 returns c = beside (c .before .stop .given .1) (search needs) refl
 
@@ -82,6 +88,12 @@ returns-9 c = beside (c .before .stop9 .given .1) (search needs) refl
 returns-10 : tie.Need-returns-10
 returns-10 c = beside (c .before .stop10 .given .1) (search needs) refl
 
+returns-11 : tie.Need-returns-11
+returns-11 c = beside (c .before .stop11 .given .1) (search needs) refl
+
+returns-12 : tie.Need-returns-12
+returns-12 c = beside (c .before .stop12 .given .1) (search needs) refl
+
 pub detail-spec : {M : Type 1} → statement M
 detail-spec =
     tie.close
@@ -98,6 +110,8 @@ detail-spec =
     enum-known-stop-8
     enum-known-stop-9
     enum-known-stop-10
+    enum-known-stop-11
+    enum-known-stop-12
     returns
     returns-2
     returns-3
@@ -107,4 +121,6 @@ detail-spec =
     returns-7
     returns-8
     returns-9
-    returns-10)
+    returns-10
+    returns-11
+    returns-12)

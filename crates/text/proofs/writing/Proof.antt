@@ -1,0 +1,34 @@
+-- `text::writing` meets its contract. Assumes nothing.
+use mathlib.Core.Path.{ap, _∙_}
+use borrow.Author.Needs.{needs}
+use lib.IntN.{ℤ}
+use Rattle.stops.specs.Answer.{Answer, stop, passing}
+use Rattle.stops.specs.declared.Stop.the-variants.{TooFewBytes}
+use Rattle.stops.proofs.Numbers.{small}
+use Rattle.text.proofs.Texts.{too-short, long-enough}
+use Rattle.text.proofs.writing.Statement.{statement}
+use Rattle.text.proofs.writing.Tie as tie
+
+cast-t6 : tie.Need-cast-t6
+cast-t6 c = search needs
+
+returns : tie.Need-returns
+returns c =
+    let a = c .before .args in
+    ap (λ (z : ℤ). stop (TooFewBytes z)) (small (c .before .pre)) ∙ too-short (a .needed) (a .grid .now) (a .lent) (c .if1 .taken)
+
+check-clues-requires : tie.Need-check-clues-requires
+check-clues-requires c κs = search needs
+
+written-requires : tie.Need-written-requires
+written-requires c κs = search needs
+
+returns-2 : tie.Need-returns-2
+returns-2 c =
+    let k = c .before in
+    let a = k .before .before .args in
+    c .written .ensures ∙ ap (λ (x : Answer (Unit {0})). passing x (a .needed)) (k .check-clues .ensures)
+    ∙ long-enough (a .needed) (a .grid .now) (a .lent) (k .before .if1 .left)
+
+pub writing-spec : {M : Type 1} → statement M
+writing-spec = tie.close (tie.spec cast-t6 returns check-clues-requires written-requires returns-2)
