@@ -53,6 +53,8 @@ ORDER = [
     ("calls/specs/Replays", "lists of step numbers"),
     ("calls/specs/Demand3", "demand 3, of what the calls hand back"),
     ("calls/specs/Verdicts", "on which boards a verdict says it"),
+    ("trial_rounds/specs/Rounds", "document 02, F-11: trial rounds"),
+    ("trial_rounds/specs/Promises", "the promise on trial rounds"),
     ("output/specs/Decimals", "numbers in decimal"),
     ("output/specs/Lent", "bytes over lent ones"),
     ("table_text/specs/Tables", "document 02, F-12: the two tables as bytes"),
@@ -68,6 +70,7 @@ ORDER = [
     ("host/specs/Texts", "the exports of texts and cards"),
     ("host/specs/Sheets", "the exports of sheets"),
     ("host/specs/Records", "the exports of records"),
+    ("host/specs/Rounds", "the export of trial rounds"),
 ]
 PASSED_OVER = re.compile(r"\s*($|--|use |pub use |unfoldable pub use |pub mod |mod )")
 

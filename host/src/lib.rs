@@ -7,6 +7,7 @@ pub mod plain;
 pub mod random;
 pub mod record_cases;
 pub mod records;
+pub mod round_cases;
 pub mod sheet_cases;
 pub mod shrink;
 pub mod sides;
@@ -36,6 +37,7 @@ extern "C" {
     fn sudoku_write_sheet(clues: *const Clues, sheet: *mut u8, length: usize, answer: *mut Answer);
     fn sudoku_write_record(clues: *const Clues, masks: *const Masks, record: *mut u8, length: usize, answer: *mut Answer);
     fn sudoku_read_record(record: *const u8, length: usize, clues: *mut Clues, masks: *mut Masks, answer: *mut Answer);
+    fn sudoku_trial_round(start: u32, percentage: u32, solution: *const Clues, clues: *mut Clues, answer: *mut Answer);
     fn sudoku_card(input: *const u8, length: usize, card: *mut CardBytes, answer: *mut Answer);
 }
 
@@ -206,6 +208,11 @@ pub fn write_record(clues: &Clues, masks: &Masks, record: &mut [u8]) -> Result<i
 /// The board of a record, and how many clues it has.
 pub fn read_record(record: &[u8], clues: &mut Clues, masks: &mut Masks) -> Result<i64, Stop> {
     Ok(answered(|answer| unsafe { sudoku_read_record(record.as_ptr(), record.len(), clues, masks, answer) })?.0)
+}
+
+/// The clues of a trial round, and how many they are.
+pub fn trial_round(start: u32, percentage: u32, solution: &Clues, clues: &mut Clues) -> Result<i64, Stop> {
+    Ok(answered(|answer| unsafe { sudoku_trial_round(start, percentage, solution, clues, answer) })?.0)
 }
 
 /// The card of the bytes that the program `scorecard` read, in the first lent bytes, and how many were written.

@@ -587,6 +587,25 @@ pub fn write_sheet(clues: &Clues, lent: &mut [u8]) -> Result<usize, Stop> {
     Ok(90)
 }
 
+// ---- trial rounds (document 02, F-11)
+
+/// "17, percentage above 100, with the percentage, checked first; then 18, the solution does not pass the verifier, with detail 0"
+pub fn trial_round(start: u32, percentage: u32, solution: &Clues) -> Result<Clues, Stop> {
+    if percentage > 100 {
+        return Err(Stop { number: 17, detail: percentage.into() });
+    }
+    if !verify(solution) {
+        return Err(Stop { number: 18, detail: 0 });
+    }
+    let modulus = 2_147_483_648;
+    let mut state = u64::from(start) % modulus;
+    Ok(std::array::from_fn(|cell| {
+        state = (1_103_515_245 * state + 12_345) % modulus;
+        let kept = (state / 65_536) % 100 < u64::from(percentage);
+        if kept { solution[cell] } else { 0 }
+    }))
+}
+
 // ---- the program's card
 
 /// What the program prints.

@@ -1,5 +1,5 @@
-//! The published cases P1 to P11, the card and the stops of document 01, on the plain implementation; texts written, sheets, records and cards
-//! on the engine too.
+//! The published cases P1 to P11, the card and the stops of document 01, on the plain implementation; texts written, sheets, records,
+//! cards and trial rounds on the engine too.
 
 use sudoku_host::grids::{completed, of_text, GRID_A};
 use sudoku_host::plain::{self, fresh, step};
@@ -380,4 +380,32 @@ fn records_with_two_faults() {
     refused(&[1, 0, 1, 2, 0, 1, 1, 81, 1], 9, 5);
     refused(&[1, 0, 1, 2, 0, 1, 1], 9, 5);
     refused(&[1, 0, 1, 1, 0, 1, 1, 1], 9, 5);
+}
+
+/// A round on both sides: the clues, or the stop and what was lent.
+fn trial_round(start: u32, percentage: u32, solution: &Clues) -> Result<Clues, Stop> {
+    let mut clues = [7; 81];
+    let ours = sudoku_host::trial_round(start, percentage, solution, &mut clues);
+    let expected = plain::trial_round(start, percentage, solution);
+    assert_eq!(ours, expected.map(|clues| clues.iter().filter(|&&clue| clue != 0).count() as i64));
+    assert_eq!(clues, expected.unwrap_or([7; 81]));
+    expected
+}
+
+#[test]
+fn trial_rounds() {
+    let solution = of_text(GRID_A);
+    for start in [0, 1, 2_147_483_648, u32::MAX] {
+        assert_eq!(trial_round(start, 0, &solution), Ok(OPEN));
+        assert_eq!(trial_round(start, 100, &solution), Ok(solution));
+    }
+    // 12345 / 65536 is 0, and the next move goes to 1406932606: 21468, that is 68
+    let round = trial_round(0, 68, &solution).unwrap();
+    assert_eq!((round[0], round[1]), (1, 0));
+    assert_eq!(trial_round(0, 69, &solution).unwrap()[1], 2);
+    assert_eq!(trial_round(2_147_483_648, 30, &solution), trial_round(0, 30, &solution));
+    assert_ne!(trial_round(u32::MAX, 30, &solution), trial_round(0, 30, &solution));
+    assert_eq!(trial_round(0, 101, &OPEN), stop(17, 101));
+    assert_eq!(trial_round(0, u32::MAX, &solution), stop(17, 4_294_967_295));
+    assert_eq!(trial_round(0, 100, &OPEN), stop(18, 0));
 }

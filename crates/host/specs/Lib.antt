@@ -5,4 +5,5 @@ pub mod Steps
 pub mod Texts
 pub mod Sheets
 pub mod Records
+pub mod Rounds
 pub mod code

@@ -5,6 +5,7 @@ ghost use Rattle.grid.specs.Fillings.{verified};
 ghost use Rattle.board.specs.Boards.{handed};
 ghost use Rattle.host.specs.Boards.{asked, checkCode, keptCheck, openCode, openMasks, readClues, readCode};
 ghost use Rattle.host.specs.Records.{recordClues, recordCode, recordMasks, recordReadCode, writtenRecord};
+ghost use Rattle.host.specs.Rounds.{trialClues, trialCode};
 ghost use Rattle.host.specs.Sets.{setCall, nextCall};
 ghost use Rattle.host.specs.Sheets.{sheetClues, sheetCode, sheetReadCode, writtenSheet};
 ghost use Rattle.host.specs.Steps.{runCode, runMasks, stepCode, stepMasks, stepReports};
@@ -220,6 +221,23 @@ pub extern "C" fn sudoku_read_record(
     *answer = codes::of_check(reading, arrays::clue_number(&grid), 0);
     arrays::put_clues(reading, &grid, clues);
     arrays::put_masks(reading, &sets, masks);
+}
+
+// A trial round of a solution.
+#[no_mangle]
+pub extern "C" fn sudoku_trial_round(
+    start: u32,
+    percentage: u32,
+    solution: &[i32; 81],
+    clues: &mut [i32; 81],
+    answer: &mut [i64; 4],
+)
+    ensures { λ _. ⌜ (now (answer .exit) ≡ trialCode start percentage (now (solution .entry))) × (now (clues .exit) ≡ trialClues start percentage (now (solution .entry)) (now (clues .entry))) ⌝ }
+{
+    let made = trial_rounds::trial_round(start, percentage, solution);
+    let making = made.answer;
+    let kept = made.clues;
+    arrays::put_grid(making, &kept, clues, answer);
 }
 
 // The card of a text.

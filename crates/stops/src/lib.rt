@@ -3,7 +3,7 @@ ghost use mathlib.Core.Path.{_≡_};
 ghost use Rattle.stops.specs.Answer.{checkAnswer, passing, then, writingAnswer};
 ghost use Rattle.stops.specs.Stops.{rowOf};
 
-// A place or a length stands beside its stop as an `i64`, the type that `detail` answers in; a caller's own digit or cell as it was handed in.
+// A place or a length stands beside its stop as an `i64`, the type that `detail` answers in; a caller's own digit, cell or percentage as it was handed in.
 pub enum Stop {
     // A text's length, which is not 81.
     TextLength(i64),
@@ -29,6 +29,10 @@ pub enum Stop {
     SheetLength(i64),
     // How many cells a sheet has, which is not 81.
     SheetCells(i64),
+    // A percentage above 100.
+    BadPercentage(u32),
+    // A solution that does not pass the verifier; nothing stands beside it.
+    BadSolution,
 }
 
 // What a call answers whose value stands beside the answer.
@@ -66,6 +70,8 @@ pub fn number(stop: Stop) -> u8
         Stop::BadMask(_) => 9,
         Stop::SheetLength(_) => 10,
         Stop::SheetCells(_) => 11,
+        Stop::BadPercentage(_) => 17,
+        Stop::BadSolution => 18,
     }
 }
 
@@ -86,6 +92,8 @@ pub fn detail(stop: Stop) -> i64
         Stop::BadMask(cell) => cell,
         Stop::SheetLength(length) => length,
         Stop::SheetCells(count) => count,
+        Stop::BadPercentage(percentage) => percentage as i64,
+        Stop::BadSolution => 0,
     }
 }
 

@@ -14,6 +14,7 @@ use sudoku_host::cases::{self, Case};
 use sudoku_host::oracle::{self, SudokuCandidateSet, SudokuSolver};
 use sudoku_host::random::Random;
 use sudoku_host::record_cases as records;
+use sudoku_host::round_cases as rounds;
 use sudoku_host::sheet_cases as sheets;
 use sudoku_host::shrink::{shrunk, Smaller};
 use sudoku_host::sides::{Engine, Original, Plain, Side, CHAIN, PORTED};
@@ -44,15 +45,16 @@ struct Counts {
     sheets: u64,
     canonical: u64,
     cards: u64,
+    rounds: u64,
 }
 
 impl std::fmt::Display for Counts {
     fn fmt(&self, out: &mut std::fmt::Formatter) -> std::fmt::Result {
-        let Counts { sets, grids, texts, lists, calls, boards, damaged, runs, pairs, records, bytes, written, sheets, canonical, cards } = self;
+        let Counts { sets, grids, texts, lists, calls, boards, damaged, runs, pairs, records, bytes, written, sheets, canonical, cards, rounds } = self;
         write!(out, "{sets} set calls, {grids} filled grids, {texts} texts, {lists} lists of {calls} ported calls, ")?;
         write!(out, "{boards} boards through the wide passes, {damaged} damaged boards, {runs} runs of lists, {pairs} pairs of lists settled, ")?;
         write!(out, "{records} boards written as records and read back, {bytes} damaged and random records read, ")?;
-        write!(out, "{written} texts written, {sheets} sheets read, {canonical} canonical sheets written, {cards} cards")
+        write!(out, "{written} texts written, {sheets} sheets read, {canonical} canonical sheets written, {cards} cards, {rounds} trial rounds")
     }
 }
 
@@ -123,10 +125,11 @@ fn a_round(round: u64, random: &mut Random, counts: &mut Counts) -> Result<(), S
         _ => a_run(random, counts)?,
     }
     match round % 4 {
-        0 => a_written_text(random, counts).and_then(|()| some_sheets(random, counts)),
-        2 => a_card(random, counts),
-        _ => a_record(random, counts),
+        0 => a_written_text(random, counts).and_then(|()| some_sheets(random, counts))?,
+        2 => a_card(random, counts)?,
+        _ => a_record(random, counts)?,
     }
+    a_trial_round(random, counts)
 }
 
 // ---- the candidate set
@@ -336,6 +339,13 @@ fn some_sheets(random: &mut Random, counts: &mut Counts) -> Result<(), String> {
 fn a_card(random: &mut Random, counts: &mut Counts) -> Result<(), String> {
     counts.cards += 1;
     sound(&texts::input(random), "a card, engine and plain", &texts::card_differs)
+}
+
+fn a_trial_round(random: &mut Random, counts: &mut Counts) -> Result<(), String> {
+    let round = rounds::round(random);
+    counts.rounds += 1;
+    sound(&round, "a trial round, engine and plain", &rounds::round_differs)?;
+    sound(&round, "a trial round's solution on the engine", &rounds::solution_lost)
 }
 
 fn sound<T: Smaller + Display>(case: &T, what: &str, fault: &dyn Fn(&T) -> Option<String>) -> Result<(), String> {

@@ -58,6 +58,15 @@ enum-known-stop-11 c = search needs
 enum-known-stop-12 : tie.Need-enum-known-stop-12
 enum-known-stop-12 c = search needs
 
+enum-known-stop-13 : tie.Need-enum-known-stop-13
+enum-known-stop-13 c = search needs
+
+cast-result-3 : tie.Need-cast-result-3
+cast-result-3 c = search needs
+
+enum-told : tie.Need-enum-told
+enum-told c = search needs
+
 returns : tie.Need-returns
 returns c = beside (c .before .stop .given .1) (search needs) refl
 
@@ -94,6 +103,12 @@ returns-11 c = beside (c .before .stop11 .given .1) (search needs) refl
 returns-12 : tie.Need-returns-12
 returns-12 c = beside (c .before .stop12 .given .1) (search needs) refl
 
+returns-13 : tie.Need-returns-13
+returns-13 c = beside (c .before .stop13 .given .1) (small (omega (arith, c .known-told13 .given .0 .1))) refl
+
+returns-14 : tie.Need-returns-14
+returns-14 c = beside (c .enum-told .given .1) refl refl
+
 pub detail-spec : {M : Type 1} → statement M
 detail-spec =
     tie.close
@@ -112,6 +127,9 @@ detail-spec =
     enum-known-stop-10
     enum-known-stop-11
     enum-known-stop-12
+    enum-known-stop-13
+    cast-result-3
+    enum-told
     returns
     returns-2
     returns-3
@@ -123,4 +141,6 @@ detail-spec =
     returns-9
     returns-10
     returns-11
-    returns-12)
+    returns-12
+    returns-13
+    returns-14)
