@@ -1,6 +1,6 @@
 #!/usr/bin/env python3
 """What the program card_check must print: the cards of some inputs and the refusals of others. Made from the paper's words
-(modules 6 to 9, 13 and 15, the table of stops); it knows nothing of the program.
+(modules 6 to 9, 13 and 15, the table of stops; Claiming: document 02, F-5); it knows nothing of the program.
 
     python3 tools/card_check.py > crates/card_check/stdout
 
@@ -74,6 +74,14 @@ class Board:
                         if set(line) & set(box) and all(cell in line for cell in box if d in self.sets[cell]):
                             self.lose([cell for cell in line if cell not in box], {d})
 
+    # document 02, F-5
+    def claiming(self):
+        for line in ROWS + COLUMNS:
+            for d in DIGITS:
+                for box in BOXES:
+                    if set(line) & set(box) and all(cell in box for cell in line if d in self.sets[cell]):
+                        self.lose([cell for cell in box if cell not in line], {d})
+
     def cross(self):
         for lines, across in [(ROWS, COLUMNS), (COLUMNS, ROWS)]:
             for d in DIGITS:
@@ -89,7 +97,7 @@ class Board:
         while True:
             sweeps += 1
             last = list(self.sets)
-            for step in [self.lone, self.place, self.pair, self.pointing, self.cross]:
+            for step in [self.lone, self.place, self.pair, self.pointing, self.claiming, self.cross]:
                 step()
             if self.sets == last:
                 return sweeps, before - sum(map(len, self.sets))
@@ -136,8 +144,11 @@ A = b"12345678945678912378912345623156489756489723189723156431264597864597831297
 P8 = b"...4567893" + b"." * 71
 P10 = b"." * 9 + b"456......789......" + b"." * 54
 P11 = b"55" + b"." * 79
+CLAIMED = b"...456789" + b"." * 72
 PUZZLE = b"53..7....6..195....98....6.8...6...34..8.3..17...2...6.6....28....419..5....8..79"
 HARD = b"8..........36......7..9.2...5...7.......457.....1...3...1....68..85...1..9....4.."
+# five passes leave 218 candidates of 234, the six finish it
+NEEDS_CLAIMING = b"...6...3..7......44....859..68.37..........2.73...5..13...4.....8.52..1...1..6..."
 ZEROS = b"0" * 81
 DIGITS_5000 = b"5" * 5000
 
@@ -165,6 +176,8 @@ INPUTS = [
     P11,
     PUZZLE,
     HARD,
+    CLAIMED,
+    NEEDS_CLAIMING,
 ]
 
 

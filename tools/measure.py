@@ -24,6 +24,7 @@ STEPS = {
     "8": "Place",
     "9": "Pair",
     "10": "Pointing",
+    "14": "Claiming",
     "11": "Cross",
     "12": "settling",
 }
@@ -39,7 +40,7 @@ OTHERS = {
     "card": "card",
 }
 # what the original has not
-ENGINE_ALONE = {"7", "8", "9", "10", "11", "12", "sheet", "canonical", "record", "card"}
+ENGINE_ALONE = {"7", "8", "9", "10", "14", "11", "12", "sheet", "canonical", "record", "card"}
 BOARDS = 64
 FEW, MANY = 1, 5
 

@@ -121,7 +121,7 @@ pub fn run_case(random: &mut Random) -> Case {
     let mut case = Case::fresh(grids::clues(random), list(random, &STEPS, 12));
     if random.percent(20) {
         let at = random.within(0, case.steps.len());
-        case.steps.insert(at, random.within(CHAIN as usize + 1, 255) as u8);
+        case.steps.insert(at, random.within(STEPS.len(), 255) as u8);
     }
     if random.percent(10) {
         case.numbers.push((random.below(81), *random.pick(&[-1, 10, i32::MIN, i32::MAX])));

@@ -374,6 +374,20 @@ impl Board {
         }
     }
 
+    /// Document 02, F-5: all cells of a row or column that hold the digit are in one box, and the other cells of that box lose it.
+    fn claiming(&mut self) {
+        for line in (0..18).map(unit) {
+            for digit in 1..=9 {
+                for inside in (18..27).map(unit).filter(|inside| inside.iter().any(|cell| line.contains(cell))) {
+                    let claimed = line.iter().all(|&cell| !self.holds(cell, digit) || inside.contains(&cell));
+                    for &cell in inside.iter().filter(|&cell| claimed && !line.contains(cell)) {
+                        self.lose(cell, bit(digit));
+                    }
+                }
+            }
+        }
+    }
+
     fn cross(&mut self) {
         for (lines, across) in [(0, col as fn(usize) -> usize), (9, row)] {
             for digit in 1..=9 {
@@ -408,6 +422,7 @@ impl Board {
         self.place();
         self.pair();
         self.pointing();
+        self.claiming();
         self.cross();
     }
 
@@ -428,7 +443,7 @@ impl Board {
 // ---- the calls by number
 
 /// 0 update_candidates, 1 naked pairs, 2 box-line, 3 X-wing, 4 naked singles, 5 hidden singles, 6 apply_advanced_techniques,
-/// 7 Lone, 8 Place, 9 Pair, 10 Pointing, 11 Cross, 12 settling, 13 the chain pass.
+/// 7 Lone, 8 Place, 9 Pair, 10 Pointing, 11 Cross, 12 settling, 13 the chain pass, 14 Claiming.
 pub fn step(number: u8, clues: &Clues, masks: &Masks) -> Result<Outcome, Stop> {
     if let Some(stop) = check(clues, masks) {
         return Err(stop);
@@ -449,6 +464,7 @@ pub fn step(number: u8, clues: &Clues, masks: &Masks) -> Result<Outcome, Stop> {
         11 => Ok(removing(&mut board, Board::cross)),
         12 => Ok(settling(&mut board)),
         13 => Ok(removing(&mut board, Board::chain_pass)),
+        14 => Ok(removing(&mut board, Board::claiming)),
         _ => Err(Stop { number: -1, detail: number as i64 }),
     }
 }

@@ -7,13 +7,14 @@ use crate::{records, Clues, Masks, Stop};
 /// update_candidates, naked pairs, box-line, X-wing, both singles, apply_advanced_techniques; the chain pass.
 pub const PORTED: [u8; 8] = [0, 1, 2, 3, 4, 5, 6, CHAIN];
 /// The wide passes and settling.
-pub const WIDE: [u8; 6] = [7, 8, 9, 10, 11, SETTLING];
+pub const WIDE: [u8; 7] = [7, 8, 9, 10, CLAIMING, 11, SETTLING];
 /// All calls but the chain pass.
-pub const SOUND: [u8; 13] = [0, 1, 2, 3, 4, 5, 6, 7, 8, 9, 10, 11, SETTLING];
-/// Every step number.
-pub const STEPS: [u8; 14] = [0, 1, 2, 3, 4, 5, 6, 7, 8, 9, 10, 11, SETTLING, CHAIN];
+pub const SOUND: [u8; 14] = [0, 1, 2, 3, 4, 5, 6, 7, 8, 9, 10, 11, SETTLING, CLAIMING];
+/// Every step number, rising from 0.
+pub const STEPS: [u8; 15] = [0, 1, 2, 3, 4, 5, 6, 7, 8, 9, 10, 11, SETTLING, CHAIN, CLAIMING];
 pub const SETTLING: u8 = 12;
 pub const CHAIN: u8 = 13;
+pub const CLAIMING: u8 = 14;
 
 /// What lent bytes hold before, and those behind them, which no call may write.
 pub const LENT_BYTE: u8 = 0xA5;

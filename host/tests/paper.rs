@@ -38,7 +38,7 @@ fn removed(before: &Masks, after: &Masks) -> u32 {
 fn p1_the_open_grid() {
     let masks = fresh(&OPEN);
     assert_eq!(masks, [511; 81]);
-    for number in [1, 2, 3, 7, 8, 9, 10, 11, 13] {
+    for number in [1, 2, 3, 7, 8, 9, 10, 14, 11, 13] {
         let outcome = step(number, &OPEN, &masks).unwrap();
         assert!(!outcome.flag && outcome.masks == masks, "step {number}");
     }
@@ -95,7 +95,7 @@ fn p7_nothing_to_remove() {
     cells.iter().for_each(|&cell| clues[cell] = 0);
     let masks = fresh(&clues);
     assert_eq!(cells.map(|cell| masks[cell]), [3, 3, 6, 6, 5, 5]);
-    for number in [1, 2, 3, 7, 8, 9, 10, 11, 13] {
+    for number in [1, 2, 3, 7, 8, 9, 10, 14, 11, 13] {
         assert!(!step(number, &clues, &masks).unwrap().flag, "step {number}");
     }
 }
@@ -130,6 +130,24 @@ fn p10_box_line_and_the_card() {
         assert_eq!(plain::card(input), stop(number, detail));
         let mut lent = [7; 256];
         assert_eq!((sudoku_host::card(input, &mut lent), lent), (stop(number, detail), [7; 256]));
+    }
+}
+
+/// Document 02, F-5: row 0 holds 1, 2 and 3 in its first box alone; no other wide pass removes anything, so a sweep of five would stop at once.
+#[test]
+fn claiming() {
+    let clues = with(&[(0, "...456789")]);
+    let masks = fresh(&clues);
+    for number in [7, 8, 9, 10, 11] {
+        assert!(!step(number, &clues, &masks).unwrap().flag, "step {number}");
+    }
+    let mut claimed = masks;
+    [9, 10, 11, 18, 19, 20].iter().for_each(|&cell| claimed[cell] = 504);
+    for outcome in [step(14, &clues, &masks), Engine::start(&clues, &masks).step(14)] {
+        assert_eq!(outcome.map(|outcome| (outcome.flag, outcome.masks)), Ok((true, claimed)));
+    }
+    for settled in [step(12, &clues, &masks), Engine::start(&clues, &masks).step(12)] {
+        assert_eq!(settled.map(|settled| (settled.sweeps, settled.removed, settled.masks)), Ok((2, 18, claimed)));
     }
 }
 

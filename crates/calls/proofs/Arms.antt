@@ -34,7 +34,7 @@ module _ (b : S.Board) where
   step-is k j e is = ap (Option·map (λ (k : Call). answer k b)) (sym (ap (λ (i : ℕ). getD (map some stepCalls) i none) e ∙ is))
 
   -- a number past all of them
-  pub no-step-is : {n : ℕ} → 14 ≤ n → none ≡ stepAnswer n b
+  pub no-step-is : {n : ℕ} → 15 ≤ n → none ≡ stepAnswer n b
   unfolding stepAnswer stepCall
   no-step-is past = ap (Option·map (λ (k : Call). answer k b)) (sym (List·getD-eq-default (map some stepCalls) none past))
 

@@ -35,7 +35,7 @@ pub record StepsWithoutChain (ns : List ℕ) : Type 0 where
   pub steps : firstNoStep ns ≡ none
   pub without : withoutChain (callsOf ns) ≡ true
 
--- "A board is settled when none of the five wide steps would remove a candidate."
+-- "A board is settled when none of the" six "wide steps would remove a candidate."
 abbrev pub IsSettled : Board → Type 0
 IsSettled b = Settled (givensOf (b .clues)) (b .masks)
 
@@ -78,9 +78,9 @@ pub record Demand3 : Type 0 where
   pub taken : (clues : List ℤ) → Clues clues → (ks : List Call) (b : Board) → After clues ks b → checkOf (boardOf b) ≡ gives tt
   -- "any clue grid of 0 to 9 and any two lists of document 01's board calls without the chain pass"
   pub lists : (clues : List ℤ) → Clues clues → (ks ls : List Call) → withoutChain ks ≡ true → withoutChain ls ≡ true → (B C : Board) → After clues ks B → After clues ls C → Ends clues B C
-  -- and so of any two values that `replay` hands back; step numbers below 13 are those of the calls without the chain pass
+  -- and so of any two values that `replay` hands back; step numbers below 15 other than 13 are those of the calls without the chain pass
   pub replayed : (clues : List ℤ) → Clues clues → (ns ms : List ℕ) → StepsWithoutChain ns → StepsWithoutChain ms → (B C : Replayed) → Replays clues ns B → Replays clues ms C → Ends clues (B .board) (C .board)
-  pub below : (ns : List ℕ) → ((i : ℕ) → i < length ns → getD ns i 0 < 13) → StepsWithoutChain ns
+  pub below : (ns : List ℕ) → ((i : ℕ) → i < length ns → (getD ns i 0 < 15) × (getD ns i 0 ≢ 13)) → StepsWithoutChain ns
   -- `apply_lone` to `apply_cross`, and `apply_settling`, "handed any board that no listed stop refuses"
   pub passes : (k : Kind) (b : Board) → Admitted (boardOf b) → (r : Eliminated) → Eliminates (wide k) (boardOf b) r → PassDone k b r
   pub settling : (b : Board) → Admitted (boardOf b) → (r : SettledBoard) → Settles (boardOf b) r → (n : ℕ) × (x : ℕ) × SettlingDone b r n x

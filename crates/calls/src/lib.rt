@@ -46,6 +46,7 @@ pub fn step(number: u8, board: Board) -> Stepped
         11 => answers::of_elimination(eliminations::apply_cross(board)),
         12 => answers::of_settling(passes::apply_settling(board)),
         13 => answers::of_elimination(eliminations::apply_alternating_inference_chains(board)),
+        14 => answers::of_elimination(eliminations::apply_claiming(board)),
         _ => answers::quiet(Stepping::NoStep, board),
     }
 }

@@ -7,6 +7,7 @@ use Rattle.cases.proofs.P8.{p8-holds, p9-holds}
 use Rattle.cases.proofs.P10.{p10-holds}
 use Rattle.cases.proofs.P11.{p11-holds}
 use Rattle.cases.proofs.Full.{full-holds}
+use Rattle.cases.proofs.Claimed.{claimed-holds}
 
 pub cases : Cases
 cases =
@@ -23,4 +24,5 @@ cases =
       ten = p10-holds;
       eleven = p11-holds;
       full = full-holds;
+      claiming = claimed-holds;
     }

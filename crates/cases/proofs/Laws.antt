@@ -8,7 +8,7 @@ use Rattle.steps.specs.Boards.{givensOf, fresh, sameMasks}
 use Rattle.steps.specs.Calls.{Call, Outcome, nakedPairsCall, boxLineCall, xWingCall, advancedCall, chainCall, wide, eliminationOutcome, outcome}
 use Rattle.steps.specs.Chains.{chains}
 use Rattle.steps.specs.Loops.{each}
-use Rattle.steps.specs.Passes.{Kind, Lone, Place, Pair, Pointing, Cross, pass, sweep, settleIn, settle}
+use Rattle.steps.specs.Passes.{Kind, Lone, Place, Pair, Pointing, Claiming, Cross, pass, sweep, settleIn, settle}
 use Rattle.steps.specs.Ported.{nakedPairs, boxLines, xWings}
 use Rattle.candidates.proofs.Tests.{by-test}
 use Rattle.steps.proofs.Masks.{same-refl}
@@ -51,21 +51,22 @@ pub advanced-fresh : (clues : List ℤ) → onFresh advancedCall clues .masks �
 unfolding outcome
 advanced-fresh clues = by-test (λ (n : List ℕ). n ≡ freshMasks clues) (onFresh advancedCall clues .flag) (freshMasks clues) (freshMasks clues) (λ t. refl) (λ t. refl)
 
--- ---- the five passes
+-- ---- the six passes
 
-pub every-pass : (g m : List ℕ) → pass g Lone m ≡ m → pass g Place m ≡ m → pass g Pair m ≡ m → pass g Pointing m ≡ m → pass g Cross m ≡ m → (k : Kind) → pass g k m ≡ m
-every-pass g m l p q r c Lone = l
-every-pass g m l p q r c Place = p
-every-pass g m l p q r c Pair = q
-every-pass g m l p q r c Pointing = r
-every-pass g m l p q r c Cross = c
+pub every-pass : (g m : List ℕ) → pass g Lone m ≡ m → pass g Place m ≡ m → pass g Pair m ≡ m → pass g Pointing m ≡ m → pass g Claiming m ≡ m → pass g Cross m ≡ m → (k : Kind) → pass g k m ≡ m
+every-pass g m l p q r s c Lone = l
+every-pass g m l p q r s c Place = p
+every-pass g m l p q r s c Pair = q
+every-pass g m l p q r s c Pointing = r
+every-pass g m l p q r s c Claiming = s
+every-pass g m l p q r s c Cross = c
 
 -- ---- settling
 
 module _ (g : List ℕ) where
-  pub sweep-by : (m : List ℕ) {a b c d e : List ℕ} → pass g Lone m ≡ a → pass g Place a ≡ b → pass g Pair b ≡ c → pass g Pointing c ≡ d → pass g Cross d ≡ e → sweep g m ≡ e
+  pub sweep-by : (m : List ℕ) {a b c d e f : List ℕ} → pass g Lone m ≡ a → pass g Place a ≡ b → pass g Pair b ≡ c → pass g Pointing c ≡ d → pass g Claiming d ≡ e → pass g Cross e ≡ f → sweep g m ≡ f
   unfolding sweep each
-  sweep-by m p q r s t = ap (pass g Cross) (ap (pass g Pointing) (ap (pass g Pair) (ap (pass g Place) p ∙ q) ∙ r) ∙ s) ∙ t
+  sweep-by m p q r s t u = ap (pass g Cross) (ap (pass g Claiming) (ap (pass g Pointing) (ap (pass g Pair) (ap (pass g Place) p ∙ q) ∙ r) ∙ s) ∙ t) ∙ u
 
   -- a sweep that changes nothing is the last
   pub last-sweep : (n : ℕ) (m : List ℕ) → sweep g m ≡ m → settleIn (suc n) g m ≡ record { sweeps = 1; left = m }
@@ -78,4 +79,4 @@ module _ (g : List ℕ) where
   next-sweep n m e d = rw (e, d)
 
   pub settled-still : (m : List ℕ) → ((k : Kind) → pass g k m ≡ m) → settle g m ≡ record { sweeps = 1; left = m }
-  settled-still m w = last-sweep 729 m (sweep-by m (w Lone) (w Place) (w Pair) (w Pointing) (w Cross))
+  settled-still m w = last-sweep 729 m (sweep-by m (w Lone) (w Place) (w Pair) (w Pointing) (w Claiming) (w Cross))

@@ -9,5 +9,6 @@ pub mod P8
 pub mod P10
 pub mod P11
 pub mod Full
+pub mod Claimed
 pub mod Cases
 pub mod Misread

@@ -19,9 +19,9 @@ use Rattle.steps.specs.Boards.{at, givensOf, isOpen, fresh, taken, total}
 use Rattle.steps.specs.Calls.{wide, opened, run}
 use Rattle.steps.specs.Calls.{Clues}
 use Rattle.steps.specs.Fillings.{KeepsClues, InMasks}
-use Rattle.steps.specs.Instances.{stepOf, lones, places, pointings}
+use Rattle.steps.specs.Instances.{stepOf, lones, places, pointings, claimings}
 use Rattle.steps.specs.Loops.{for, upTo}
-use Rattle.steps.specs.Passes.{Lone, Place, Pointing, Cross, instances, instanceTaken, pass, settle}
+use Rattle.steps.specs.Passes.{Lone, Place, Pointing, Claiming, Cross, instances, instanceTaken, pass, settle}
 use Rattle.steps.specs.Ported.{spots, nakedPairAt, nakedPairs}
 use Rattle.steps.specs.Steps.{Step, stepTaken}
 use Rattle.steps.proofs.Check.{clues-by}
@@ -83,7 +83,7 @@ place-over-open-cells =
 -- ---- "Giving Pair only two open cells with equal masks": that is the ported naked pairs.
 
 unfoldable pub openSweep : List ℕ → List ℕ → List ℕ
-openSweep g m = pass g Cross (pass g Pointing (nakedPairs g (pass g Place (pass g Lone m))))
+openSweep g m = pass g Cross (pass g Claiming (pass g Pointing (nakedPairs g (pass g Place (pass g Lone m)))))
 
 -- P11 and one more clue 5 in each other row, so that every unit has its 5. (On P11 alone Pointing and Place empty row 0 too, one sweep later.)
 unfoldable pub fives : List ℤ
@@ -141,13 +141,17 @@ pointing : pass g Pointing m ≡ m
 unfolding g m pass instances pointings each stepTaken stepOf for unit units
 pointing = refl
 
+claiming : pass g Claiming m ≡ m
+unfolding g m pass instances claimings each stepTaken stepOf for unit units
+claiming = refl
+
 cross : pass g Cross m ≡ m
 unfolding g m spots gather onesIn unit units
 cross = cross-idle g m tt
 
 sweep-still : openSweep g m ≡ m
 unfolding openSweep
-sweep-still = rw (lone, place-pass, naked-pairs, pointing, cross)
+sweep-still = rw (lone, place-pass, naked-pairs, pointing, claiming, cross)
 
 few : total m < 730
 unfolding total ones m

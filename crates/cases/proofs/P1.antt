@@ -12,9 +12,9 @@ use Rattle.grid.specs.Units.{units, unit}
 use Rattle.steps.specs.Boards.{givensOf, fresh, taken, total}
 use Rattle.steps.specs.Calls.{Outcome, nakedSinglesCall, hiddenSinglesCall, advancedCall, settlingCall, outcome, opened}
 use Rattle.steps.specs.Chains.{firstSome, weakLinks, strongLinks, enter, chainEnd, chainDigit, chains}
-use Rattle.steps.specs.Instances.{stepOf, lones, places, pointings}
+use Rattle.steps.specs.Instances.{stepOf, lones, places, pointings, claimings}
 use Rattle.steps.specs.Loops.{for, first}
-use Rattle.steps.specs.Passes.{Kind, Lone, Place, Pair, Pointing, Cross, instances, pass, settle, Sweeps, removedBy}
+use Rattle.steps.specs.Passes.{Kind, Lone, Place, Pair, Pointing, Claiming, Cross, instances, pass, settle, Sweeps, removedBy}
 use Rattle.steps.specs.Ported.{spots, nakedPairAt, nakedPairs, boxLineAt, boxLines, xWingAt, xWingDigit, xWings}
 use Rattle.steps.specs.Singles.{nakedSingles, hiddenSingles}
 use Rattle.steps.specs.Steps.{stepTaken}
@@ -70,12 +70,16 @@ pointing : pass g Pointing m ≡ m
 unfolding g m pass instances pointings each stepTaken stepOf for unit units
 pointing = refl
 
+claiming : pass g Claiming m ≡ m
+unfolding g m pass instances claimings each stepTaken stepOf for unit units
+claiming = refl
+
 cross : pass g Cross m ≡ m
 unfolding g m spots gather onesIn unit units
 cross = cross-idle g m tt
 
 wide-pass : (k : Kind) → pass g k m ≡ m
-wide-pass = every-pass g m lone place pair pointing cross
+wide-pass = every-pass g m lone place pair pointing claiming cross
 
 -- ---- singles
 

@@ -13,9 +13,9 @@ use Rattle.grid.specs.Lists.{each}
 use Rattle.grid.specs.Units.{units, unit}
 use Rattle.steps.specs.Boards.{givensOf, fresh, taken, total, sameMasks}
 use Rattle.steps.specs.Calls.{Outcome, boxLineCall, advancedCall, settlingCall, outcome}
-use Rattle.steps.specs.Instances.{stepOf, lones, places, pointings}
+use Rattle.steps.specs.Instances.{stepOf, lones, places, pointings, claimings}
 use Rattle.steps.specs.Loops.{for, first}
-use Rattle.steps.specs.Passes.{Lone, Place, Pair, Pointing, Cross, instances, pass, sweep, settle, removedBy}
+use Rattle.steps.specs.Passes.{Lone, Place, Pair, Pointing, Claiming, Cross, instances, pass, sweep, settle, removedBy}
 use Rattle.steps.specs.Ported.{spots, boxLineAt, boxLines}
 use Rattle.steps.specs.Singles.{nakedSingles, hiddenSingles}
 use Rattle.steps.specs.Steps.{stepTaken}
@@ -140,15 +140,19 @@ pointing₂ : pass g Pointing n ≡ n
 unfolding g n pass instances pointings each stepTaken stepOf for unit units
 pointing₂ = refl
 
+claiming : pass g Claiming n ≡ n
+unfolding g n pass instances claimings each stepTaken stepOf for unit units
+claiming = refl
+
 cross : pass g Cross n ≡ n
 unfolding g n spots gather onesIn unit units
 cross = cross-idle g n tt
 
 sweep₁ : sweep g m ≡ n
-sweep₁ = sweep-by g m lone₁ place₁ pair₁ pointing₁ cross
+sweep₁ = sweep-by g m lone₁ place₁ pair₁ pointing₁ claiming cross
 
 sweep₂ : sweep g n ≡ n
-sweep₂ = sweep-by g n lone₂ place₂ pair₂ pointing₂ cross
+sweep₂ = sweep-by g n lone₂ place₂ pair₂ pointing₂ claiming cross
 
 settles : settle g m ≡ record { sweeps = 2; left = n }
 settles = next-sweep g 729 m sweep₁ differ ∙ rw (last-sweep g 728 n sweep₂)

@@ -9,9 +9,9 @@ use Rattle.grid.specs.Lists.{each}
 use Rattle.grid.specs.Units.{units, unit}
 use Rattle.steps.specs.Boards.{givensOf, at, fresh, taken}
 use Rattle.steps.specs.Chains.{firstSome, weakLinks, strongLinks, elimination, enter, chainEnd, chainDigit, chains}
-use Rattle.steps.specs.Instances.{stepOf, lones, places, pointings}
+use Rattle.steps.specs.Instances.{stepOf, lones, places, pointings, claimings}
 use Rattle.steps.specs.Loops.{for, first}
-use Rattle.steps.specs.Passes.{Kind, Lone, Place, Pair, Pointing, Cross, instances, pass}
+use Rattle.steps.specs.Passes.{Kind, Lone, Place, Pair, Pointing, Claiming, Cross, instances, pass}
 use Rattle.steps.specs.Ported.{spots, nakedPairAt, nakedPairs, boxLineAt, boxLines, xWingAt, xWingDigit, xWings}
 use Rattle.steps.specs.Steps.{stepTaken}
 use Rattle.cases.specs.Cases.{Case7}
@@ -79,12 +79,16 @@ pointing : pass g Pointing m ≡ m
 unfolding g m pass instances pointings each stepTaken stepOf for unit units
 pointing = refl
 
+claiming : pass g Claiming m ≡ m
+unfolding g m pass instances claimings each stepTaken stepOf for unit units
+claiming = refl
+
 cross : pass g Cross m ≡ m
 unfolding g m spots gather onesIn unit units
 cross = cross-idle g m tt
 
 wide-pass : (k : Kind) → pass g k m ≡ m
-wide-pass = every-pass g m lone place pair pointing cross
+wide-pass = every-pass g m lone place pair pointing claiming cross
 
 pub p7-holds : Case7
 unfolding m

@@ -1,5 +1,6 @@
 -- The published cases P1 to P11, each of document 01's sentences as an equation about the definitions, and those of document 02's requests; proofs/Cases.antt shows them all.
 use mathlib.Core.Path.{_≡_}
+use mathlib.Core.Logic.{_≢_}
 use mathlib.Core.Bool.{true, false}
 use mathlib.Core.List.{List, [], _∷_, map}
 use Prim.Native.Nat.{ℕ, _≤_, _<_}
@@ -12,14 +13,14 @@ use Rattle.candidates.specs.Masks.{has}
 use Rattle.grid.specs.Fillings.{verified}
 use Rattle.steps.specs.Boards.{at, givensOf, fresh}
 use Rattle.steps.specs.Calls.{Call, Outcome, nakedPairsCall, boxLineCall, xWingCall, nakedSinglesCall, hiddenSinglesCall, advancedCall, wide, settlingCall, chainCall, outcome, checkOf, opened}
-use Rattle.steps.specs.Passes.{Kind, removedBy}
+use Rattle.steps.specs.Passes.{Kind, Claiming, removedBy}
 use Rattle.steps.specs.Singles.{Report}
 use Rattle.board.specs.Boards.{openOf}
 use Rattle.text.specs.Texts.{parseOf}
 use Rattle.record.specs.Records.{recordOf}
 use Rattle.card.specs.Cards.{cardOf, printed}
 use Rattle.cases.specs.Bytes.{ended, p3Text, p10Text, digitText, p2Line, p3Line, p10Card, fullCard, finishedWord, deadWord}
-use Rattle.cases.specs.Grids.{gridA, p1, p4Low, p4High, p5, exchanged, p7, p8, p10, p11}
+use Rattle.cases.specs.Grids.{gridA, p1, p4Low, p4High, p5, exchanged, p7, p8, p10, p11, claimed}
 
 -- the fresh masks of a grid
 abbrev pub freshMasks : List ℤ → List ℕ
@@ -136,6 +137,14 @@ pub record CaseFull : Type 0 where
   pub right : printed (cardOf (digitText gridA)) ≡ fullCard finishedWord (digitText gridA)
   pub repeated : printed (cardOf (digitText exchanged)) ≡ fullCard deadWord (digitText exchanged)
 
+-- Document 02, F-5: row 0 `...456789`, rest open. Row 0 holds 1, 2 and 3 in box 0 alone, so Claiming takes them from the six cells below; no other wide pass removes anything, so that a sweep of five would stop at once.
+pub record CaseClaiming : Type 0 where
+  pub others : (k : Kind) → k ≢ Claiming → Idle (wide k) claimed
+  pub flag : onFresh (wide Claiming) claimed .flag ≡ true
+  pub removed : removedBy (freshMasks claimed) (onFresh (wide Claiming) claimed .masks) ≡ 18
+  pub sweeps : onFresh settlingCall claimed .sweeps ≡ 2
+  pub settled : onFresh settlingCall claimed .removed ≡ 18
+
 -- The cases as a group.
 pub record Cases : Type 0 where
   pub one : Case1
@@ -150,3 +159,4 @@ pub record Cases : Type 0 where
   pub ten : Case10
   pub eleven : Case11
   pub full : CaseFull
+  pub claiming : CaseClaiming

@@ -1,4 +1,4 @@
--- The grids of the published cases: lists of 81 clue numbers, 0 where a cell is open.
+-- The grids of the published cases, and of document 02's: lists of 81 clue numbers, 0 where a cell is open.
 use mathlib.Core.List.{List, [], _∷_, map}
 use Prim.Native.Nat.{ℕ, _-_, _/_, _%_, _^_}
 use lib.IntN.{ℤ, pos, negsuc}
@@ -59,3 +59,7 @@ p10 = gridOf (000000000 ∷ 456000000 ∷ 789000000 ∷ openRows 6)
 -- "P11 clue 5 at cells 0 and 1"
 unfoldable pub p11 : List ℤ
 p11 = gridOf (550000000 ∷ openRows 8)
+
+-- document 02, F-5: row 0 `...456789`, rest open
+unfoldable pub claimed : List ℤ
+claimed = gridOf (000456789 ∷ openRows 8)

@@ -1,4 +1,4 @@
-// The published cases P1 to P11 through the public calls. The file `stdout` is written from the paper's sentences:
+// The published cases P1 to P11, and document 02's of Claiming, through the public calls. The file `stdout` is written from the paper's sentences:
 // a text or clue numbers with the stop and what stands beside it, `step NUMBER FLAG REMOVED` by step numbers, a mask by its cell.
 use board::Board;
 use board::CellMask;
@@ -133,6 +133,7 @@ fn passes(name: &[u8], board: Board) {
     take(name, 8, board);
     take(name, 9, board);
     take(name, 10, board);
+    take(name, 14, board);
     take(name, 11, board);
     take(name, 13, board);
 }
@@ -273,6 +274,15 @@ fn conflict() {
     row_masks(b"P11 settled", done.board);
 }
 
+// No wide pass but Claiming removes anything, so that a sweep without it would stop at once.
+fn claims() {
+    let board = fresh(
+        b"...456789........................................................................",
+    );
+    passes(b"F-5 step", board);
+    settle(b"F-5 settled", board);
+}
+
 fn main() {
     empty_grid();
     stops();
@@ -282,4 +292,5 @@ fn main() {
     pairs();
     lines();
     conflict();
+    claims();
 }

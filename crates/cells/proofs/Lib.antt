@@ -4,5 +4,5 @@ pub mod NineBits
 pub mod UnitPlaces
 pub mod HeldPlaces
 pub mod Shared
-pub mod LineTurns
+pub mod Meetings
 pub mod Crossings

@@ -1,4 +1,4 @@
 -- How the code goes about it: nothing here needs belief.
 pub mod Places
 pub mod Unions
-pub mod Lines
+pub mod Meets

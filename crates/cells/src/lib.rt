@@ -7,7 +7,7 @@ ghost use Rattle.cells.specs.code.Places.{maskAt, openAt, loseIn, losePl
 use candidates::masks;
 use grid::unit_cell;
 
-pub mod lines;
+pub mod meets;
 pub mod unions;
 
 pub fn is_open(givens: &[u8; 81], cell: usize) -> bool

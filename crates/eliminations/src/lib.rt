@@ -2,7 +2,7 @@
 // first; what it removes is worked out over lent givens and masks by the crates below.
 ghost use mathlib.Core.Path.{_≡_};
 ghost use Rattle.steps.specs.Calls.{boxLineCall, chainCall, nakedPairsCall, outcome, wide, xWingCall};
-ghost use Rattle.steps.specs.Passes.{Cross, Lone, Pair, Place, Pointing};
+ghost use Rattle.steps.specs.Passes.{Claiming, Cross, Lone, Pair, Place, Pointing};
 ghost use Rattle.board.specs.Boards.{boardOf};
 ghost use Rattle.eliminations.specs.Eliminations.{Eliminates};
 ghost use Rattle.eliminations.specs.code.Calls.{callOf};
@@ -11,6 +11,7 @@ use board::check;
 use board::clues::givens_of;
 use cells::changed;
 use chains::chains;
+use locked::claiming;
 use locked::pointing;
 use lone_place::lone;
 use lone_place::place;
@@ -36,6 +37,7 @@ enum Elimination {
     Place,
     Pair,
     Pointing,
+    Claiming,
     Cross,
     Chains,
 }
@@ -51,6 +53,7 @@ fn eliminate(elimination: Elimination, givens: &[u8; 81], masks: &mut [u16; 81])
         Elimination::Place => place(givens, masks),
         Elimination::Pair => pair(givens, masks),
         Elimination::Pointing => pointing(givens, masks),
+        Elimination::Claiming => claiming(givens, masks),
         Elimination::Cross => cross(givens, masks),
         Elimination::Chains => chains(givens, masks),
     }
@@ -117,6 +120,12 @@ pub fn apply_pointing(board: Board) -> Eliminated
     ensures { λ r. ⌜ Eliminates (wide Pointing) (boardOf board) r ⌝ }
 {
     apply(Elimination::Pointing, board)
+}
+
+pub fn apply_claiming(board: Board) -> Eliminated
+    ensures { λ r. ⌜ Eliminates (wide Claiming) (boardOf board) r ⌝ }
+{
+    apply(Elimination::Claiming, board)
 }
 
 pub fn apply_cross(board: Board) -> Eliminated

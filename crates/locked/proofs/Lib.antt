@@ -1,2 +1,2 @@
-pub mod PointingTurns
-pub mod PointingDue
+pub mod LockedTurns
+pub mod LockedDue

@@ -1,2 +1,2 @@
 -- How the code goes about it: nothing here needs belief.
-pub mod Pointing
+pub mod Locked

@@ -1,65 +1,108 @@
-// Pointing, one of the wide passes (module 8), over lent givens and masks. Nothing is asked of either: the contract holds for any of them.
-// A box is called `block` here, since `box` is a word of the language.
+// Pointing and Claiming, two of the wide passes (module 8; document 02, F-5), over lent givens and masks. Nothing is asked of either: the contracts hold for any of them.
+// Both are one step over a unit and those that meet it: Pointing a box and its six lines, Claiming a line and its three boxes.
 ghost use mathlib.Core.Path.{_≡_};
-ghost use Prim.Native.Nat.{_<_};
-ghost use Rattle.steps.specs.Passes.{pass, Pointing};
-ghost use Rattle.locked.specs.code.Pointing.{pointingDigit, pointingBox, lineDue, boxDue};
+ghost use Prim.Native.Nat.{_-_, _<_, _≤_};
+ghost use Rattle.steps.specs.Loops.{each, range};
+ghost use Rattle.steps.specs.Passes.{pass, Pointing, Claiming};
+ghost use Rattle.locked.specs.code.Locked.{lockedDigit, lockedUnit, dueOn, dueAmong, unitDue};
 use candidates::masks;
 use cells::all_masks;
 use cells::held_places;
-use cells::lines::line_places;
-use cells::lines::line_unit;
-use cells::lines::lose_lines;
-use cells::lines::outside_box;
+use cells::meets::lose_boxes;
+use cells::meets::lose_lines;
+use cells::meets::met_places;
+use cells::meets::met_unit;
+use cells::meets::outside;
 use cells::unions::join_places;
 
-// The instances of a digit. None of them changes which places of the box hold it.
-fn pointing_digit(givens: &[u8; 81], masks: &mut [u16; 81], block: usize, digit: usize)
-    requires { ⌜ (block < 9) × (digit < 9) ⌝ }
-    ensures { λ _. ⌜ now (masks .exit) ≡ pointingDigit (now (givens .entry)) block digit (now (masks .entry)) ⌝ }
+// The instances of a digit. None of them changes which places of the unit hold it.
+fn locked_digit(givens: &[u8; 81], masks: &mut [u16; 81], unit: usize, digit: usize)
+    requires { ⌜ (unit < 27) × (digit < 9) ⌝ }
+    ensures { λ _. ⌜ now (masks .exit) ≡ lockedDigit (now (givens .entry)) unit digit (now (masks .entry)) ⌝ }
 {
-    let held = held_places(masks, 18 + block, digit);
-    lose_lines(givens, masks, block, digit, held);
+    let held = held_places(masks, unit, digit);
+    if unit < 18 {
+        lose_boxes(givens, masks, unit, digit, held);
+    } else {
+        lose_lines(givens, masks, unit, digit, held);
+    }
 }
 
-// The digits that the line holds outside the box, and the box on the line alone; `nine` are the box's masks.
-fn due_on(masks: &[u16; 81], nine: &[u16; 9], block: usize, line: usize) -> u16
-    ensures { λ r. ⌜ r ≡ lineDue (now (masks .entry)) (now (nine .entry)) block line ⌝ }
+// The digits that the nth unit that meets this one holds outside it, and this one in that alone; `nine` are this one's masks.
+fn due_on(masks: &[u16; 81], nine: &[u16; 9], unit: usize, nth: usize) -> u16
+    ensures { λ r. ⌜ r ≡ dueOn (now (masks .entry)) (now (nine .entry)) unit nth ⌝ }
 {
-    let off = join_places(nine, masks::lose(511, line_places(line)));
-    let across = all_masks(masks, line_unit(block, line));
-    let out = join_places(&across, outside_box(block, line));
+    let off = join_places(nine, masks::lose(511, met_places(nth)));
+    let across = all_masks(masks, met_unit(unit, nth));
+    let out = join_places(&across, outside(unit, nth));
     masks::lose(out, off)
 }
 
-// The digits of a box whose instances may lose anything.
-fn due_digits(masks: &[u16; 81], block: usize) -> u16
-    requires { ⌜ block < 9 ⌝ }
-    ensures { λ r. ⌜ r ≡ boxDue (now (masks .entry)) block ⌝ }
+// The same for all six lines of a box.
+fn due_lines(masks: &[u16; 81], unit: usize) -> u16
+    ensures { λ r. ⌜ r ≡ dueAmong (now (masks .entry)) unit 6 ⌝ }
 {
-    let nine = all_masks(masks, 18 + block);
+    let nine = all_masks(masks, unit);
     let mut due: u16 = 0;
-    let mut line: usize = 0;
-    while line < 6 {
-        due = masks::join(due, due_on(masks, &nine, block, line));
-        line += 1;
+    let mut nth: usize = 0;
+    while nth < 6 {
+        due = masks::join(due, due_on(masks, &nine, unit, nth));
+        nth += 1;
     }
     due
 }
 
-// The instances of a box. Those of a digit are passed over where none of them loses anything.
-fn pointing_box(givens: &[u8; 81], masks: &mut [u16; 81], block: usize)
-    requires { ⌜ block < 9 ⌝ }
-    ensures { λ _. ⌜ now (masks .exit) ≡ pointingBox (now (givens .entry)) block (now (masks .entry)) ⌝ }
+// The same for all three boxes of a line. A loop of its own, so that the compiler knows how often it turns.
+fn due_boxes(masks: &[u16; 81], unit: usize) -> u16
+    ensures { λ r. ⌜ r ≡ dueAmong (now (masks .entry)) unit 3 ⌝ }
 {
-    let mut due = due_digits(masks, block);
+    let nine = all_masks(masks, unit);
+    let mut due: u16 = 0;
+    let mut nth: usize = 0;
+    while nth < 3 {
+        due = masks::join(due, due_on(masks, &nine, unit, nth));
+        nth += 1;
+    }
+    due
+}
+
+// The digits of a unit whose instances may lose anything.
+fn due_digits(masks: &[u16; 81], unit: usize) -> u16
+    ensures { λ r. ⌜ r ≡ unitDue (now (masks .entry)) unit ⌝ }
+{
+    if unit < 18 {
+        return due_boxes(masks, unit);
+    }
+    due_lines(masks, unit)
+}
+
+// The instances of a unit. Those of a digit are passed over where none of them loses anything; which digits these are is asked once, since the instances of a digit change no other.
+fn locked_unit(givens: &[u8; 81], masks: &mut [u16; 81], unit: usize)
+    requires { ⌜ unit < 27 ⌝ }
+    ensures { λ _. ⌜ now (masks .exit) ≡ lockedUnit (now (givens .entry)) unit (now (masks .entry)) ⌝ }
+{
+    let due = due_digits(masks, unit);
+    if masks::is_none(due) {
+        return;
+    }
     let mut digit: usize = 0;
     while digit < 9 {
         if masks::has_digit(due, digit) {
-            pointing_digit(givens, masks, block, digit);
-            due = due_digits(masks, block);
+            locked_digit(givens, masks, unit, digit);
         }
         digit += 1;
+    }
+}
+
+// The instances of the units from the first to before the end.
+fn locked_units(givens: &[u8; 81], masks: &mut [u16; 81], first: usize, end: usize)
+    requires { ⌜ (first ≤ end) × (end ≤ 27) ⌝ }
+    ensures { λ _. ⌜ now (masks .exit) ≡ each (lockedUnit (now (givens .entry))) (range (end - first) first) (now (masks .entry)) ⌝ }
+{
+    let mut unit = first;
+    while unit < end {
+        locked_unit(givens, masks, unit);
+        unit += 1;
     }
 }
 
@@ -67,9 +110,12 @@ fn pointing_box(givens: &[u8; 81], masks: &mut [u16; 81], block: usize)
 pub fn pointing(givens: &[u8; 81], masks: &mut [u16; 81])
     ensures { λ _. ⌜ now (masks .exit) ≡ pass (now (givens .entry)) Pointing (now (masks .entry)) ⌝ }
 {
-    let mut block: usize = 0;
-    while block < 9 {
-        pointing_box(givens, masks, block);
-        block += 1;
-    }
+    locked_units(givens, masks, 18, 27);
+}
+
+// Claiming: all cells of a row or column that hold d are in one box: the other cells of that box lose d.
+pub fn claiming(givens: &[u8; 81], masks: &mut [u16; 81])
+    ensures { λ _. ⌜ now (masks .exit) ≡ pass (now (givens .entry)) Claiming (now (masks .entry)) ⌝ }
+{
+    locked_units(givens, masks, 0, 18);
 }

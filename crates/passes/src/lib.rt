@@ -1,4 +1,4 @@
-// A sweep of the five wide passes, and settling (module 9): over lent givens and masks, of which nothing is asked, and as a call on a board.
+// A sweep of the six wide passes, and settling (module 9): over lent givens and masks, of which nothing is asked, and as a call on a board.
 ghost use mathlib.Core.Path.{_≡_};
 ghost use Rattle.steps.specs.Passes.{sweep, settle, removedBy};
 ghost use Rattle.board.specs.Boards.{boardOf};
@@ -8,6 +8,7 @@ use board::check;
 use board::clues::givens_of;
 use cells::changed;
 use cells::total;
+use locked::claiming;
 use locked::pointing;
 use lone_place::lone;
 use lone_place::place;
@@ -16,7 +17,7 @@ use pair_cross::pair;
 use stops::Check;
 use stops::Stop;
 
-// The five passes in order.
+// The six passes in order.
 fn sweep(givens: &[u8; 81], masks: &mut [u16; 81])
     ensures { λ _. ⌜ now (masks .exit) ≡ sweep (now (givens .entry)) (now (masks .entry)) ⌝ }
 {
@@ -24,6 +25,7 @@ fn sweep(givens: &[u8; 81], masks: &mut [u16; 81])
     place(givens, masks);
     pair(givens, masks);
     pointing(givens, masks);
+    claiming(givens, masks);
     cross(givens, masks);
 }
 

@@ -56,7 +56,7 @@ module _ (m : List ℕ) where
         go c n true t = t
         go c n false t = absurd (n t)
 
-  -- ---- the five kinds
+  -- ---- the kinds; Pointing and Claiming are one
 
   pub lone-applies : (c d : ℕ) → (applies (loneStep c d) m ≡ true) ↔ LoneCell m c d
   lone-applies c d = Iff·trans (applies-except (c ∷ []) (single d)) (

@@ -115,5 +115,6 @@ module _ (g : List ℕ) (p : ℕ → ℕ) (F : Filling p) (z : List ℕ) (one : 
     onPlace = place-keeps;
     onPair = pair-keeps;
     onPointing = λ u v d w hd. locked-keeps u v d (w .box .1) (omega (arith, w .line)) hd;
+    onClaiming = λ u v d w hd. locked-keeps u v d (omega (arith, w .line)) (w .box .1) hd;
     onCross = cross-keeps;
   })

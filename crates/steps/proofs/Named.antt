@@ -3,7 +3,7 @@ use mathlib.Core.Path.{_≡_, sym, ap, _∙_, subst}
 use mathlib.Core.Logic.{_≢_, _⊎_, _↔_, Iff·rfl, Iff·trans, inl, inr, ⊎-elim}
 use mathlib.Core.Bool.{Bool, cond}
 use mathlib.Core.List.{List, List·Memᴰ}
-use Prim.Native.Nat.{ℕ, _+_, _-_, _*_, _/_, _%_, _<_}
+use Prim.Native.Nat.{ℕ, _+_, _-_, _*_, _/_, _%_, _≤_, _<_}
 use native.Mathlib.Decide.{decLt}
 use native.Mathlib.Omega.{arith}
 use borrow.Author.Tests.{ltb-true, lt-ltb, le-ltb}
@@ -12,11 +12,11 @@ use Rattle.candidates.proofs.Tests.{below-both, by-test, cond-true, cond-false,
 use Rattle.grid.specs.Cells.{box}
 use Rattle.grid.specs.Units.{units, unit, unitCell, inUnit, Member}
 use Rattle.grid.proofs.Units.{cell-below, at-place, in-member}
-use Rattle.steps.specs.Instances.{Instance, lone, place, pair, pointing, cross, exchanged, lineOf}
-use Rattle.steps.specs.Passes.{Kind, Lone, Place, Pair, Pointing, Cross, instances}
+use Rattle.steps.specs.Instances.{Instance, lone, place, pair, pointing, claiming, cross, exchanged, lineOf, boxOf}
+use Rattle.steps.specs.Passes.{Kind, Lone, Place, Pair, Pointing, Claiming, Cross, instances}
 use Rattle.steps.specs.Published.{NakedPairLoss, LockedLoss, Rows, Columns, Crossing, XWingLoss}
 use Rattle.steps.specs.Wide.{LoneCell, LoneLoss, OnlyPlace, PlaceLoss, PairCells, Locked, Meets, CrossCells, Condition, Loss}
-use Rattle.steps.proofs.Instances.{lone-listed, place-listed, pair-listed, pointing-listed, cross-listed, exchanged-listed, line-below}
+use Rattle.steps.proofs.Instances.{lone-listed, place-listed, pair-listed, pointing-listed, claiming-listed, cross-listed, exchanged-listed, line-below, box-below}
 use Rattle.steps.proofs.Members.{member-row, member-col, member-box}
 
 -- ---- a box and its lines
@@ -79,6 +79,41 @@ meets-line {u} {v} w = go (decLt v 9)
           is₂ = cond-false (ltb (3 + (v - 9) % 3) 3) _ _ (le-ltb (3 + (v - 9) % 3) 3 (omega arith)) ∙ omega (arith, boxed);
         }
 
+-- the place in a line of a cell in the k-th of its boxes is 3 * k
+pub box-meets : (l k : ℕ) → l < 18 → k < 3 → Meets (boxOf l k) l
+unfolding unit units
+box-meets l k h n =
+    record {
+      box = by-test (λ (v : ℕ). (18 ≤ v) × (v < 27)) (ltb l 9) _ _ (λ t. omega (arith, ltb-true l 9 t)) (λ t. omega arith);
+      line = h;
+      shared = unitCell l (3 * k);
+      inBox = in-member (boxOf l k) (unitCell l (3 * k)) (box-below l k h n) (cell-below l (3 * k) (omega arith) (omega arith)) (T-true (meet l k) (below-both 18 3 meet tt l k h n));
+      inLine = at-place l (3 * k) (omega arith);
+    }
+  where
+    meet : ℕ → ℕ → Bool
+    meet l k = inUnit (boxOf l k) (unitCell l (3 * k))
+
+-- the number of a line's box
+record Box (u v : ℕ) : Type 0 where
+  k : ℕ
+  low : k < 3
+  is : boxOf u k ≡ v
+
+meets-box : {u v : ℕ} → Meets v u → Box u v
+meets-box {u} {v} w = go (decLt u 9)
+  where
+    boxed : 18 + box (w .shared) ≡ v
+    boxed = member-box (w .inBox) (w .box .0) (w .box .1)
+
+    go : Dec (u < 9) → Box u v
+    go (yes h) =
+        let q = member-row (w .inLine) h in
+        record { k = (v - 18) % 3; low = omega arith; is = cond-true (ltb u 9) _ _ (lt-ltb u 9 h) ∙ omega (arith, boxed) }
+    go (no h) =
+        let q = member-col (w .inLine) (omega arith) (w .line) in
+        record { k = (v - 18) / 3; low = omega (arith, w .box); is = cond-false (ltb u 9) _ _ (le-ltb u 9 (omega arith)) ∙ omega (arith, boxed) }
+
 swap : {A B : Type 0} → A ⊎ B → B ⊎ A
 swap (inl a) = inr a
 swap (inr b) = inl b
@@ -94,7 +129,7 @@ two-and-two P first second rising i j a b hi hj ij ha hb ab = go (decLt i j) (de
     go (no l) (yes k) = first j i a b (rising j i a b (omega arith) hi k hb)
     go (no l) (no k) = first j i a b (second j i b a (rising j i b a (omega arith) hi (omega arith) ha))
 
--- ---- the five kinds
+-- ---- the six kinds
 
 module _ (g m : List ℕ) where
   -- a condition and a loss that are those of a listed instance
@@ -143,6 +178,12 @@ module _ (g m : List ℕ) where
       subst (λ (x : ℕ). Listed (Locked m x v d) (LockedLoss g x v d)) (l .is₁)
       (subst (λ (x : ℕ). Listed (Locked m (18 + l .b) x d) (LockedLoss g (18 + l .b) x d)) (l .is₂)
       (itself Pointing (pointing (l .b) d (l .k)) (pointing-listed (l .b) d (l .k) (l .low₁) hd (l .low₂))))
+
+  pub claiming-named : (u v d : ℕ) → Meets v u → d < 9 → Listed (Locked m u v d) (LockedLoss g u v d)
+  claiming-named u v d w hd =
+      let l = meets-box w in
+      subst (λ (x : ℕ). Listed (Locked m u x d) (LockedLoss g u x d)) (l .is)
+      (itself Claiming (claiming u d (l .k)) (claiming-listed u d (l .k) (w .line) hd (l .low)))
 
   pub cross-named : (u v x y d : ℕ) → Crossing u v x y → d < 9 → Listed (CrossCells m u v x y d) (XWingLoss g u v x y d)
   cross-named u v x y d w hd = ⊎-elim rows columns (w .lines)

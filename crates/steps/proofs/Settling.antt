@@ -11,7 +11,7 @@ use Rattle.candidates.proofs.Tests.{by-test}
 use Rattle.steps.specs.Boards.{isOpen, Under, total, sameMasks}
 use Rattle.steps.specs.Instances.{Instance, stepOf}
 use Rattle.steps.specs.Loops.{each}
-use Rattle.steps.specs.Passes.{Kind, Lone, Place, Pair, Pointing, Cross, kinds, instances, instanceTaken, pass, sweep, Settled, Sweeps, settleIn, swept}
+use Rattle.steps.specs.Passes.{Kind, Lone, Place, Pair, Pointing, Claiming, Cross, kinds, instances, instanceTaken, pass, sweep, Settled, Sweeps, settleIn, swept}
 use Rattle.steps.proofs.Loops.{each-keeps}
 use Rattle.steps.proofs.Masks.{under-refl, under-trans, under-antisym, total-less, same-eq, differ}
 use Rattle.steps.proofs.Reach.{Reach, reach-trans, reach-under, reach-length, pass-reach, sweep-reach}
@@ -49,7 +49,8 @@ module _ (g : List ℕ) where
   all-kinds Place = List·Memᴰ·tail (List·Memᴰ·head refl)
   all-kinds Pair = List·Memᴰ·tail (List·Memᴰ·tail (List·Memᴰ·head refl))
   all-kinds Pointing = List·Memᴰ·tail (List·Memᴰ·tail (List·Memᴰ·tail (List·Memᴰ·head refl)))
-  all-kinds Cross = List·Memᴰ·tail (List·Memᴰ·tail (List·Memᴰ·tail (List·Memᴰ·tail (List·Memᴰ·head refl))))
+  all-kinds Claiming = List·Memᴰ·tail (List·Memᴰ·tail (List·Memᴰ·tail (List·Memᴰ·tail (List·Memᴰ·head refl))))
+  all-kinds Cross = List·Memᴰ·tail (List·Memᴰ·tail (List·Memᴰ·tail (List·Memᴰ·tail (List·Memᴰ·tail (List·Memᴰ·head refl)))))
 
   pub sweep-settled : (m : List ℕ) → sweep g m ≡ m → Settled g m
   unfolding sweep pass

@@ -8,7 +8,7 @@ use native.Mathlib.Omega.{arith}
 use Rattle.grid.specs.Units.{unitCell}
 use Rattle.grid.proofs.Units.{at-place, cells-differ}
 use Rattle.steps.specs.Boards.{isOpen}
-use Rattle.steps.specs.Instances.{Instance, lone, place, pair, pointing, cross, exchanged, both, lineOf, stepOf}
+use Rattle.steps.specs.Instances.{Instance, lone, place, pair, pointing, claiming, cross, exchanged, both, lineOf, boxOf, stepOf}
 use Rattle.steps.specs.Passes.{Kind, instances, instanceTaken, Settled}
 use Rattle.steps.specs.Published.{Candidate, Without}
 use Rattle.steps.specs.Steps.{applies}
@@ -16,9 +16,9 @@ use Rattle.steps.specs.Wide.{Condition, Loss, InWords, Removes, NoneRemo
 use Rattle.steps.proofs.Conditions.{lone-applies, place-applies, pair-applies, locked-applies, cross-applies}
 use Rattle.steps.proofs.Digits.{held-two}
 use Rattle.steps.proofs.Effects.{lone-lost, place-lost, pair-lost, locked-lost, cross-lost}
-use Rattle.steps.proofs.Instances.{Within, listed, line-below}
+use Rattle.steps.proofs.Instances.{Within, listed, line-below, box-below}
 use Rattle.steps.proofs.Losses.{Lost, step-loses, without-same}
-use Rattle.steps.proofs.Named.{line-meets, Listed, lone-named, place-named, pair-named, pointing-named, cross-named}
+use Rattle.steps.proofs.Named.{line-meets, box-meets, Listed, lone-named, place-named, pair-named, pointing-named, claiming-named, cross-named}
 use Rattle.steps.proofs.Taking.{left-alone}
 
 -- ---- instances on given masks
@@ -57,6 +57,12 @@ module _ (g m : List ℕ) where
       in-words (pointing b d k) (locked-applies m (18 + b) (lineOf b k) d (omega arith) (line-below b k hb hk))
       (locked-lost g (omega arith) (line-below b k hb hk) d)
 
+  claiming-words : (l d k : ℕ) → l < 18 → d < 9 → k < 3 → InWords g m (claiming l d k)
+  unfolding stepOf
+  claiming-words l d k hl hd hk =
+      in-words (claiming l d k) (locked-applies m l (boxOf l k) d (omega arith) (box-below l k hl hk))
+      (locked-lost g (omega arith) (box-below l k hl hk) d)
+
   cross-words : (d r s a b : ℕ) → d < 9 → r < s → s < 9 → a < b → b < 9 → InWords g m (cross d r s a b)
   unfolding stepOf
   cross-words d r s a b hd rs hs ab hb =
@@ -76,6 +82,7 @@ module _ (g m : List ℕ) where
         onPlace = place-words;
         onPair = pair-words;
         onPointing = pointing-words;
+        onClaiming = claiming-words;
         onCross = cross-words;
         onExchanged = exchanged-words;
       })
@@ -118,6 +125,7 @@ module _ (g m : List ℕ) where
                 n .onPair u (unitCell u i) (unitCell u j) a b hu (at-place u i (omega arith)) (at-place u j hj)
                 (cells-differ u i j hu (omega arith) hj (omega arith)) (omega arith) hb (omega arith);
             onPointing = λ b d k hb hd hk. n .onPointing (18 + b) (lineOf b k) d (line-meets b k hb hk) hd;
+            onClaiming = λ l d k hl hd hk. n .onClaiming l (boxOf l k) d (box-meets l k hl hk) hd;
             onCross = λ d r s a b hd rs hs ab hb. n .onCross r s (9 + a) (9 + b) d (record { lines = inl (omega arith); apart₁ = omega arith; apart₂ = omega arith }) hd;
             onExchanged = λ d a b r s hd ab hb rs hs. n .onCross (9 + a) (9 + b) r s d (record { lines = inr (omega arith); apart₁ = omega arith; apart₂ = omega arith }) hd;
           }
@@ -129,6 +137,7 @@ module _ (g m : List ℕ) where
         onPlace = λ u d c hu hd p. idle (place-named g m u d c hu hd p);
         onPair = λ u c e a b hu p q n ha hb ab. idle (pair-named g m u c e a b hu p q n ha hb ab);
         onPointing = λ u v d w hd. idle (pointing-named g m u v d w hd);
+        onClaiming = λ u v d w hd. idle (claiming-named g m u v d w hd);
         onCross = λ u v x y d w hd. idle (cross-named g m u v x y d w hd);
       }
     where

@@ -1,4 +1,4 @@
--- The instances of the five wide passes (module 8): each is a kind and its numbers, in the paper's order, and has one step.
+-- The instances of the six wide passes (module 8 and document 02, F-5): each is a kind and its numbers, in the paper's order, and has one step.
 use mathlib.Core.Bool.{cond, _||_}
 use mathlib.Core.List.{List, [], _∷_, _++_}
 use Prim.Native.Nat.{ℕ, _+_, _-_, _*_, _/_, _%_}
@@ -9,12 +9,13 @@ use Rattle.grid.specs.Units.{unit, unitCell, inUnit}
 use Rattle.steps.specs.Loops.{for, upTo, above}
 use Rattle.steps.specs.Steps.{Step}
 
--- Digits d, a, b are places 0 to 8; i and j are places in a unit; k is one of the six lines that meet a box, three rows and then three columns.
+-- Digits d, a, b are places 0 to 8; i and j are places in a unit; k is one of the six lines that meet a box, three rows and then three columns, or one of the three boxes that meet a line l.
 pub data Instance : Type 0 where
   lone : (c d : ℕ) → Instance
   place : (u d i : ℕ) → Instance
   pair : (u i j a b : ℕ) → Instance
   pointing : (b d k : ℕ) → Instance
+  claiming : (l d k : ℕ) → Instance
   cross : (d r₁ r₂ c₁ c₂ : ℕ) → Instance
   exchanged : (d c₁ c₂ r₁ r₂ : ℕ) → Instance
 
@@ -27,6 +28,10 @@ both a b = union (single a) (single b)
 -- the k-th of the six lines that meet box b, three rows and then three columns
 abbrev pub lineOf : ℕ → ℕ → ℕ
 lineOf b k = cond (ltb k 3) (3 * (b / 3) + k) (9 + (3 * (b % 3) + (k - 3)))
+
+-- the k-th of the three boxes that meet line l, a row or a column
+abbrev pub boxOf : ℕ → ℕ → ℕ
+boxOf l k = cond (ltb l 9) (18 + (3 * (l / 3) + k)) (18 + (3 * k + (l - 9) / 3))
 
 -- ---- the steps
 
@@ -48,7 +53,7 @@ pairStep u c e a b =
       loses = λ x. cond (eqb x c || eqb x e) 0 (both a b);
     }
 
--- The step of Pointing (the field: locked candidates), over any two units: all cells of u that hold d lie in v, so the cells of v outside u lose d.
+-- The step of Pointing and Claiming (the field: locked candidates, type 1 and type 2), over any two units: all cells of u that hold d lie in v, so the cells of v outside u lose d.
 abbrev pub lockedStep : ℕ → ℕ → ℕ → Step
 lockedStep u v d =
     record { reads = unit u; bars = λ e. cond (inUnit v e) 0 (single d); hits = unit v; loses = λ e. cond (inUnit u e) 0 (single d) }
@@ -64,12 +69,14 @@ crossStep d u v x y =
     }
 
 -- "Pointing: box, digit, its three rows then three columns. All cells of the box holding d are on that line: the line's cells outside the box lose d."
+-- "All cells of a row or column that hold d are in one box: the other cells of that box lose d."
 -- "Cross: digit, rows r1 < r2, columns c1 < c2. All cells holding d in those rows are in c1 or c2: the cells of those columns outside r1 and r2 lose d. After all digits, exchanged."
 unfoldable pub stepOf : Instance → Step
 stepOf (lone c d) = loneStep c d
 stepOf (place u d i) = placeStep u d (unitCell u i)
 stepOf (pair u i j a b) = pairStep u (unitCell u i) (unitCell u j) a b
 stepOf (pointing b d k) = lockedStep (18 + b) (lineOf b k) d
+stepOf (claiming l d k) = lockedStep l (boxOf l k) d
 stepOf (cross d r₁ r₂ c₁ c₂) = crossStep d r₁ r₂ (9 + c₁) (9 + c₂)
 stepOf (exchanged d c₁ c₂ r₁ r₂) = crossStep d (9 + c₁) (9 + c₂) r₁ r₂
 
@@ -86,6 +93,10 @@ pairs = for (upTo 27) λ u. for (upTo 9) λ i. for (above i 9) λ j. for (upTo 9
 
 unfoldable pub pointings : List Instance
 pointings = for (upTo 9) λ b. for (upTo 9) λ d. for (upTo 6) λ k. pointing b d k ∷ []
+
+-- "by unit 0 to 17, digit, and box among the three that meet the unit, all rising"
+unfoldable pub claimings : List Instance
+claimings = for (upTo 18) λ l. for (upTo 9) λ d. for (upTo 3) λ k. claiming l d k ∷ []
 
 unfoldable pub crosses : List Instance
 crosses =

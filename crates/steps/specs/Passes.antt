@@ -1,26 +1,27 @@
--- The wide passes and settling (modules 8 and 9).
+-- The wide passes and settling (modules 8 and 9; document 02, F-5).
 use mathlib.Core.Path.{_≡_}
 use mathlib.Core.Bool.{Bool, cond, not}
 use mathlib.Core.List.{List, [], _∷_, List·Memᴰ}
 use Prim.Native.Nat.{ℕ, zero, suc, _+_, _-_}
 use Rattle.steps.specs.Boards.{isOpen, sameMasks, total}
-use Rattle.steps.specs.Instances.{Instance, stepOf, lones, places, pairs, pointings, crosses}
+use Rattle.steps.specs.Instances.{Instance, stepOf, lones, places, pairs, pointings, claimings, crosses}
 use Rattle.steps.specs.Loops.{each}
 use Rattle.steps.specs.Steps.{stepTaken}
 
 -- the wide passes (the paper's term for the passes that read clue cells too)
 pub data Kind : Type 0 where
-  Lone Place Pair Pointing Cross : Kind
+  Lone Place Pair Pointing Claiming Cross : Kind
 
--- "a sweep is the five passes in order"
+-- "a sweep has six passes", Claiming "run after Pointing"
 abbrev pub kinds : List Kind
-kinds = Lone ∷ Place ∷ Pair ∷ Pointing ∷ Cross ∷ []
+kinds = Lone ∷ Place ∷ Pair ∷ Pointing ∷ Claiming ∷ Cross ∷ []
 
 unfoldable pub instances : Kind → List Instance
 instances Lone = lones
 instances Place = places
 instances Pair = pairs
 instances Pointing = pointings
+instances Claiming = claimings
 instances Cross = crosses
 
 -- the masks after one instance
@@ -43,7 +44,7 @@ swept g (suc j) m = swept g j (sweep g m)
 abbrev pub changed : List ℕ → List ℕ → Bool
 changed m n = not (sameMasks m n)
 
--- "Settled: no instance of the five would remove a candidate."
+-- "Settled now means that no instance of the six removes anything"
 pub record Settled (g m : List ℕ) : Type 0 where
   pub still : (k : Kind) (x : Instance) → List·Memᴰ x (instances k) → instanceTaken g x m ≡ m
 

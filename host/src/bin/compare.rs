@@ -17,7 +17,7 @@ use sudoku_host::record_cases as records;
 use sudoku_host::round_cases as rounds;
 use sudoku_host::sheet_cases as sheets;
 use sudoku_host::shrink::{shrunk, Smaller};
-use sudoku_host::sides::{Engine, Original, Plain, Side, CHAIN, PORTED};
+use sudoku_host::sides::{Engine, Original, Plain, Side, PORTED, STEPS};
 use sudoku_host::text_cases as texts;
 use sudoku_host::{counted, digits, grids, plain, read, set, single_candidate, verify, SetAnswer, SetCall, Stop};
 
@@ -285,7 +285,7 @@ fn a_damaged_board(random: &mut Random, counts: &mut Counts) -> Result<(), Strin
     counts.damaged += 1;
     sound(&case, "engine and plain", &cases::differ::<Engine, Plain>)?;
     sound(&case, "accessors", &cases::accessors_differ)?;
-    let number = random.within(CHAIN as usize + 1, 255) as u8;
+    let number = random.within(STEPS.len(), 255) as u8;
     let (clues, masks) = case.board();
     let ours = Engine::start(&clues, &masks).step(number);
     same(ours == Err(Stop { number: -1, detail: number as i64 }), || format!("step {number}: engine {ours:?}\n{case}"))

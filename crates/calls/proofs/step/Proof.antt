@@ -3,7 +3,7 @@ use mathlib.Core.Path.{refl, subst}
 use Prim.Native.Nat.{zero-le}
 use borrow.Author.Needs.{needs}
 use Rattle.steps.specs.Calls.{updateCandidates, nakedPairsCall, boxLineCall, xWingCall, nakedSinglesCall, hiddenSinglesCall, advancedCall, wide, settlingCall, chainCall}
-use Rattle.steps.specs.Passes.{Lone, Place, Pair, Pointing, Cross}
+use Rattle.steps.specs.Passes.{Lone, Place, Pair, Pointing, Claiming, Cross}
 use Rattle.board.specs.Boards.{boardOf}
 use Rattle.calls.specs.StepNumbers.{HandsBack}
 use Rattle.candidates.proofs.Tests.{past}
@@ -96,6 +96,12 @@ apply-alternating-inference-chains-requires c κs = search needs
 of-elimination-requires-9 : tie.Need-of-elimination-requires-9
 of-elimination-requires-9 c κs = search needs
 
+apply-claiming-requires : tie.Need-apply-claiming-requires
+apply-claiming-requires c κs = search needs
+
+of-elimination-requires-10 : tie.Need-of-elimination-requires-10
+of-elimination-requires-10 c κs = search needs
+
 quiet-requires : tie.Need-quiet-requires
 quiet-requires c κs = search needs
 
@@ -171,23 +177,29 @@ returns-14 c =
 
 returns-15 : tie.Need-returns-15
 returns-15 c =
+    let b = boardOf (c .before .before .before .args .board) in
+    elimination-hands (wide Claiming) b (step-is b (wide Claiming) 14 (c .before .before .match .keys15) refl) (quiet-wide Claiming) (c .before .apply-claiming .result) (c .before .apply-claiming .ensures) (c .of-elimination10 .ensures)
+
+returns-16 : tie.Need-returns-16
+returns-16 c =
     let b = boardOf (c .before .before .args .board) in
     let r = c .before .match .rest in
-    let from1 = past zero-le (r .0 .0 .0 .0 .0 .0 .0 .0 .0 .0 .0 .0 .0 .1) in
-    let from2 = past from1 (r .0 .0 .0 .0 .0 .0 .0 .0 .0 .0 .0 .0 .1) in
-    let from3 = past from2 (r .0 .0 .0 .0 .0 .0 .0 .0 .0 .0 .0 .1) in
-    let from4 = past from3 (r .0 .0 .0 .0 .0 .0 .0 .0 .0 .0 .1) in
-    let from5 = past from4 (r .0 .0 .0 .0 .0 .0 .0 .0 .0 .1) in
-    let from6 = past from5 (r .0 .0 .0 .0 .0 .0 .0 .0 .1) in
-    let from7 = past from6 (r .0 .0 .0 .0 .0 .0 .0 .1) in
-    let from8 = past from7 (r .0 .0 .0 .0 .0 .0 .1) in
-    let from9 = past from8 (r .0 .0 .0 .0 .0 .1) in
-    let from10 = past from9 (r .0 .0 .0 .0 .1) in
-    let from11 = past from10 (r .0 .0 .0 .1) in
-    let from12 = past from11 (r .0 .0 .1) in
-    let from13 = past from12 (r .0 .1) in
-    let from14 = past from13 (r .1) in
-    subst (HandsBack (c .quiet .result) b) (no-step-is b from14) (c .quiet .ensures)
+    let from1 = past zero-le (r .0 .0 .0 .0 .0 .0 .0 .0 .0 .0 .0 .0 .0 .0 .1) in
+    let from2 = past from1 (r .0 .0 .0 .0 .0 .0 .0 .0 .0 .0 .0 .0 .0 .1) in
+    let from3 = past from2 (r .0 .0 .0 .0 .0 .0 .0 .0 .0 .0 .0 .0 .1) in
+    let from4 = past from3 (r .0 .0 .0 .0 .0 .0 .0 .0 .0 .0 .0 .1) in
+    let from5 = past from4 (r .0 .0 .0 .0 .0 .0 .0 .0 .0 .0 .1) in
+    let from6 = past from5 (r .0 .0 .0 .0 .0 .0 .0 .0 .0 .1) in
+    let from7 = past from6 (r .0 .0 .0 .0 .0 .0 .0 .0 .1) in
+    let from8 = past from7 (r .0 .0 .0 .0 .0 .0 .0 .1) in
+    let from9 = past from8 (r .0 .0 .0 .0 .0 .0 .1) in
+    let from10 = past from9 (r .0 .0 .0 .0 .0 .1) in
+    let from11 = past from10 (r .0 .0 .0 .0 .1) in
+    let from12 = past from11 (r .0 .0 .0 .1) in
+    let from13 = past from12 (r .0 .0 .1) in
+    let from14 = past from13 (r .0 .1) in
+    let from15 = past from14 (r .1) in
+    subst (HandsBack (c .quiet .result) b) (no-step-is b from15) (c .quiet .ensures)
 
 pub step-spec : {M : Type 1} → statement M
 step-spec =
@@ -221,6 +233,8 @@ step-spec =
     of-settling-requires
     apply-alternating-inference-chains-requires
     of-elimination-requires-9
+    apply-claiming-requires
+    of-elimination-requires-10
     quiet-requires
     returns
     returns-2
@@ -236,4 +250,5 @@ step-spec =
     returns-12
     returns-13
     returns-14
-    returns-15)
+    returns-15
+    returns-16)

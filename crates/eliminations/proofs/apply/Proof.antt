@@ -26,6 +26,7 @@ flagged by.Lone g m = refl
 flagged by.Place g m = refl
 flagged by.Pair g m = refl
 flagged by.Pointing g m = refl
+flagged by.Claiming g m = refl
 flagged by.Cross g m = refl
 flagged by.Chains g m = refl
 

@@ -52,11 +52,17 @@ pointing-requires c κs = search needs
 enum-told-8 : tie.Need-enum-told-8
 enum-told-8 c = search needs
 
-cross-requires : tie.Need-cross-requires
-cross-requires c κs = search needs
+claiming-requires : tie.Need-claiming-requires
+claiming-requires c κs = search needs
 
 enum-told-9 : tie.Need-enum-told-9
 enum-told-9 c = search needs
+
+cross-requires : tie.Need-cross-requires
+cross-requires c κs = search needs
+
+enum-told-10 : tie.Need-enum-told-10
+enum-told-10 c = search needs
 
 chains-requires : tie.Need-chains-requires
 chains-requires c κs = search needs
@@ -115,14 +121,21 @@ unfolding outcome
 returns-8 c =
     let t = c .before .before in
     let a = t .before .before .args in
-    c .cross .ensures ∙ ap (λ (e : Elimination). outcome (callOf e) (a .givens .now) (a .masks .now) .masks) (sym (t .enum-told8 .given .1))
+    c .claiming .ensures ∙ ap (λ (e : Elimination). outcome (callOf e) (a .givens .now) (a .masks .now) .masks) (sym (t .enum-told8 .given .1))
 
 returns-9 : tie.Need-returns-9
 unfolding outcome
 returns-9 c =
     let t = c .before .before in
     let a = t .before .before .args in
-    c .chains .ensures ∙ ap (λ (e : Elimination). outcome (callOf e) (a .givens .now) (a .masks .now) .masks) (sym (t .enum-told9 .given .1))
+    c .cross .ensures ∙ ap (λ (e : Elimination). outcome (callOf e) (a .givens .now) (a .masks .now) .masks) (sym (t .enum-told9 .given .1))
+
+returns-10 : tie.Need-returns-10
+unfolding outcome
+returns-10 c =
+    let t = c .before .before in
+    let a = t .before .before .args in
+    c .chains .ensures ∙ ap (λ (e : Elimination). outcome (callOf e) (a .givens .now) (a .masks .now) .masks) (sym (t .enum-told10 .given .1))
 
 pub eliminate-spec : {M : Type 1} → statement M
 eliminate-spec =
@@ -143,8 +156,10 @@ eliminate-spec =
     enum-told-7
     pointing-requires
     enum-told-8
-    cross-requires
+    claiming-requires
     enum-told-9
+    cross-requires
+    enum-told-10
     chains-requires
     returns
     returns-2
@@ -154,4 +169,5 @@ eliminate-spec =
     returns-6
     returns-7
     returns-8
-    returns-9)
+    returns-9
+    returns-10)

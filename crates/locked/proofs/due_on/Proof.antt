@@ -1,12 +1,12 @@
 -- `locked::due_on` meets its contract. Assumes nothing.
 use mathlib.Core.Path.{_∙_}
 use borrow.Author.Needs.{needs}
-use Rattle.locked.specs.code.Pointing.{lineDue}
+use Rattle.locked.specs.code.Locked.{dueOn}
 use Rattle.locked.proofs.due_on.Statement.{statement}
 use Rattle.locked.proofs.due_on.Tie as tie
 
-line-places-requires : tie.Need-line-places-requires
-line-places-requires c κs = search needs
+met-places-requires : tie.Need-met-places-requires
+met-places-requires c κs = search needs
 
 lose-requires : tie.Need-lose-requires
 lose-requires c κs = search needs
@@ -14,14 +14,14 @@ lose-requires c κs = search needs
 join-places-requires : tie.Need-join-places-requires
 join-places-requires c κs = search needs
 
-line-unit-requires : tie.Need-line-unit-requires
-line-unit-requires c κs = search needs
+met-unit-requires : tie.Need-met-unit-requires
+met-unit-requires c κs = search needs
 
 all-masks-requires : tie.Need-all-masks-requires
 all-masks-requires c κs = search needs
 
-outside-box-requires : tie.Need-outside-box-requires
-outside-box-requires c κs = search needs
+outside-requires : tie.Need-outside-requires
+outside-requires c κs = search needs
 
 join-places-requires-2 : tie.Need-join-places-requires-2
 join-places-requires-2 c κs = search needs
@@ -30,7 +30,7 @@ lose-requires-2 : tie.Need-lose-requires-2
 lose-requires-2 c κs = search needs
 
 returns : tie.Need-returns
-unfolding lineDue
+unfolding dueOn
 returns c =
     let out = c .before in
     let box = out .before in
@@ -39,18 +39,18 @@ returns c =
     let off = line .before in
     let lose = off .before in
     c .lose2 .ensures
-    ∙ rw (out .join-places2 .ensures, box .outside-box .ensures, all .all-masks .ensures, line .line-unit .ensures, off .join-places .ensures, lose .lose .ensures, lose .before .line-places .ensures)
+    ∙ rw (out .join-places2 .ensures, box .outside .ensures, all .all-masks .ensures, line .met-unit .ensures, off .join-places .ensures, lose .lose .ensures, lose .before .met-places .ensures)
 
 pub due-on-spec : {M : Type 1} → statement M
 due-on-spec =
     tie.close
     (tie.spec
-    line-places-requires
+    met-places-requires
     lose-requires
     join-places-requires
-    line-unit-requires
+    met-unit-requires
     all-masks-requires
-    outside-box-requires
+    outside-requires
     join-places-requires-2
     lose-requires-2
     returns)

@@ -6,15 +6,15 @@ use lib.Dec.{eqb}
 use Rattle.candidates.specs.Masks.{count, tail}
 use Rattle.steps.specs.Loops.{each, upTo}
 use Rattle.cells.specs.code.Places.{unitMasks, spotsIn}
-use Rattle.cells.specs.code.Lines.{lineTurns}
+use Rattle.cells.specs.code.Meets.{meetTurns}
 
--- fewer than two places are no box-line
+-- u is a box; fewer than two places are no box-line
 unfoldable pub digitLines : List ℕ → ℕ → ℕ → ℕ → List ℕ → List ℕ
-digitLines g b d s m = cond (eqb (count (tail s)) 0) m (lineTurns g b d s m)
+digitLines g u d s m = cond (eqb (count (tail s)) 0) m (meetTurns g u 6 d s m)
 
 unfoldable pub blockLines : List ℕ → ℕ → List ℕ → List ℕ → List ℕ
-blockLines g b nine m = each (λ d. digitLines g b d (spotsIn nine d)) (upTo 9) m
+blockLines g u nine m = each (λ d. digitLines g u d (spotsIn nine d)) (upTo 9) m
 
 -- the box's masks are read once, before its lines lose anything
 unfoldable pub blockTurn : List ℕ → ℕ → List ℕ → List ℕ
-blockTurn g b m = blockLines g b (unitMasks g m (18 + b)) m
+blockTurn g b m = blockLines g (18 + b) (unitMasks g m (18 + b)) m

@@ -13,14 +13,14 @@ use Rattle.techniques.proofs.box_lines.block_lines.Tie as tie
 
 -- one turn of the loop
 abbrev turn : List ℕ → ℕ → List ℕ → ℕ → List ℕ → List ℕ
-turn g b nine d m = digitLines g b d (spotsIn nine d) m
+turn g u nine d m = digitLines g u d (spotsIn nine d) m
 
 abbrev Inv-loop : tie.InvT-loop
-Inv-loop givens masks₀ block nine digit₀ masks digit =
-    (digit ≤ 9) × (each (turn givens block nine) (range (9 - digit) digit) masks ≡ blockLines givens block nine masks₀)
+Inv-loop givens masks₀ unit nine digit₀ masks digit =
+    (digit ≤ 9) × (each (turn givens unit nine) (range (9 - digit) digit) masks ≡ blockLines givens unit nine masks₀)
 
 abbrev μ-loop : tie.MeasureT-loop
-μ-loop givens masks₀ block nine digit₀ masks digit = 9 - digit
+μ-loop givens masks₀ unit nine digit₀ masks digit = 9 - digit
 
 loop-holds : tie.Need-loop-holds Inv-loop μ-loop
 unfolding blockLines
@@ -44,15 +44,15 @@ loop-again c =
     let i = c .before .before .before .before .loop .digit in
     let m = c .before .before .before .before .loop .masks in (
       omega arith,
-      turn-done (turn (a .givens .now) (a .block) (a .nine .now)) 9 i (omega arith)
-          (c .digit-lines .ensures ∙ ap (λ (s : ℕ). digitLines (a .givens .now) (a .block) i s m) (c .before .places-of .ensures))
+      turn-done (turn (a .givens .now) (a .unit) (a .nine .now)) 9 i (omega arith)
+          (c .digit-lines .ensures ∙ ap (λ (s : ℕ). digitLines (a .givens .now) (a .unit) i s m) (c .before .places-of .ensures))
           (c .before .before .before .before .loop .inv .1),
     )
 
 returns : tie.Need-returns Inv-loop μ-loop
 returns c =
     let a = c .before .before .args in
-    turns-over (turn (a .givens .now) (a .block) (a .nine .now)) 9 (c .before .loop .digit) (c .loop-test .left) (c .before .loop .inv .1)
+    turns-over (turn (a .givens .now) (a .unit) (a .nine .now)) 9 (c .before .loop .digit) (c .loop-test .left) (c .before .loop .inv .1)
 
 pub block-lines-spec : {M : Type 1} → statement M
 block-lines-spec =

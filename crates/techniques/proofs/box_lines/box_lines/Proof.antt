@@ -1,7 +1,7 @@
 -- `techniques::box_lines::box_lines` meets its contract. The invariant: the boxes that are left still make the whole. Assumes nothing.
 use mathlib.Core.Path.{_≡_, ap, _∙_}
 use mathlib.Core.List.{List}
-use Prim.Native.Nat.{ℕ, _-_, _≤_}
+use Prim.Native.Nat.{ℕ, _+_, _-_, _≤_}
 use native.Mathlib.Omega.{arith}
 use borrow.Author.Needs.{needs}
 use Rattle.grid.proofs.Lists.{turn-done, turns-over}
@@ -27,6 +27,9 @@ add-unit-masks c = omega arith
 unit-masks-requires : tie.Need-unit-masks-requires Inv-loop μ-loop
 unit-masks-requires c κs = search needs
 
+add-block-lines : tie.Need-add-block-lines Inv-loop μ-loop
+add-block-lines c = omega arith
+
 block-lines-requires : tie.Need-block-lines-requires Inv-loop μ-loop
 block-lines-requires c κs = search needs
 
@@ -43,7 +46,7 @@ loop-again c =
     let l = c .before .before .before .before .before .before .loop in (
       omega arith,
       turn-done (blockTurn (a .givens .now)) 9 (l .block) (omega arith)
-          (c .block-lines .ensures ∙ ap (λ (nine : List ℕ). blockLines (a .givens .now) (l .block) nine (l .masks)) (c .before .before .before .unit-masks .ensures))
+          (c .block-lines .ensures ∙ ap (λ (nine : List ℕ). blockLines (a .givens .now) (18 + l .block) nine (l .masks)) (c .before .before .before .unit-masks .ensures))
           (l .inv .1),
     )
 
@@ -60,6 +63,7 @@ box-lines-spec =
     loop-holds
     add-unit-masks
     unit-masks-requires
+    add-block-lines
     block-lines-requires
     add-block
     loop-less

@@ -1,0 +1,17 @@
+-- `locked::claiming` meets its contract. Assumes nothing.
+use mathlib.Core.Path.{_∙_}
+use native.Mathlib.Omega.{arith}
+use Rattle.locked.proofs.LockedTurns.{claiming-pass}
+use Rattle.locked.proofs.claiming.Statement.{statement}
+use Rattle.locked.proofs.claiming.Tie as tie
+
+locked-units-requires : tie.Need-locked-units-requires
+locked-units-requires c κs = omega arith
+
+returns : tie.Need-returns
+returns c =
+    let a = c .before .before .args in
+    c .locked-units .ensures ∙ claiming-pass (a .givens .now) (a .masks .now)
+
+pub claiming-spec : {M : Type 1} → statement M
+claiming-spec = tie.close (tie.spec locked-units-requires returns)
