@@ -1,6 +1,7 @@
 #!/usr/bin/env python3
-"""What the program board_check must print: the readers, the opener, the calls on a board and the writers at their edges. Made from
-the paper's words (cells and masks, modules 2, 12 and 13, the table of stops) and document 02's on pasted sheets; it knows nothing of the program.
+"""What the program board_check must print: the readers, the opener, the calls on a board, entering and rubbing out, and the writers at
+their edges. Made from the paper's words (cells and masks, modules 2, 12 and 13, the table of stops) and document 02's on pasted sheets and
+entries; it knows nothing of the program.
 
     python3 tools/board_check.py > crates/board_check/stdout
 
@@ -13,6 +14,8 @@ A line for each call, NAME A B STOP DETAIL. A refused call has its stop and what
     update                the checksum of the masks, which stand after it in the line `left`, refused or not
     count, mask           the clue count, the mask of cell B
     dead finished open    the verdict, 0
+    enter, rub_out        the checksum of the masks; A is the place of the digit in NUMBERS (0 for rub_out), and B the cell; entries and masks
+                          stand after it in the lines `entries` and `left`, refused or not
     write, canonical      what it returns; A is the grid, and B how many bytes are lent; the line `lent` has all hundred bytes' checksum
 """
 
@@ -69,12 +72,25 @@ def bad_clue(clues):
     return first(lambda cell: not 0 <= clues[cell] <= 9)
 
 
-def refusal(clues, masks):
+# document 02, F-6: entries count as clues
+def joined(clues, entries):
+    return [entry if digit(entry) and not digit(clue) else clue for clue, entry in zip(clues, entries)]
+
+
+def digit(number):
+    return number if 1 <= number <= 9 else 0
+
+
+def refusal(clues, entries, masks):
     cell = bad_clue(clues)
     if cell is not None:
         return 3, cell
-    new = fresh(clues)
-    cell = first(lambda cell: masks[cell] != new[cell] if clues[cell] else masks[cell] & ~new[cell])
+    cell = first(lambda cell: not 0 <= entries[cell] <= 9 or (entries[cell] and clues[cell]))
+    if cell is not None:
+        return 8, cell
+    fixed = joined(clues, entries)
+    new = fresh(fixed)
+    cell = first(lambda cell: masks[cell] != new[cell] if fixed[cell] else masks[cell] & ~new[cell])
     return None if cell is None else (9, cell)
 
 
@@ -111,9 +127,9 @@ def verdict(masks):
     return "dead" if 0 in counts else "open" if counts != [1] * 81 else "dead" if repeats else "finished"
 
 
-def calls(a, at, clues, masks):
-    stopped = refusal(clues, masks)
-    left = masks if stopped else fresh(clues)
+def calls(a, at, clues, masks, entries=[0] * 81):
+    stopped = refusal(clues, entries, masks)
+    left = masks if stopped else fresh(joined(clues, entries))
     line("puzzle", a, at, stopped or (0, fold(clues)))
     line("candidates", a, at, stopped or (0, fold(masks)))
     line("update", a, at, stopped or (0, fold(left)))
@@ -121,6 +137,31 @@ def calls(a, at, clues, masks):
     line("count", a, at, stopped or (0, sum(clue != 0 for clue in clues)))
     line("mask", a, at, stopped or ((0, masks[at]) if at <= 80 else (5, at)))
     line("verdict" if stopped else verdict(masks), a, at, stopped or (0, 0))
+
+
+def pencil(name, a, cell, board, number):
+    clues, entries, masks = board
+    answer = refusal(clues, entries, masks)
+    if not answer and cell > 80:
+        answer = 5, cell
+    if not answer and name == "enter" and not digit(number):
+        answer = 4, number
+    if not answer and clues[cell]:
+        answer = 12, cell
+    if not answer and (entries[cell] != 0) == (name == "enter"):
+        answer = 13, cell
+    if not answer:
+        entries = put(entries, cell, number)
+        masks = fresh(joined(clues, entries))
+    line(name, a, cell, answer or (0, fold(masks)))
+    line("entries", a, cell, (0, fold(map(digit, entries))))
+    line("left", a, cell, (0, fold(masks)))
+
+
+def pencils(board, cell):
+    for place, number in enumerate(NUMBERS):
+        pencil("enter", place, cell, board, number)
+    pencil("rub_out", 0, cell, board, 0)
 
 
 def write(name, a, lent, clues, text):
@@ -182,6 +223,21 @@ for at in [0, 80]:
 calls(6, 0, grid(c1=1, c80=10), [511] * 81)
 calls(7, 0, grid(c0=-1, c1=1, c80=10), [511] * 81)
 calls(8, 0, grid(c80=1), [511] * 81)
+for place, number in enumerate(NUMBERS):
+    for at in [0, 79]:
+        entries = put([0] * 81, at, number)
+        taken = BESIDE if at == 79 else put(BESIDE, at, digit(number))
+        calls(20 + place, at, BESIDE, fresh(taken), entries)
+TWO = grid(c1=2, c80=10)
+calls(30, 0, grid(c1=1), [511] * 81, TWO)
+calls(31, 0, grid(c1=1, c80=-1), [511] * 81, TWO)
+calls(32, 0, grid(c1=1), fresh(grid(c1=1)), grid(c0=2))
+calls(33, 0, grid(c1=1), put(fresh(grid(c1=1)), 0, 2), grid(c0=2))
+CLUE, ENTRY = grid(c0=1), grid(c80=2)
+MASKS = fresh(grid(c0=1, c80=2))
+for cell in [0, 1, 40, 80, 81, 4294967295]:
+    pencils((CLUE, ENTRY, put(MASKS, 40, 510)), cell)
+pencils((CLUE, ENTRY, put(MASKS, 40, 512)), 81)
 for a, text in [(9, A), (10, "." + A[1:80] + "."), (11, "0..4567893" + "." * 71), (12, "21" + A[2:])]:
     clues = [0 if letter == "." else int(letter) for letter in text]
     for at in [0, 80, 81, 4294967295]:

@@ -14,6 +14,8 @@ pub mod sides;
 pub mod text_cases;
 
 pub type Clues = [i32; 81];
+/// 0 where a cell has no entry.
+pub type Entries = [i32; 81];
 pub type Masks = [u16; 81];
 /// Room for 324 reports, two bytes each.
 pub type ReportBytes = [u8; 648];
@@ -21,21 +23,43 @@ pub type ReportBytes = [u8; 648];
 pub type CardBytes = [u8; 256];
 type Answer = [i64; 4];
 
+pub const NO_ENTRIES: Entries = [0; 81];
+
+/// A board: the printed clues, the entries and the masks.
+#[derive(Clone, Copy, Debug, PartialEq, Eq)]
+pub struct Board {
+    pub clues: Clues,
+    pub entries: Entries,
+    pub masks: Masks,
+}
+
+impl Board {
+    pub fn without_entries(clues: &Clues, masks: &Masks) -> Self {
+        Board { clues: *clues, entries: NO_ENTRIES, masks: *masks }
+    }
+}
+
+/// The number of the signatures below, which is raised with each change of one; `abi` says what the archive has.
+pub const ABI: u32 = 1;
+
 extern "C" {
+    fn sudoku_abi() -> u32;
     fn sudoku_verify(grid: *const Clues) -> bool;
     fn sudoku_set(call: u8, mask: u16, digit: i32, answer: *mut Answer);
     fn sudoku_next(mask: u16, place: u8, answer: *mut Answer);
     fn sudoku_read(text: *const u8, length: usize, clues: *mut Clues, answer: *mut Answer);
     fn sudoku_open(clues: *const Clues, masks: *mut Masks, answer: *mut Answer);
-    fn sudoku_ask(question: u8, cell: u32, clues: *const Clues, masks: *const Masks, answer: *mut Answer);
-    fn sudoku_original_puzzle(clues: *const Clues, masks: *const Masks, puzzle: *mut Clues, answer: *mut Answer);
-    fn sudoku_get_candidates(clues: *const Clues, masks: *const Masks, candidates: *mut Masks, answer: *mut Answer);
-    fn sudoku_step(step: u8, clues: *const Clues, masks: *mut Masks, reports: *mut ReportBytes, answer: *mut Answer);
+    fn sudoku_ask(question: u8, cell: u32, clues: *const Clues, entries: *const Entries, masks: *const Masks, answer: *mut Answer);
+    fn sudoku_original_puzzle(clues: *const Clues, entries: *const Entries, masks: *const Masks, puzzle: *mut Clues, answer: *mut Answer);
+    fn sudoku_get_candidates(clues: *const Clues, entries: *const Entries, masks: *const Masks, candidates: *mut Masks, answer: *mut Answer);
+    fn sudoku_enter(cell: u32, digit: i32, clues: *const Clues, entries: *mut Entries, masks: *mut Masks, answer: *mut Answer);
+    fn sudoku_rub_out(cell: u32, clues: *const Clues, entries: *mut Entries, masks: *mut Masks, answer: *mut Answer);
+    fn sudoku_step(step: u8, clues: *const Clues, entries: *const Entries, masks: *mut Masks, reports: *mut ReportBytes, answer: *mut Answer);
     fn sudoku_run(steps: *const u8, length: usize, clues: *const Clues, masks: *mut Masks, answer: *mut Answer);
     fn sudoku_write_text(clues: *const Clues, text: *mut u8, length: usize, answer: *mut Answer);
     fn sudoku_read_sheet(sheet: *const u8, length: usize, clues: *mut Clues, answer: *mut Answer);
     fn sudoku_write_sheet(clues: *const Clues, sheet: *mut u8, length: usize, answer: *mut Answer);
-    fn sudoku_write_record(clues: *const Clues, masks: *const Masks, record: *mut u8, length: usize, answer: *mut Answer);
+    fn sudoku_write_record(clues: *const Clues, entries: *const Entries, masks: *const Masks, record: *mut u8, length: usize, answer: *mut Answer);
     fn sudoku_read_record(record: *const u8, length: usize, clues: *mut Clues, masks: *mut Masks, answer: *mut Answer);
     fn sudoku_trial_round(start: u32, percentage: u32, solution: *const Clues, clues: *mut Clues, answer: *mut Answer);
     fn sudoku_card(input: *const u8, length: usize, card: *mut CardBytes, answer: *mut Answer);
@@ -54,6 +78,12 @@ fn answered(call: impl FnOnce(&mut Answer)) -> Result<(i64, i64), Stop> {
     call(&mut answer);
     let [number, detail, value, second] = answer;
     if number == 0 { Ok((value, second)) } else { Err(Stop { number, detail }) }
+}
+
+/// The archive's number of the signatures; where it is not `ABI`, nothing else may be called.
+pub fn abi() -> u32 {
+    // SAFETY: the export takes nothing.
+    unsafe { sudoku_abi() }
 }
 
 /// How many of 81 numbers are clues, which the readers answer.
@@ -151,33 +181,46 @@ pub fn open(clues: &Clues, masks: &mut Masks) -> Result<i64, Stop> {
     Ok(answered(|answer| unsafe { sudoku_open(clues, masks, answer) })?.0)
 }
 
-fn ask(question: u8, cell: u32, clues: &Clues, masks: &Masks) -> Result<i64, Stop> {
-    Ok(answered(|answer| unsafe { sudoku_ask(question, cell, clues, masks, answer) })?.0)
+fn ask(question: u8, cell: u32, Board { clues, entries, masks }: &Board) -> Result<i64, Stop> {
+    Ok(answered(|answer| unsafe { sudoku_ask(question, cell, clues, entries, masks, answer) })?.0)
 }
 
-pub fn clue_count(clues: &Clues, masks: &Masks) -> Result<i64, Stop> {
-    ask(0, 0, clues, masks)
+/// How many printed clues there are.
+pub fn clue_count(board: &Board) -> Result<i64, Stop> {
+    ask(0, 0, board)
 }
 
-pub fn verdict(clues: &Clues, masks: &Masks) -> Result<&'static str, Stop> {
-    Ok(["dead", "finished", "open"][ask(1, 0, clues, masks)? as usize])
+pub fn verdict(board: &Board) -> Result<&'static str, Stop> {
+    Ok(["dead", "finished", "open"][ask(1, 0, board)? as usize])
 }
 
-pub fn cell_mask(clues: &Clues, masks: &Masks, cell: u32) -> Result<u16, Stop> {
-    Ok(ask(2, cell, clues, masks)? as u16)
+pub fn cell_mask(board: &Board, cell: u32) -> Result<u16, Stop> {
+    Ok(ask(2, cell, board)? as u16)
 }
 
-pub fn original_puzzle(clues: &Clues, masks: &Masks, puzzle: &mut Clues) -> Result<(), Stop> {
-    answered(|answer| unsafe { sudoku_original_puzzle(clues, masks, puzzle, answer) }).map(drop)
+/// The printed clues.
+pub fn original_puzzle(Board { clues, entries, masks }: &Board, puzzle: &mut Clues) -> Result<(), Stop> {
+    answered(|answer| unsafe { sudoku_original_puzzle(clues, entries, masks, puzzle, answer) }).map(drop)
 }
 
-pub fn get_candidates(clues: &Clues, masks: &Masks, candidates: &mut Masks) -> Result<(), Stop> {
-    answered(|answer| unsafe { sudoku_get_candidates(clues, masks, candidates, answer) }).map(drop)
+pub fn get_candidates(Board { clues, entries, masks }: &Board, candidates: &mut Masks) -> Result<(), Stop> {
+    answered(|answer| unsafe { sudoku_get_candidates(clues, entries, masks, candidates, answer) }).map(drop)
 }
 
-/// A board call by its step number: the flag and the number of reports; for settling the sweeps and the removed candidates.
-pub fn step(step: u8, clues: &Clues, masks: &mut Masks, reports: &mut ReportBytes) -> Result<(i64, i64), Stop> {
-    answered(|answer| unsafe { sudoku_step(step, clues, masks, reports, answer) })
+/// A digit entered in an open cell: its entry and the masks of the board worked out afresh.
+pub fn enter(cell: u32, digit: i32, Board { clues, entries, masks }: &mut Board) -> Result<(), Stop> {
+    answered(|answer| unsafe { sudoku_enter(cell, digit, clues, entries, masks, answer) }).map(drop)
+}
+
+/// The entry of a cell rubbed out, likewise.
+pub fn rub_out(cell: u32, Board { clues, entries, masks }: &mut Board) -> Result<(), Stop> {
+    answered(|answer| unsafe { sudoku_rub_out(cell, clues, entries, masks, answer) }).map(drop)
+}
+
+/// A board call by its step number, which changes the masks alone: the flag and the number of reports; for settling the sweeps and the
+/// removed candidates.
+pub fn step(step: u8, Board { clues, entries, masks }: &mut Board, reports: &mut ReportBytes) -> Result<(i64, i64), Stop> {
+    answered(|answer| unsafe { sudoku_step(step, clues, entries, masks, reports, answer) })
 }
 
 /// The masks after a list of steps from the fresh board of the clues.
@@ -200,12 +243,12 @@ pub fn write_sheet(clues: &Clues, sheet: &mut [u8]) -> Result<i64, Stop> {
     Ok(answered(|answer| unsafe { sudoku_write_sheet(clues, sheet.as_mut_ptr(), sheet.len(), answer) })?.0)
 }
 
-/// The record of a board in the first lent bytes, and how many were written.
-pub fn write_record(clues: &Clues, masks: &Masks, record: &mut [u8]) -> Result<i64, Stop> {
-    Ok(answered(|answer| unsafe { sudoku_write_record(clues, masks, record.as_mut_ptr(), record.len(), answer) })?.0)
+/// The record of a board in the first lent bytes, and how many were written; its entries have no place in it.
+pub fn write_record(Board { clues, entries, masks }: &Board, record: &mut [u8]) -> Result<i64, Stop> {
+    Ok(answered(|answer| unsafe { sudoku_write_record(clues, entries, masks, record.as_mut_ptr(), record.len(), answer) })?.0)
 }
 
-/// The board of a record, and how many clues it has.
+/// The clues and masks of a record's board, which has no entries, and how many clues they are.
 pub fn read_record(record: &[u8], clues: &mut Clues, masks: &mut Masks) -> Result<i64, Stop> {
     Ok(answered(|answer| unsafe { sudoku_read_record(record.as_ptr(), record.len(), clues, masks, answer) })?.0)
 }

@@ -1,9 +1,9 @@
-//! The engine a second time, plainly, sentence by sentence after document 01; it shares no code with the Rust, the engine or its
+//! The engine a second time, plainly, sentence by sentence after documents 01 and 02; it shares no code with the Rust, the engine or its
 //! definitions. Its author had read all three, so agreement shows that the words fit the Rust, not that they allow nothing else.
 
 use std::sync::LazyLock;
 
-use crate::{Clues, Masks, SingleCandidate, Stop};
+use crate::{Board, Clues, Entries, Masks, SingleCandidate, Stop};
 
 const CELLS: usize = 81;
 
@@ -73,19 +73,20 @@ pub fn single_candidate(mask: u16) -> SingleCandidate {
     }
 }
 
-fn candidates(masks: &Masks) -> usize {
+pub fn candidates(masks: &Masks) -> usize {
     masks.iter().map(|mask| mask.count_ones() as usize).sum()
 }
 
 // ---- a board
 
+/// A board with its entries among its clues, as the calls take it: "All board calls and stop 9 treat entries as clues" (document 02, F-6).
 #[derive(Clone)]
-struct Board {
+struct Joint {
     clues: Clues,
     masks: Masks,
 }
 
-impl Board {
+impl Joint {
     fn is_open(&self, cell: usize) -> bool {
         self.clues[cell] == 0
     }
@@ -129,24 +130,93 @@ fn bad_clue(clues: &Clues) -> Option<Stop> {
     Some(Stop { number: 3, detail: cell as i64 })
 }
 
-/// The check of a handed board: stop 3, then stop 9.
-pub fn check(clues: &Clues, masks: &Masks) -> Option<Stop> {
-    if let Some(stop) = bad_clue(clues) {
-        return Some(stop);
-    }
+/// "an entry on a clue cell, or an entry outside 0 to 9 (0 = none) .. and the first such cell" (document 02, F-6)
+fn bad_entry(board: &Board) -> Option<Stop> {
+    let bad = |&cell: &usize| match board.entries[cell] {
+        0 => false,
+        1..=9 => board.clues[cell] != 0,
+        _ => true,
+    };
+    (0..CELLS).find(bad).map(|cell| Stop { number: 8, detail: cell as i64 })
+}
+
+fn bad_mask(Joint { clues, masks }: &Joint) -> Option<Stop> {
     let fresh = fresh(clues);
     let bad = |&cell: &usize| masks[cell] & !fresh[cell] != 0 || clues[cell] != 0 && masks[cell] != bit(clues[cell]);
-    let cell = (0..CELLS).find(bad)?;
-    Some(Stop { number: 9, detail: cell as i64 })
+    (0..CELLS).find(bad).map(|cell| Stop { number: 9, detail: cell as i64 })
+}
+
+/// The check of a handed board: stop 3, then 8, "between 01's 3 and 9", then 9.
+pub fn check(board: &Board) -> Option<Stop> {
+    bad_clue(&board.clues).or_else(|| bad_entry(board)).or_else(|| bad_mask(&joint(board)))
+}
+
+fn checked(board: &Board) -> Result<Joint, Stop> {
+    check(board).map_or_else(|| Ok(joint(board)), Err)
+}
+
+fn joint(board: &Board) -> Joint {
+    Joint { clues: together(&board.clues, &board.entries), masks: board.masks }
+}
+
+/// "the printed clues and the remaining entries together"
+pub fn together(clues: &Clues, entries: &Entries) -> Clues {
+    std::array::from_fn(|cell| if clues[cell] != 0 { clues[cell] } else { entries[cell] })
+}
+
+/// The board with these entries, worked out afresh.
+pub fn afresh(clues: &Clues, entries: &Entries) -> Board {
+    Board { clues: *clues, entries: *entries, masks: fresh(&together(clues, entries)) }
 }
 
 pub fn open(clues: &Clues) -> Result<Masks, Stop> {
     bad_clue(clues).map_or_else(|| Ok(fresh(clues)), Err)
 }
 
+// ---- entries (document 02, F-6)
+
+/// After the board's own stops "the order is 5, 4 (entering only), 12, 13".
+pub fn enter(board: &Board, cell: usize, digit: i32) -> Result<Board, Stop> {
+    checked(board)?;
+    if cell > 80 {
+        return Err(Stop { number: 5, detail: cell as i64 });
+    }
+    if !(1..=9).contains(&digit) {
+        return Err(Stop { number: 4, detail: digit.into() });
+    }
+    if board.clues[cell] != 0 {
+        return Err(Stop { number: 12, detail: cell as i64 });
+    }
+    if board.entries[cell] != 0 {
+        return Err(Stop { number: 13, detail: cell as i64 });
+    }
+    Ok(with_entry(board, cell, digit))
+}
+
+pub fn rub_out(board: &Board, cell: usize) -> Result<Board, Stop> {
+    checked(board)?;
+    if cell > 80 {
+        return Err(Stop { number: 5, detail: cell as i64 });
+    }
+    if board.clues[cell] != 0 {
+        return Err(Stop { number: 12, detail: cell as i64 });
+    }
+    if board.entries[cell] == 0 {
+        return Err(Stop { number: 13, detail: cell as i64 });
+    }
+    Ok(with_entry(board, cell, 0))
+}
+
+/// "makes the masks those of a fresh board whose clues are the printed clues and the remaining entries together"
+fn with_entry(board: &Board, cell: usize, entry: i32) -> Board {
+    let mut entries = board.entries;
+    entries[cell] = entry;
+    afresh(&board.clues, &entries)
+}
+
 // ---- the ported passes
 
-impl Board {
+impl Joint {
     fn naked_pairs(&mut self) {
         for cells in (0..27).map(unit) {
             for first in 0..9 {
@@ -243,12 +313,12 @@ impl Board {
 
 // ---- the chain pass
 
-impl Board {
+impl Joint {
     fn chain_pass(&mut self) {
         for digit in 1..=9 {
             let starts: Vec<usize> = (0..CELLS).filter(|&cell| self.open_holds(cell, digit)).collect();
             for start in starts {
-                if self.enter(digit, &mut Vec::new(), start) {
+                if self.go_on(digit, &mut Vec::new(), start) {
                     break;
                 }
             }
@@ -256,14 +326,14 @@ impl Board {
     }
 
     /// Goes on from a cell that the path does not have; yes where a candidate was lost.
-    fn enter(&mut self, digit: i32, path: &mut Vec<usize>, cell: usize) -> bool {
+    fn go_on(&mut self, digit: i32, path: &mut Vec<usize>, cell: usize) -> bool {
         path.push(cell);
         let lost = self.chain_removes(digit, path[0], cell, path.len());
         if !lost && path.len() < 7 {
             let weak = path.len() % 2 == 1;
             let links = if weak { self.weak_links(digit, cell) } else { self.strong_links(digit, cell) };
             for next in links {
-                if !path.contains(&next) && self.enter(digit, path, next) {
+                if !path.contains(&next) && self.go_on(digit, path, next) {
                     return true;
                 }
             }
@@ -300,7 +370,7 @@ impl Board {
 
 // ---- the wide passes and settling
 
-impl Board {
+impl Joint {
     fn lone(&mut self) {
         for cell in 0..CELLS {
             for digit in 1..=9 {
@@ -444,32 +514,31 @@ impl Board {
 
 /// 0 update_candidates, 1 naked pairs, 2 box-line, 3 X-wing, 4 naked singles, 5 hidden singles, 6 apply_advanced_techniques,
 /// 7 Lone, 8 Place, 9 Pair, 10 Pointing, 11 Cross, 12 settling, 13 the chain pass, 14 Claiming.
-pub fn step(number: u8, clues: &Clues, masks: &Masks) -> Result<Outcome, Stop> {
-    if let Some(stop) = check(clues, masks) {
-        return Err(stop);
-    }
-    let mut board = Board { clues: *clues, masks: *masks };
+pub fn step(number: u8, board: &Board) -> Result<Outcome, Stop> {
+    let mut board = checked(board)?;
+    let before = board.masks;
     match number {
-        0 => Ok(Outcome { masks: fresh(clues), ..silent(masks) }),
-        1 => Ok(removing(&mut board, Board::naked_pairs)),
-        2 => Ok(removing(&mut board, Board::box_line)),
-        3 => Ok(removing(&mut board, Board::x_wing)),
-        4 => Ok(reporting(masks, board.naked_singles())),
-        5 => Ok(reporting(masks, board.hidden_singles())),
+        0 => Ok(Outcome { masks: fresh(&board.clues), ..silent(&before) }),
+        1 => Ok(removing(&mut board, Joint::naked_pairs)),
+        2 => Ok(removing(&mut board, Joint::box_line)),
+        3 => Ok(removing(&mut board, Joint::x_wing)),
+        4 => Ok(reporting(&before, board.naked_singles())),
+        5 => Ok(reporting(&before, board.hidden_singles())),
         6 => Ok(advanced(&mut board)),
-        7 => Ok(removing(&mut board, Board::lone)),
-        8 => Ok(removing(&mut board, Board::place)),
-        9 => Ok(removing(&mut board, Board::pair)),
-        10 => Ok(removing(&mut board, Board::pointing)),
-        11 => Ok(removing(&mut board, Board::cross)),
+        7 => Ok(removing(&mut board, Joint::lone)),
+        8 => Ok(removing(&mut board, Joint::place)),
+        9 => Ok(removing(&mut board, Joint::pair)),
+        10 => Ok(removing(&mut board, Joint::pointing)),
+        11 => Ok(removing(&mut board, Joint::cross)),
         12 => Ok(settling(&mut board)),
-        13 => Ok(removing(&mut board, Board::chain_pass)),
-        14 => Ok(removing(&mut board, Board::claiming)),
+        13 => Ok(removing(&mut board, Joint::chain_pass)),
+        14 => Ok(removing(&mut board, Joint::claiming)),
         _ => Err(Stop { number: -1, detail: number as i64 }),
     }
 }
 
-fn silent(masks: &Masks) -> Outcome {
+/// What a call answers that speaks of the masks alone.
+pub fn silent(masks: &Masks) -> Outcome {
     Outcome { flag: false, reports: Vec::new(), sweeps: 0, removed: 0, masks: *masks }
 }
 
@@ -477,13 +546,13 @@ fn reporting(masks: &Masks, reports: Vec<(usize, i32)>) -> Outcome {
     Outcome { flag: !reports.is_empty(), reports, ..silent(masks) }
 }
 
-fn removing(board: &mut Board, pass: fn(&mut Board)) -> Outcome {
+fn removing(board: &mut Joint, pass: fn(&mut Joint)) -> Outcome {
     let before = board.masks;
     pass(board);
     Outcome { flag: board.masks != before, ..silent(&board.masks) }
 }
 
-fn advanced(board: &mut Board) -> Outcome {
+fn advanced(board: &mut Joint) -> Outcome {
     let before = board.masks;
     let mut reports = board.naked_singles();
     reports.extend(board.hidden_singles());
@@ -493,22 +562,20 @@ fn advanced(board: &mut Board) -> Outcome {
     Outcome { flag, reports, ..silent(&masks) }
 }
 
-fn settling(board: &mut Board) -> Outcome {
+fn settling(board: &mut Joint) -> Outcome {
     let before = candidates(&board.masks);
     let sweeps = board.settle();
     Outcome { sweeps, removed: before - candidates(&board.masks), ..silent(&board.masks) }
 }
 
-// ---- verifier, verdict, one cell
+// ---- verifier, verdict, and what a board is asked
 
 pub fn verify(grid: &Clues) -> bool {
     grid.iter().all(|number| (1..=9).contains(number)) && (0..27).map(unit).all(|cells| (1..=9).all(|digit| cells.iter().any(|&cell| grid[cell] == digit)))
 }
 
-pub fn verdict(clues: &Clues, masks: &Masks) -> Result<&'static str, Stop> {
-    if let Some(stop) = check(clues, masks) {
-        return Err(stop);
-    }
+pub fn verdict(board: &Board) -> Result<&'static str, Stop> {
+    let masks = checked(board)?.masks;
     if masks.contains(&0) {
         return Ok("dead");
     }
@@ -520,11 +587,21 @@ pub fn verdict(clues: &Clues, masks: &Masks) -> Result<&'static str, Stop> {
     Ok(if verify(&digits) { "finished" } else { "dead" })
 }
 
-pub fn one_mask(clues: &Clues, masks: &Masks, cell: usize) -> Result<u16, Stop> {
-    if let Some(stop) = check(clues, masks) {
-        return Err(stop);
-    }
-    masks.get(cell).copied().ok_or(Stop { number: 5, detail: cell as i64 })
+pub fn one_mask(board: &Board, cell: usize) -> Result<u16, Stop> {
+    checked(board)?.masks.get(cell).copied().ok_or(Stop { number: 5, detail: cell as i64 })
+}
+
+/// "`clue_count` and `original_puzzle` give the printed clues alone" (document 02, F-6)
+pub fn original_puzzle(board: &Board) -> Result<Clues, Stop> {
+    checked(board).map(|_| board.clues)
+}
+
+pub fn clue_count(board: &Board) -> Result<usize, Stop> {
+    Ok(original_puzzle(board)?.iter().filter(|&&clue| clue != 0).count())
+}
+
+pub fn get_candidates(board: &Board) -> Result<Masks, Stop> {
+    Ok(checked(board)?.masks)
 }
 
 // ---- text
@@ -637,16 +714,16 @@ pub fn card(read: &[u8]) -> Result<String, Stop> {
 }
 
 fn lines(clues: &Clues) -> String {
-    let fresh = fresh(clues);
-    let reported = step(6, clues, &fresh).unwrap().reports.len();
-    let settled = step(12, clues, &fresh).unwrap();
+    let board = Board::without_entries(clues, &fresh(clues));
+    let reported = step(6, &board).unwrap().reports.len();
+    let settled = step(12, &board).unwrap();
     let given = clues.iter().filter(|&&clue| clue != 0).count();
     let line: String = settled.masks.iter().map(shown).collect();
     format!(
         "clues {given}\nreported {reported}\nsweeps {}\nremoved {}\nverdict {}\nline {line}\n",
         settled.sweeps,
         settled.removed,
-        verdict(clues, &settled.masks).unwrap()
+        verdict(&Board { masks: settled.masks, ..board }).unwrap()
     )
 }
 

@@ -1,10 +1,10 @@
 //! Records: boards to be written, bytes to be read, and what is asked of both.
 
-use crate::cases::{apart, damaged_case, kept, list, Case, EVERYTHING, LENT};
+use crate::cases::{apart, damaged_case, kept, list, with_entries, Case, EVERYTHING};
 use crate::random::Random;
 use crate::shrink::{changed, Smaller};
-use crate::sides::{Records, BEHIND, LENT_BYTE, STEPS};
-use crate::{grids, plain, records, Clues, Masks};
+use crate::sides::{Call, Engine, Records, Side, BEHIND, LENT, LENT_BYTE, STEPS};
+use crate::{counted, grids, plain, records, Board, Masks, NO_ENTRIES};
 
 /// Bytes for the reader.
 #[derive(Clone)]
@@ -22,31 +22,32 @@ fn hexadecimal(bytes: &[u8]) -> String {
 
 // ---- boards
 
-/// A board for the writer: fresh, after some calls, with candidates gone, or one that the check may refuse.
+/// A board for the writer: fresh, after some calls, with candidates gone, or one that the check may refuse; with entries or without.
 pub fn board_case(random: &mut Random) -> Case {
-    let clues = grids::clues(random);
+    let fresh = Case::fresh(grids::clues(random), Vec::new());
+    let case = with_entries(random, fresh, None);
     let kept = match random.below(5) {
         0 => EVERYTHING,
-        1 => left_after(&clues, &list(random, &STEPS, 6)),
+        1 => left_after(&case.board(), &list(random, &STEPS, 6)),
         2 | 3 => kept(random),
-        _ => return Case { steps: Vec::new(), ..damaged_case(random) },
+        _ => return Case { calls: Vec::new(), ..damaged_case(random) },
     };
-    Case { kept, ..Case::fresh(clues, Vec::new()) }
+    Case { kept, ..case }
 }
 
 /// All but the candidates that the list removes from the fresh board.
-fn left_after(clues: &Clues, steps: &[u8]) -> Masks {
-    let fresh = plain::fresh(clues);
-    let mut masks = fresh;
-    let _ = crate::run(steps, clues, &mut masks); // compared elsewhere
-    std::array::from_fn(|cell| 511 & !(fresh[cell] & !masks[cell]))
+fn left_after(fresh: &Board, calls: &[Call]) -> Masks {
+    let mut side = Engine::start(fresh);
+    calls.iter().for_each(|&call| _ = side.call(call)); // compared elsewhere
+    let masks = side.board().masks;
+    std::array::from_fn(|cell| 511 & !(fresh.masks[cell] & !masks[cell]))
 }
 
-/// The record of the case's board; where that is refused, of the fresh one.
+/// The record of the case's board; where that is refused, of the fresh one of its clues.
 pub fn record(case: &Case) -> Record {
-    let (clues, masks) = case.board();
-    let refused = plain::check(&clues, &masks).is_some();
-    Record(if refused { records::bytes(&case.clues, &plain::fresh(&case.clues)) } else { records::bytes(&clues, &masks) })
+    let board = case.board();
+    let refused = plain::check(&board).is_some();
+    Record(records::bytes(&if refused { plain::afresh(&case.clues, &NO_ENTRIES) } else { board }))
 }
 
 // ---- damage
@@ -196,26 +197,27 @@ impl Smaller for Record {
 
 /// The record of the case's board in lent bytes, too few, just enough and more: the answer, every lent byte and those behind.
 pub fn written_differs<A: Records, B: Records>(case: &Case) -> Option<String> {
-    let (clues, masks) = case.board();
+    let board = case.board();
     let needed = record(case).0.len();
     [0, 1, needed / 2, needed - 1, needed, needed + 1, needed + 50].into_iter().find_map(|length| {
         let (mut ours, mut theirs) = (vec![LENT_BYTE; length + BEHIND], vec![LENT_BYTE; length + BEHIND]);
-        let answers = (A::write(&clues, &masks, &mut ours[..length]), B::write(&clues, &masks, &mut theirs[..length]));
+        let answers = (A::write(&board, &mut ours[..length]), B::write(&board, &mut theirs[..length]));
         let alike = answers.0 == answers.1 && ours == theirs;
         let (one, two) = (|| hexadecimal(&ours), || hexadecimal(&theirs));
         (!alike).then(|| format!("{length} bytes lent\n  first  {:?}{}\n  second {:?}{}", answers.0, one(), answers.1, two()))
     })
 }
 
-/// Reading what was written gives the board.
+/// Reading what was written gives the board without its entries: its clues, and its masks as far as the clues' own fresh ones go.
 pub fn returned_differs<S: Records>(case: &Case) -> Option<String> {
     let board = case.board();
     let mut bytes = record(case).0;
-    S::write(&board.0, &board.1, &mut bytes).ok()?;
+    S::write(&board, &mut bytes).ok()?;
+    let fresh = plain::fresh(&board.clues);
+    let expected = (board.clues, std::array::from_fn(|cell| board.masks[cell] & fresh[cell]));
     let mut read = LENT;
     let answer = S::read(&bytes, &mut read.0, &mut read.1);
-    let count = board.0.iter().filter(|&&clue| clue != 0).count() as i64;
-    (answer != Ok(count) || read != board).then(|| format!("{}read back as {answer:?}: {}", Record(bytes), apart(&read.1, &board.1)))
+    (answer != Ok(counted(&board.clues)) || read != expected).then(|| format!("{}read back as {answer:?}: {}", Record(bytes), apart(&read.1, &expected.1)))
 }
 
 /// What both sides read; and the first side's writing of what was read gives the bytes.
@@ -230,6 +232,6 @@ pub fn read_differs<A: Records, B: Records>(record: &Record) -> Option<String> {
     }
     answers.0.ok()?;
     let mut again = vec![LENT_BYTE; record.0.len()];
-    let answer = A::write(&ours.0, &ours.1, &mut again);
+    let answer = A::write(&Board::without_entries(&ours.0, &ours.1), &mut again);
     (answer != Ok(record.0.len() as i64) || again != record.0).then(|| format!("written again {answer:?}{}", hexadecimal(&again)))
 }

@@ -1,7 +1,8 @@
-//! The record a second time, plainly, from document 01 alone: module 14, "Cells, masks, board" and the table of stops.
+//! The record a second time, plainly, from document 01 alone: module 14, "Cells, masks, board" and the table of stops; and
+//! from document 02 what F-6 says of a board with entries.
 
 use crate::plain::{bit, check, fresh};
-use crate::{Clues, Masks, Stop};
+use crate::{Board, Clues, Masks, Stop};
 
 const CELLS: usize = 81;
 
@@ -12,8 +13,9 @@ fn stop<T>(number: i64, detail: usize) -> Result<T, Stop> {
 // ---- the writer
 
 /// "clue count (1 byte), then cell and digit bytes, cells rising; removed count (2 bytes, low first), then (cell, digit) bytes,
-/// rising: what the fresh mask has and the board lacks"; of a board that the check admits.
-pub fn bytes(clues: &Clues, masks: &Masks) -> Vec<u8> {
+/// rising: what the fresh mask has and the board lacks"; of a board that the check admits. With entries "module 14 writes the printed
+/// clues and what their own fresh masks have and the board lacks".
+pub fn bytes(Board { clues, masks, .. }: &Board) -> Vec<u8> {
     let fresh = fresh(clues);
     let (mut given, mut removed) = (Vec::new(), Vec::new());
     for cell in 0..CELLS {
@@ -33,12 +35,12 @@ pub fn bytes(clues: &Clues, masks: &Masks) -> Vec<u8> {
     record
 }
 
-/// "the record writer after its board's 3 and 9"; "later bytes keep"
-pub fn write(clues: &Clues, masks: &Masks, lent: &mut [u8]) -> Result<usize, Stop> {
-    if let Some(stop) = check(clues, masks) {
+/// "the record writer after its board's 3 and 9", and 8 between them; "later bytes keep"
+pub fn write(board: &Board, lent: &mut [u8]) -> Result<usize, Stop> {
+    if let Some(stop) = check(board) {
         return Err(stop);
     }
-    let record = bytes(clues, masks);
+    let record = bytes(board);
     if lent.len() < record.len() {
         return stop(6, lent.len());
     }

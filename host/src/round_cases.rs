@@ -1,9 +1,9 @@
 //! Trial rounds, and what is asked of them.
 
-use crate::cases::{self, Case, LENT};
+use crate::cases::{self, Case};
 use crate::random::Random;
 use crate::shrink::{changed, Smaller};
-use crate::sides::{Engine, SOUND};
+use crate::sides::{Call, Engine, LENT, SOUND};
 use crate::{grids, plain, Clues};
 
 #[derive(Clone)]
@@ -12,12 +12,12 @@ pub struct Round {
     pub percentage: u32,
     pub solution: Clues,
     /// The list after which the solution must still stand in the masks.
-    pub steps: Vec<u8>,
+    pub calls: Vec<Call>,
 }
 
 impl std::fmt::Display for Round {
     fn fmt(&self, out: &mut std::fmt::Formatter) -> std::fmt::Result {
-        writeln!(out, "start {}, {} percent of {:?}, steps {:?}", self.start, self.percentage, self.solution, self.steps)
+        writeln!(out, "start {}, {} percent of {:?}, calls {:?}", self.start, self.percentage, self.solution, self.calls)
     }
 }
 
@@ -33,15 +33,15 @@ pub fn round(random: &mut Random) -> Round {
         _ => random.within(0, 101) as u32,
     };
     let solution = if random.percent(80) { grids::filling(random) } else { grids::filled(random) };
-    Round { start, percentage, solution, steps: cases::list(random, &SOUND, 6) }
+    Round { start, percentage, solution, calls: cases::list(random, &SOUND, 6) }
 }
 
 impl Smaller for Round {
     fn smaller(&self) -> impl Iterator<Item = Self> {
         let starts = [0, self.start / 2].into_iter().filter(|&less| less < self.start).map(|start| Round { start, ..self.clone() });
         let parts = [0, self.percentage / 2].into_iter().filter(|&less| less < self.percentage).map(|percentage| Round { percentage, ..self.clone() });
-        let steps = (0..self.steps.len()).map(|at| changed(self, |less| _ = less.steps.remove(at)));
-        starts.chain(parts).chain(steps)
+        let calls = (0..self.calls.len()).map(|at| changed(self, |less| _ = less.calls.remove(at)));
+        starts.chain(parts).chain(calls)
     }
 }
 
@@ -64,5 +64,5 @@ pub fn solution_lost(round: &Round) -> Option<String> {
     if let Some(cell) = (0..81).find(|&cell| clues[cell] != 0 && clues[cell] != round.solution[cell]) {
         return Some(format!("the clue of cell {cell} is not the solution's digit"));
     }
-    cases::unsound::<Engine>(&Case::fresh(clues, round.steps.clone()), Some(&round.solution))
+    cases::unsound::<Engine>(&Case::fresh(clues, round.calls.clone()), Some(&round.solution))
 }

@@ -1,8 +1,8 @@
-//! The sides of a comparison: each takes a board through calls by their step numbers.
+//! The sides of a comparison: each takes a board through calls, steps by their numbers and enterings and rubbings out.
 
 use crate::oracle::{self, SudokuSolver};
 use crate::plain::{self, Outcome};
-use crate::{records, Clues, Masks, Stop};
+use crate::{records, Board, Clues, Masks, Stop};
 
 /// update_candidates, naked pairs, box-line, X-wing, both singles, apply_advanced_techniques; the chain pass.
 pub const PORTED: [u8; 8] = [0, 1, 2, 3, 4, 5, 6, CHAIN];
@@ -20,68 +20,155 @@ pub const CLAIMING: u8 = 14;
 pub const LENT_BYTE: u8 = 0xA5;
 pub const BEHIND: usize = 16;
 
-pub trait Side {
-    fn start(clues: &Clues, masks: &Masks) -> Self;
-    fn step(&mut self, number: u8) -> Result<Outcome, Stop>;
+/// A member of a list.
+#[derive(Clone, Copy, Debug, PartialEq, Eq)]
+pub enum Call {
+    Step(u8),
+    /// The cell and the digit.
+    Enter(u32, i32),
+    RubOut(u32),
 }
+
+impl Call {
+    pub fn is_entry_call(&self) -> bool {
+        !matches!(self, Call::Step(_))
+    }
+}
+
+pub fn steps(numbers: &[u8]) -> Vec<Call> {
+    numbers.iter().map(|&number| Call::Step(number)).collect()
+}
+
+pub trait Side {
+    fn start(board: &Board) -> Self;
+    /// An entering or a rubbing out speaks of the masks alone.
+    fn call(&mut self, call: Call) -> Result<Outcome, Stop>;
+    /// The board that the last call left.
+    fn board(&self) -> Board;
+}
+
+/// The accessors, asked together; one cell's mask is that of `cell`.
+pub trait Accessors {
+    fn ask(board: &Board, cell: u32) -> Asked;
+}
+
+/// What they answer, and what the lent arrays hold then.
+#[derive(Clone, Debug, PartialEq, Eq)]
+pub struct Asked {
+    pub clue_count: Result<i64, Stop>,
+    pub verdict: Result<&'static str, Stop>,
+    pub cell_mask: Result<u16, Stop>,
+    pub original_puzzle: (Result<(), Stop>, Clues),
+    pub get_candidates: (Result<(), Stop>, Masks),
+}
+
+/// What lent arrays hold before.
+pub const LENT: (Clues, Masks) = ([7; 81], [7; 81]);
 
 /// The record writer and reader: the bytes written, and the number of clues read.
 pub trait Records {
-    fn write(clues: &Clues, masks: &Masks, lent: &mut [u8]) -> Result<i64, Stop>;
+    fn write(board: &Board, lent: &mut [u8]) -> Result<i64, Stop>;
     fn read(record: &[u8], clues: &mut Clues, masks: &mut Masks) -> Result<i64, Stop>;
 }
 
-/// The Rust original; one solver goes through the whole list.
-pub struct Original(SudokuSolver);
+// ---- the Rust original
+
+/// One solver goes through the list. It is handed clues and entries as one clue grid: a fresh one at each entering or rubbing out, which
+/// it has not; their stops are the plain implementation's.
+pub struct Original {
+    board: Board,
+    solver: SudokuSolver,
+}
 
 impl Side for Original {
-    fn start(clues: &Clues, masks: &Masks) -> Self {
-        Original(oracle::with_masks(clues, masks))
+    fn start(board: &Board) -> Self {
+        Original { board: *board, solver: oracle::with_masks(&plain::together(&board.clues, &board.entries), &board.masks) }
     }
 
-    fn step(&mut self, number: u8) -> Result<Outcome, Stop> {
-        self.0.reports.clear();
-        let flag = match number {
+    fn call(&mut self, call: Call) -> Result<Outcome, Stop> {
+        self.solver.reports.clear();
+        let flag = match call {
+            Call::Step(number) => self.step(number)?,
+            Call::Enter(cell, digit) => self.opened(plain::enter(&self.board(), cell as usize, digit)?),
+            Call::RubOut(cell) => self.opened(plain::rub_out(&self.board(), cell as usize)?),
+        };
+        Ok(Outcome { flag, reports: self.solver.reports.clone(), sweeps: 0, removed: 0, masks: self.solver.masks() })
+    }
+
+    fn board(&self) -> Board {
+        Board { masks: self.solver.masks(), ..self.board }
+    }
+}
+
+impl Original {
+    fn step(&mut self, number: u8) -> Result<bool, Stop> {
+        Ok(match number {
             0 => {
-                self.0.update_candidates();
+                self.solver.update_candidates();
                 false
             }
-            1 => self.0.apply_naked_pairs(),
-            2 => self.0.apply_box_line_reduction(),
-            3 => self.0.apply_x_wing(),
-            4 => self.0.apply_naked_singles(),
-            5 => self.0.apply_hidden_singles(),
-            6 => self.0.apply_advanced_techniques(),
-            CHAIN => self.0.apply_alternating_inference_chains(),
+            1 => self.solver.apply_naked_pairs(),
+            2 => self.solver.apply_box_line_reduction(),
+            3 => self.solver.apply_x_wing(),
+            4 => self.solver.apply_naked_singles(),
+            5 => self.solver.apply_hidden_singles(),
+            6 => self.solver.apply_advanced_techniques(),
+            CHAIN => self.solver.apply_alternating_inference_chains(),
             _ => return Err(Stop { number: -1, detail: number as i64 }),
-        };
-        Ok(Outcome { flag, reports: self.0.reports.clone(), sweeps: 0, removed: 0, masks: self.0.masks() })
+        })
+    }
+
+    /// The solver of the clues and entries together; the masks are its own.
+    fn opened(&mut self, Board { clues, entries, .. }: Board) -> bool {
+        self.board.entries = entries;
+        self.solver = oracle::opened(&plain::together(&clues, &entries));
+        false
     }
 }
 
-/// The second, plain implementation.
-pub struct Plain {
-    clues: Clues,
-    masks: Masks,
-}
+// ---- the second, plain implementation
+
+pub struct Plain(Board);
 
 impl Side for Plain {
-    fn start(clues: &Clues, masks: &Masks) -> Self {
-        Plain { clues: *clues, masks: *masks }
+    fn start(board: &Board) -> Self {
+        Plain(*board)
     }
 
-    fn step(&mut self, number: u8) -> Result<Outcome, Stop> {
-        let answer = plain::step(number, &self.clues, &self.masks);
-        if let Ok(outcome) = &answer {
-            self.masks = outcome.masks;
+    fn call(&mut self, call: Call) -> Result<Outcome, Stop> {
+        match call {
+            Call::Step(number) => {
+                let outcome = plain::step(number, &self.0)?;
+                self.0.masks = outcome.masks;
+                return Ok(outcome);
+            }
+            Call::Enter(cell, digit) => self.0 = plain::enter(&self.0, cell as usize, digit)?,
+            Call::RubOut(cell) => self.0 = plain::rub_out(&self.0, cell as usize)?,
         }
-        answer
+        Ok(plain::silent(&self.0.masks))
+    }
+
+    fn board(&self) -> Board {
+        self.0
+    }
+}
+
+impl Accessors for Plain {
+    fn ask(board: &Board, cell: u32) -> Asked {
+        let (puzzle, sets) = (plain::original_puzzle(board), plain::get_candidates(board));
+        Asked {
+            clue_count: plain::clue_count(board).map(|count| count as i64),
+            verdict: plain::verdict(board),
+            cell_mask: plain::one_mask(board, cell as usize),
+            original_puzzle: (puzzle.map(drop), puzzle.unwrap_or(LENT.0)),
+            get_candidates: (sets.map(drop), sets.unwrap_or(LENT.1)),
+        }
     }
 }
 
 impl Records for Plain {
-    fn write(clues: &Clues, masks: &Masks, lent: &mut [u8]) -> Result<i64, Stop> {
-        Ok(records::write(clues, masks, lent)? as i64)
+    fn write(board: &Board, lent: &mut [u8]) -> Result<i64, Stop> {
+        Ok(records::write(board, lent)? as i64)
     }
 
     fn read(record: &[u8], clues: &mut Clues, masks: &mut Masks) -> Result<i64, Stop> {
@@ -90,26 +177,41 @@ impl Records for Plain {
     }
 }
 
-/// The engine itself, by its exports.
-pub struct Engine {
-    clues: Clues,
-    masks: Masks,
-}
+// ---- the engine itself, by its exports
+
+pub struct Engine(Board);
 
 /// What was lent holds something else than the page says: no stop of the engine's.
 const BROKEN: Stop = Stop { number: i64::MIN, detail: 0 };
 
 impl Side for Engine {
-    fn start(clues: &Clues, masks: &Masks) -> Self {
-        Engine { clues: *clues, masks: *masks }
+    fn start(board: &Board) -> Self {
+        Engine(*board)
     }
 
+    fn call(&mut self, call: Call) -> Result<Outcome, Stop> {
+        let before = self.0;
+        let answer = match call {
+            Call::Step(number) => self.step(number),
+            Call::Enter(cell, digit) => crate::enter(cell, digit, &mut self.0).map(|()| plain::silent(&self.0.masks)),
+            Call::RubOut(cell) => crate::rub_out(cell, &mut self.0).map(|()| plain::silent(&self.0.masks)),
+        };
+        if answer.is_err() && self.0 != before {
+            return Err(BROKEN);
+        }
+        answer
+    }
+
+    fn board(&self) -> Board {
+        self.0
+    }
+}
+
+impl Engine {
     fn step(&mut self, number: u8) -> Result<Outcome, Stop> {
-        let before = self.masks;
         let mut bytes = [LENT_BYTE; 648];
-        let answer = crate::step(number, &self.clues, &mut self.masks, &mut bytes);
-        let (value, second) = match answer {
-            Err(_) if self.masks != before || bytes != [LENT_BYTE; 648] => return Err(BROKEN),
+        let (value, second) = match crate::step(number, &mut self.0, &mut bytes) {
+            Err(_) if bytes != [LENT_BYTE; 648] => return Err(BROKEN),
             Err(stop) => return Err(stop),
             Ok(values) => values,
         };
@@ -120,13 +222,27 @@ impl Side for Engine {
             return Err(BROKEN);
         }
         let (sweeps, removed) = if counts { (value as usize, second as usize) } else { (0, 0) };
-        Ok(Outcome { flag: !counts && value == 1, reports, sweeps, removed, masks: self.masks })
+        Ok(Outcome { flag: !counts && value == 1, reports, sweeps, removed, masks: self.0.masks })
+    }
+}
+
+impl Accessors for Engine {
+    fn ask(board: &Board, cell: u32) -> Asked {
+        let (mut puzzle, mut sets) = LENT;
+        let answers = (crate::original_puzzle(board, &mut puzzle), crate::get_candidates(board, &mut sets));
+        Asked {
+            clue_count: crate::clue_count(board),
+            verdict: crate::verdict(board),
+            cell_mask: crate::cell_mask(board, cell),
+            original_puzzle: (answers.0, puzzle),
+            get_candidates: (answers.1, sets),
+        }
     }
 }
 
 impl Records for Engine {
-    fn write(clues: &Clues, masks: &Masks, lent: &mut [u8]) -> Result<i64, Stop> {
-        crate::write_record(clues, masks, lent)
+    fn write(board: &Board, lent: &mut [u8]) -> Result<i64, Stop> {
+        crate::write_record(board, lent)
     }
 
     fn read(record: &[u8], clues: &mut Clues, masks: &mut Masks) -> Result<i64, Stop> {

@@ -33,7 +33,7 @@ pub fn text_case(random: &mut Random) -> Case {
 
 /// What is written into lent bytes of each length: the answer, every lent byte and those behind; and reading it gives the clues.
 pub fn written_differs(writer: &Writer, case: &Case) -> Option<String> {
-    let (clues, _) = case.board();
+    let clues = case.board().clues;
     LENGTHS.into_iter().find_map(|length| {
         let (mut ours, mut theirs) = (vec![LENT_BYTE; length + BEHIND], vec![LENT_BYTE; length + BEHIND]);
         let answer = (writer.first)(&clues, &mut ours[..length]);

@@ -1,20 +1,17 @@
 //! The comparison has teeth: each misreading of document 01 or 02 below is found within some thousand cases, and made small.
 
-use sudoku_host::cases::{differ, ported_case, Case};
+use sudoku_host::cases::{accessors_differ, damaged_case, differ, ported_case, ported_with_entries, Case};
 use sudoku_host::plain::{self, bit, block, col, row, see, unit, Outcome};
 use sudoku_host::random::Random;
 use sudoku_host::record_cases::{board_case, damaged, read_differs, record, written_differs, Record};
 use sudoku_host::sheet_cases::{sheet, sheet_differs};
 use sudoku_host::shrink::shrunk;
-use sudoku_host::sides::{Engine, Original, Plain, Records, Side, CHAIN};
+use sudoku_host::sides::{Accessors, Asked, Call, Engine, Original, Plain, Records, Side, CHAIN};
 use sudoku_host::text_cases::Input;
-use sudoku_host::{Clues, Masks, Stop};
+use sudoku_host::{counted, Board, Clues, Masks, Stop};
 
-/// The plain implementation with one step misread.
-struct Misread<const WHICH: usize> {
-    clues: Clues,
-    masks: Masks,
-}
+/// The plain implementation with one step misread, on boards without entries.
+struct Misread<const WHICH: usize>(Board);
 
 type Pass = fn(&Clues, &mut Masks);
 
@@ -22,30 +19,29 @@ const MISREADINGS: [(u8, Pass); 5] =
     [(2, columns_after_all_boxes), (2, one_holder), (3, list_renewed), (1, tested_at_the_units_start), (CHAIN, strong_links_first)];
 
 impl<const WHICH: usize> Side for Misread<WHICH> {
-    fn start(clues: &Clues, masks: &Masks) -> Self {
-        Misread { clues: *clues, masks: *masks }
+    fn start(board: &Board) -> Self {
+        Misread(*board)
     }
 
-    fn step(&mut self, number: u8) -> Result<Outcome, Stop> {
-        let mut outcome = plain::step(number, &self.clues, &self.masks)?;
+    fn call(&mut self, call: Call) -> Result<Outcome, Stop> {
+        let Call::Step(number) = call else { unreachable!("{call:?} among ported calls") };
+        let mut outcome = plain::step(number, &self.0)?;
         match MISREADINGS.get(WHICH) {
             Some(&(step, pass)) if step == number => {
-                outcome.masks = self.masks;
-                pass(&self.clues, &mut outcome.masks);
-                outcome.flag = outcome.masks != self.masks;
+                outcome.masks = self.0.masks;
+                pass(&self.0.clues, &mut outcome.masks);
+                outcome.flag = outcome.masks != self.0.masks;
             }
             None if WHICH == 5 && number == 5 => repeats_dropped(&mut outcome),
-            None if WHICH == 6 && number == 6 => self.removals_carried(&mut outcome),
+            None if WHICH == 6 && number == 6 => outcome.masks = plain::step(1, &self.0)?.masks,
             _ => {}
         }
-        self.masks = outcome.masks;
+        self.0.masks = outcome.masks;
         Ok(outcome)
     }
-}
 
-impl<const WHICH: usize> Misread<WHICH> {
-    fn removals_carried(&self, outcome: &mut Outcome) {
-        outcome.masks = plain::step(1, &self.clues, &self.masks).unwrap().masks;
+    fn board(&self) -> Board {
+        self.0
     }
 }
 
@@ -154,13 +150,18 @@ fn enter(clues: &Clues, masks: &mut Masks, digit: i32, path: &mut Vec<usize>, ce
     false
 }
 
-/// A case of a seeded run on which the misreading shows, made small: one call, and few clues.
-fn found<const WHICH: usize>(step: u8) {
-    let fault = |case: &Case| differ::<Original, Misread<WHICH>>(case);
-    let case = (0..20_000).map(|at| ported_case(&mut Random::of_case(7, at))).find(|case| fault(case).is_some());
-    let (smallest, shows) = shrunk(case.expect("the misreading is found"), &fault);
+/// A case of a seeded run on which the misreading shows, made small.
+fn smallest_case(cases: fn(&mut Random) -> Case, fault: &dyn Fn(&Case) -> Option<String>) -> Case {
+    let case = (0..20_000).map(|at| cases(&mut Random::of_case(7, at))).find(|case| fault(case).is_some());
+    let (smallest, shows) = shrunk(case.expect("the misreading is found"), fault);
     println!("{smallest}{shows}");
-    assert_eq!(smallest.steps, [step]);
+    smallest
+}
+
+/// One call, and few clues.
+fn found<const WHICH: usize>(step: u8) {
+    let smallest = smallest_case(ported_case, &differ::<Original, Misread<WHICH>>);
+    assert_eq!(smallest.calls, [Call::Step(step)]);
 }
 
 #[test]
@@ -198,6 +199,136 @@ fn pair_removals_carried_through_apply_advanced_techniques() {
     found::<6>(6);
 }
 
+// ---- entries
+
+/// The plain implementation with one sentence about entries misread.
+struct MisreadEntries<const WHICH: usize>(Board);
+
+const EIGHT_AFTER_NINE: usize = 0;
+const EIGHT_BEFORE_THREE: usize = 1;
+const ON_A_CLUE: usize = 2;
+const STEPS_WITHOUT: usize = 3;
+const REMOVALS_KEPT: usize = 4;
+const TWELVE_BEFORE_FOUR: usize = 5;
+
+impl<const WHICH: usize> Side for MisreadEntries<WHICH> {
+    fn start(board: &Board) -> Self {
+        MisreadEntries(*board)
+    }
+
+    fn call(&mut self, call: Call) -> Result<Outcome, Stop> {
+        let mut side = Plain::start(&self.0);
+        let answer = side.call(call);
+        match (WHICH, answer, call) {
+            (EIGHT_AFTER_NINE, Err(Stop { number: 8, detail }), _) => Err(wrong_mask(&self.0).unwrap_or(Stop { number: 8, detail })),
+            (EIGHT_BEFORE_THREE, Err(Stop { number: 3, detail }), _) => Err(wrong_entry(&self.0).unwrap_or(Stop { number: 3, detail })),
+            (ON_A_CLUE, Err(Stop { number: 8, .. }), _) => self.with_entries_dropped(|clue, entry| clue != 0 && (1..=9).contains(&entry), call),
+            (STEPS_WITHOUT, _, Call::Step(_)) => self.with_entries_dropped(|_, _| true, call),
+            (TWELVE_BEFORE_FOUR, Err(Stop { number: 4, .. }), Call::Enter(cell, _)) if self.0.clues[cell as usize] != 0 => {
+                Err(Stop { number: 12, detail: cell.into() })
+            }
+            (REMOVALS_KEPT, Ok(_), Call::Enter(..)) => {
+                let before = self.0.masks;
+                self.0 = side.board();
+                (0..81).filter(|&cell| self.0.entries[cell] == 0).for_each(|cell| self.0.masks[cell] &= before[cell]);
+                Ok(plain::silent(&self.0.masks))
+            }
+            (_, answer, _) => {
+                self.0 = side.board();
+                answer
+            }
+        }
+    }
+
+    fn board(&self) -> Board {
+        self.0
+    }
+}
+
+impl<const WHICH: usize> MisreadEntries<WHICH> {
+    /// The call on a board that lacks these entries, which are there again after it.
+    fn with_entries_dropped(&mut self, dropped: fn(i32, i32) -> bool, call: Call) -> Result<Outcome, Stop> {
+        let mut side = Plain::start(&without(&self.0, dropped));
+        let answer = side.call(call);
+        self.0.masks = side.board().masks;
+        answer
+    }
+}
+
+fn without(board: &Board, dropped: fn(i32, i32) -> bool) -> Board {
+    let entries = std::array::from_fn(|cell| if dropped(board.clues[cell], board.entries[cell]) { 0 } else { board.entries[cell] });
+    Board { entries, ..*board }
+}
+
+fn is_wrong(clue: i32, entry: i32) -> bool {
+    entry != 0 && (clue != 0 || !(1..=9).contains(&entry))
+}
+
+fn wrong_entry(board: &Board) -> Option<Stop> {
+    let cell = (0..81).find(|&cell| is_wrong(board.clues[cell], board.entries[cell]))?;
+    Some(Stop { number: 8, detail: cell as i64 })
+}
+
+/// What stop 9 says without the wrong entries.
+fn wrong_mask(board: &Board) -> Option<Stop> {
+    plain::check(&without(board, is_wrong))
+}
+
+fn found_with_entries<A: Side, const WHICH: usize>(cases: fn(&mut Random) -> Case) -> Case {
+    smallest_case(cases, &differ::<A, MisreadEntries<WHICH>>)
+}
+
+#[test]
+fn wrong_entry_after_a_wrong_mask() {
+    let smallest = found_with_entries::<Engine, EIGHT_AFTER_NINE>(damaged_case);
+    assert_eq!((smallest.entered.len(), smallest.masks.len() + smallest.numbers.len()), (1, 1));
+}
+
+#[test]
+fn wrong_entry_before_a_wrong_clue() {
+    let smallest = found_with_entries::<Engine, EIGHT_BEFORE_THREE>(damaged_case);
+    assert_eq!(smallest.numbers.len(), 1);
+}
+
+#[test]
+fn entry_on_a_clue_admitted() {
+    let board = found_with_entries::<Engine, ON_A_CLUE>(damaged_case).board();
+    assert_eq!((counted(&board.clues), counted(&board.entries)), (1, 1));
+}
+
+#[test]
+fn steps_that_pass_over_entries() {
+    let smallest = found_with_entries::<Original, STEPS_WITHOUT>(ported_with_entries);
+    assert_eq!(smallest.calls.iter().filter(|call| !call.is_entry_call()).count(), 1);
+}
+
+#[test]
+fn entering_that_keeps_removals() {
+    let smallest = found_with_entries::<Original, REMOVALS_KEPT>(ported_with_entries);
+    assert!(matches!(smallest.calls[..], [Call::Enter(..)] | [Call::Step(_), Call::Enter(..)]));
+}
+
+#[test]
+fn clue_cell_refused_before_the_digit() {
+    let smallest = found_with_entries::<Engine, TWELVE_BEFORE_FOUR>(ported_with_entries);
+    assert_eq!((counted(&smallest.clues), smallest.calls.len()), (1, 1));
+}
+
+struct CountsEntries;
+
+impl Accessors for CountsEntries {
+    fn ask(board: &Board, cell: u32) -> Asked {
+        let asked = Plain::ask(board, cell);
+        Asked { clue_count: asked.clue_count.map(|count| count + counted(&board.entries)), ..asked }
+    }
+}
+
+#[test]
+fn clue_count_with_entries() {
+    let smallest = smallest_case(ported_with_entries, &accessors_differ::<Engine, CountsEntries>);
+    assert_eq!((counted(&smallest.clues), counted(&smallest.entries)), (0, 1));
+}
+
 // ---- the record
 
 /// The plain record with one sentence misread.
@@ -206,10 +337,17 @@ struct MisreadRecord<const WHICH: usize>;
 const HIGH_FIRST: usize = 0;
 const FRESH_FIRST: usize = 1;
 const HALF_ENTRIES: usize = 2;
+const FROM_JOINT_MASKS: usize = 3;
 
 impl<const WHICH: usize> Records for MisreadRecord<WHICH> {
-    fn write(clues: &Clues, masks: &Masks, lent: &mut [u8]) -> Result<i64, Stop> {
-        let written = Plain::write(clues, masks, lent)?;
+    fn write(board: &Board, lent: &mut [u8]) -> Result<i64, Stop> {
+        if WHICH == FROM_JOINT_MASKS && plain::check(board).is_none() {
+            // what the fresh masks of clues and entries lack counts as kept
+            let (own, joint) = (plain::fresh(&board.clues), plain::afresh(&board.clues, &board.entries).masks);
+            let masks = std::array::from_fn(|cell| (board.masks[cell] | !joint[cell]) & own[cell]);
+            return Plain::write(&Board::without_entries(&board.clues, &masks), lent);
+        }
+        let written = Plain::write(board, lent)?;
         if WHICH == HIGH_FIRST {
             let count = removed_count(lent);
             lent[count..count + 2].reverse();
@@ -263,11 +401,14 @@ fn found_in_bytes<const WHICH: usize>() -> Record {
 
 #[test]
 fn record_count_high_byte_first() {
-    let fault = |case: &Case| written_differs::<Engine, MisreadRecord<HIGH_FIRST>>(case);
-    let case = (0..20_000).map(|at| board_case(&mut Random::of_case(7, at))).find(|case| fault(case).is_some());
-    let (smallest, shows) = shrunk(case.expect("the misreading is found"), &fault);
-    println!("{smallest}{shows}");
+    let smallest = smallest_case(board_case, &written_differs::<Engine, MisreadRecord<HIGH_FIRST>>);
     assert_eq!(record(&smallest).0[..3], [0, 1, 0]);
+}
+
+#[test]
+fn record_measured_from_clues_and_entries_together() {
+    let smallest = smallest_case(board_case, &written_differs::<Engine, MisreadRecord<FROM_JOINT_MASKS>>);
+    assert_eq!((counted(&smallest.clues), counted(&smallest.board().entries)), (0, 1));
 }
 
 #[test]

@@ -1,17 +1,30 @@
-//! The published cases P1 to P11, the card and the stops of document 01, on the plain implementation; texts written, sheets, records,
-//! cards and trial rounds on the engine too.
+//! The published cases P1 to P11, the card and the stops of document 01, on the plain implementation; texts written, sheets, entries,
+//! records, cards and trial rounds on the engine too.
 
 use sudoku_host::grids::{completed, of_text, GRID_A};
-use sudoku_host::plain::{self, fresh, step};
+use sudoku_host::plain::{self, fresh, Outcome};
 use sudoku_host::random::Random;
 use sudoku_host::sheet_cases::{ruled, Style, BOXED};
-use sudoku_host::sides::{Engine, Original, Plain, Records, Side};
-use sudoku_host::{Clues, Masks, Stop};
+use sudoku_host::sides::{Accessors, Call, Engine, Original, Plain, Records, Side};
+use sudoku_host::{Board, Clues, Masks, Stop, ABI, NO_ENTRIES};
 
 const OPEN: Clues = [0; 81];
 
 fn stop<T>(number: i64, detail: i64) -> Result<T, Stop> {
     Err(Stop { number, detail })
+}
+
+/// A step on a board without entries.
+fn step(number: u8, clues: &Clues, masks: &Masks) -> Result<Outcome, Stop> {
+    stepped_by::<Plain>(number, clues, masks)
+}
+
+fn stepped_by<S: Side>(number: u8, clues: &Clues, masks: &Masks) -> Result<Outcome, Stop> {
+    S::start(&Board::without_entries(clues, masks)).call(Call::Step(number))
+}
+
+fn fresh_board(clues: &Clues) -> Board {
+    plain::afresh(clues, &NO_ENTRIES)
 }
 
 fn with(rows: &[(usize, &str)]) -> Clues {
@@ -32,6 +45,11 @@ fn p10() -> Clues {
 
 fn removed(before: &Masks, after: &Masks) -> u32 {
     before.iter().zip(after).map(|(before, after)| before.count_ones() - after.count_ones()).sum()
+}
+
+#[test]
+fn signatures() {
+    assert_eq!(sudoku_host::abi(), ABI);
 }
 
 #[test]
@@ -143,10 +161,10 @@ fn claiming() {
     }
     let mut claimed = masks;
     [9, 10, 11, 18, 19, 20].iter().for_each(|&cell| claimed[cell] = 504);
-    for outcome in [step(14, &clues, &masks), Engine::start(&clues, &masks).step(14)] {
+    for outcome in [step(14, &clues, &masks), stepped_by::<Engine>(14, &clues, &masks)] {
         assert_eq!(outcome.map(|outcome| (outcome.flag, outcome.masks)), Ok((true, claimed)));
     }
-    for settled in [step(12, &clues, &masks), Engine::start(&clues, &masks).step(12)] {
+    for settled in [step(12, &clues, &masks), stepped_by::<Engine>(12, &clues, &masks)] {
         assert_eq!(settled.map(|settled| (settled.sweeps, settled.removed, settled.masks)), Ok((2, 18, claimed)));
     }
 }
@@ -161,7 +179,6 @@ fn p11_conflicting_clues() {
     assert_eq!(settled.masks[2..9], [0; 7]);
 }
 
-/// docs/DIFFERENCES.md: the chain pass, in the Rust too, removes a digit that a correct filling takes.
 /// Document 02, F-4: 81 clues are finished only where they pass the verifier.
 #[test]
 fn full_grids() {
@@ -169,11 +186,12 @@ fn full_grids() {
     let mut exchanged = right;
     exchanged.swap(0, 1);
     for (clues, verdict) in [(right, "finished"), (exchanged, "dead")] {
-        assert_eq!(plain::verdict(&clues, &fresh(&clues)), Ok(verdict));
-        assert_eq!(sudoku_host::verdict(&clues, &fresh(&clues)), Ok(verdict));
+        assert_eq!(plain::verdict(&fresh_board(&clues)), Ok(verdict));
+        assert_eq!(sudoku_host::verdict(&fresh_board(&clues)), Ok(verdict));
     }
 }
 
+/// docs/DIFFERENCES.md: the chain pass, in the Rust too, removes a digit that a correct filling takes.
 #[test]
 fn the_chain_pass_can_cost_a_filling() {
     let mut clues = OPEN;
@@ -181,7 +199,7 @@ fn the_chain_pass_can_cost_a_filling() {
     let masks = fresh(&clues);
     let ours = step(13, &clues, &masks).unwrap();
     assert_eq!(masks[28] & !ours.masks[28], plain::bit(1));
-    assert_eq!(Original::start(&clues, &masks).step(13), Ok(ours));
+    assert_eq!(stepped_by::<Original>(13, &clues, &masks), Ok(ours));
     clues[28] = 1;
     let filling = completed(&mut Random::new(1), &clues).unwrap();
     assert!(sudoku_host::verify(&filling));
@@ -196,10 +214,9 @@ fn a_board_is_checked() {
     assert_eq!(step(1, &clues, &masks), stop(9, 0));
     masks[0] = 1;
     assert_eq!(step(1, &clues, &masks), stop(9, 5));
-    assert_eq!(plain::verdict(&clues, &masks), stop(9, 5));
-    masks = fresh(&clues);
-    assert_eq!(plain::one_mask(&clues, &masks, 81), stop(5, 81));
-    assert_eq!(plain::one_mask(&clues, &masks, 0), Ok(3));
+    assert_eq!(plain::verdict(&Board::without_entries(&clues, &masks)), stop(9, 5));
+    assert_eq!(plain::one_mask(&fresh_board(&clues), 81), stop(5, 81));
+    assert_eq!(plain::one_mask(&fresh_board(&clues), 0), Ok(3));
 }
 
 #[test]
@@ -275,6 +292,202 @@ fn sheets_written() {
     assert_eq!(sheet(canonical.as_bytes()), Ok(p10()));
 }
 
+// ---- entries (document 02, F-6), on both sides
+
+/// The board that a call leaves, or its stop, beside which the board is as it was.
+fn called(board: &Board, call: Call) -> Result<Board, Stop> {
+    let answer = called_by::<Plain>(board, call);
+    assert_eq!(called_by::<Engine>(board, call), answer, "{call:?}");
+    answer
+}
+
+fn called_by<S: Side>(board: &Board, call: Call) -> Result<Board, Stop> {
+    let mut side = S::start(board);
+    let answer = side.call(call);
+    assert!(answer.is_ok() || side.board() == *board, "{call:?}");
+    answer.map(|_| side.board())
+}
+
+fn played(board: &Board, calls: &[Call]) -> Board {
+    calls.iter().fold(*board, |board, &call| called(&board, call).unwrap())
+}
+
+fn p5() -> Clues {
+    let mut clues = of_text(GRID_A);
+    clues[0] = 0;
+    clues
+}
+
+/// Document 02, F-7: the same clues and masks as the fresh board, and another board.
+#[test]
+fn p5_with_its_cell_entered() {
+    let fresh = fresh_board(&p5());
+    let entered = played(&fresh, &[Call::Enter(0, 1)]);
+    assert_eq!((entered.clues, entered.masks, entered.entries[0]), (fresh.clues, fresh.masks, 1));
+    assert_eq!(entered.entries[1..], [0; 80]);
+    assert_ne!(entered, fresh);
+    assert_eq!(played(&entered, &[Call::RubOut(0)]), fresh);
+    // the cell is not open any more: nothing is reported
+    for number in [4, 5, 6] {
+        for outcome in [Plain::start(&entered).call(Call::Step(number)), Engine::start(&entered).call(Call::Step(number))] {
+            assert_eq!(outcome.map(|outcome| outcome.reports), Ok(Vec::new()), "step {number}");
+        }
+    }
+    for asked in [Plain::ask(&entered, 0), Engine::ask(&entered, 0)] {
+        assert_eq!((asked.clue_count, asked.verdict, asked.cell_mask), (Ok(80), Ok("finished"), Ok(1)));
+        assert_eq!((asked.original_puzzle, asked.get_candidates), ((Ok(()), p5()), (Ok(()), fresh.masks)));
+    }
+    // another digit than the one that fits is taken too, and then the full grid does not pass the verifier
+    let wrong = played(&fresh, &[Call::Enter(0, 2)]);
+    assert_eq!((wrong.masks[0], wrong.masks[1..].to_vec()), (2, fresh.masks[1..].to_vec()));
+    assert_eq!((plain::verdict(&wrong), sudoku_host::verdict(&wrong)), (Ok("dead"), Ok("dead")));
+}
+
+/// P11 with its second clue entered: the same masks, fresh and settled; and with both entered.
+#[test]
+fn an_entry_that_contradicts_a_clue() {
+    let (mut one, mut two) = (OPEN, OPEN);
+    one[0] = 5;
+    (two[0], two[1]) = (5, 5);
+    for (clues, calls) in [(one, &[Call::Enter(1, 5)][..]), (OPEN, &[Call::Enter(1, 5), Call::Enter(0, 5)])] {
+        let entered = played(&fresh_board(&clues), calls);
+        assert_eq!((entered.clues, entered.masks), (clues, fresh(&two)));
+        let settled = played(&entered, &[Call::Step(12)]);
+        assert_eq!((settled.masks, settled.entries), (step(12, &two, &fresh(&two)).unwrap().masks, entered.entries));
+        assert_eq!(settled.masks[2..9], [0; 7]);
+    }
+}
+
+/// P10's removals are gone again with the entering and with the rubbing out.
+#[test]
+fn entering_a_pass_and_rubbing_out() {
+    let fresh = fresh_board(&p10());
+    let removed_from = |board: &Board| removed(&board.masks, &played(board, &[Call::Step(2)]).masks);
+    let entered = played(&fresh, &[Call::Step(2), Call::Enter(3, 1)]);
+    let mut joint = p10();
+    joint[3] = 1;
+    assert_eq!((entered.clues, entered.masks), (p10(), plain::fresh(&joint)));
+    assert_eq!((removed_from(&fresh), removed_from(&entered) > 0), (18, true));
+    let after = played(&entered, &[Call::Step(2)]);
+    assert_eq!((after.masks[3], after.entries), (1, entered.entries));
+    assert_eq!(played(&after, &[Call::RubOut(3)]), fresh);
+}
+
+#[test]
+fn lists_that_leave_the_same_entries() {
+    let fresh = fresh_board(&p8());
+    let one = played(&fresh, &[Call::Enter(0, 1), Call::Enter(40, 9), Call::RubOut(0), Call::Enter(80, 9)]);
+    let two = played(&fresh, &[Call::Enter(80, 1), Call::RubOut(80), Call::Enter(80, 9), Call::Enter(40, 9)]);
+    assert_eq!(one, two);
+    assert_eq!(one, plain::afresh(&p8(), &one.entries));
+}
+
+/// Each call has the board's stops, whatever else is wrong.
+fn board_stopped(board: &Board, number: i64, detail: i64) {
+    for call in [Call::Step(0), Call::Step(12), Call::Step(13), Call::Enter(81, 0), Call::Enter(40, 1), Call::RubOut(81), Call::RubOut(40)] {
+        assert_eq!(called(board, call), stop(number, detail));
+    }
+    for asked in [Plain::ask(board, 81), Engine::ask(board, 81)] {
+        assert_eq!((asked.clue_count, asked.verdict, asked.cell_mask), (stop(number, detail), stop(number, detail), stop(number, detail)));
+        assert_eq!((asked.original_puzzle, asked.get_candidates), ((stop(number, detail), [7; 81]), (stop(number, detail), [7; 81])));
+    }
+    for write in [Plain::write, Engine::write] {
+        let mut bytes = [7; 2];
+        assert_eq!((write(board, &mut bytes), bytes), (stop(number, detail), [7; 2]));
+    }
+}
+
+/// 3, then 8 with the first cell of either kind, then 9.
+#[test]
+fn boards_with_a_wrong_entry() {
+    let mut board = fresh_board(&p10());
+    board.masks[5] = 512;
+    board_stopped(&board, 9, 5);
+    board.entries[20] = 9; // the clue's own digit
+    board_stopped(&board, 8, 20);
+    for number in [10, -1, i32::MIN, i32::MAX, 256 + 1] {
+        board.entries[70] = number;
+        board_stopped(&board, 8, 20);
+        board.entries[19] = number;
+        board_stopped(&board, 8, 19);
+        board.entries[0] = number;
+        board_stopped(&board, 8, 0);
+        (board.entries[0], board.entries[19]) = (0, 0);
+    }
+    board.clues[80] = 10;
+    board_stopped(&board, 3, 80);
+    board.clues[40] = -1;
+    board_stopped(&board, 3, 40);
+}
+
+/// "stop 9 treat entries as clues": the entry's cell has its digit alone, and its peers have it not.
+#[test]
+fn boards_with_a_mask_that_an_entry_forbids() {
+    let mut board = played(&fresh_board(&OPEN), &[Call::Enter(40, 7)]);
+    board.masks[44] |= 64;
+    board_stopped(&board, 9, 44);
+    board.masks[40] = 0;
+    board_stopped(&board, 9, 40);
+    board.masks[40] = 511;
+    board_stopped(&board, 9, 40);
+    board = fresh_board(&OPEN);
+    board.entries[40] = 7;
+    board_stopped(&board, 9, 4);
+}
+
+/// "the order is 5, 4 (entering only), 12, 13"
+#[test]
+fn entries_refused() {
+    let board = played(&fresh_board(&p10()), &[Call::Enter(40, 7), Call::Step(12)]);
+    for (cell, digit, number, detail) in [
+        (81, 10, 5, 81),
+        (u32::MAX, 0, 5, 4_294_967_295),
+        (256 + 40, 1, 5, 296),
+        (9, 10, 4, 10),
+        (40, 0, 4, 0),
+        (0, i32::MIN, 4, -2_147_483_648),
+        (0, -1, 4, -1),
+        (9, 4, 12, 9),
+        (20, 1, 12, 20),
+        (40, 7, 13, 40),
+        (40, 1, 13, 40),
+    ] {
+        assert_eq!(called(&board, Call::Enter(cell, digit)), stop(number, detail));
+    }
+    for (cell, number, detail) in [(81, 5, 81), (u32::MAX, 5, 4_294_967_295), (9, 12, 9), (0, 13, 0), (80, 13, 80)] {
+        assert_eq!(called(&board, Call::RubOut(cell)), stop(number, detail));
+    }
+    assert_eq!(played(&board, &[Call::RubOut(40)]), fresh_board(&p10()));
+}
+
+/// "the printed clues and what their own fresh masks have and the board lacks"; read again, a board without entries.
+#[test]
+fn records_of_boards_with_entries() {
+    let entered = played(&fresh_board(&OPEN), &[Call::Enter(0, 1)]);
+    let peers = (1..9).chain([9, 10, 11, 18, 19, 20]).chain((27..81).step_by(9)).flat_map(|cell| [cell, 1]);
+    let removed: Vec<u8> = (2..=9).flat_map(|digit| [0, digit]).chain(peers).collect();
+    recorded(&entered, &[&[0, 28, 0][..], &removed].concat(), &entered.masks);
+    // 5 beside a 5: the clue's own fresh mask has no 5 there, so that the record has it neither way
+    let mut clues = OPEN;
+    clues[0] = 5;
+    let mut board = played(&fresh_board(&clues), &[Call::Enter(1, 5)]);
+    let (fresh, column) = (board, (28..81).step_by(9).flat_map(|cell| [cell, 5]));
+    let removed: Vec<u8> = [1, 2, 3, 4, 6, 7, 8, 9].into_iter().flat_map(|digit| [1, digit]).chain(column).collect();
+    board.masks[1] = 0;
+    recorded(&fresh, &[&[1, 0, 5, 14, 0][..], &removed].concat(), &board.masks);
+}
+
+fn recorded(board: &Board, record: &[u8], masks: &Masks) {
+    for (write, read) in [(Plain::write as fn(&Board, &mut [u8]) -> _, Plain::read as fn(&[u8], &mut Clues, &mut Masks) -> _), (Engine::write, Engine::read)] {
+        let mut lent = vec![7; record.len() + 1];
+        assert_eq!((write(board, &mut lent), &lent[..record.len()]), (Ok(record.len() as i64), record));
+        assert_eq!(write(board, &mut lent[1..record.len()]), stop(6, record.len() as i64 - 1));
+        let mut returned = ([7; 81], [7; 81]);
+        assert_eq!(read(record, &mut returned.0, &mut returned.1), Ok(record[0] as i64));
+        assert_eq!(returned, (board.clues, *masks));
+    }
+}
+
 // ---- records, on both sides
 
 /// The board's record, and the board of the record; one byte too few is stop 6.
@@ -285,14 +498,15 @@ fn written(clues: &Clues, masks: &Masks, record: &[u8]) {
 
 fn written_by<S: Records>(clues: &Clues, masks: &Masks, record: &[u8]) {
     let mut lent = vec![7; record.len() + 2];
-    assert_eq!(S::write(clues, masks, &mut lent), Ok(record.len() as i64));
+    let board = Board::without_entries(clues, masks);
+    assert_eq!(S::write(&board, &mut lent), Ok(record.len() as i64));
     assert_eq!(lent, [record, &[7, 7]].concat());
     let mut few = vec![7; record.len() - 1];
-    assert_eq!(S::write(clues, masks, &mut few), stop(6, few.len() as i64));
+    assert_eq!(S::write(&board, &mut few), stop(6, few.len() as i64));
     assert!(few.iter().all(|&byte| byte == 7));
-    let mut board = ([7; 81], [7; 81]);
-    assert_eq!(S::read(record, &mut board.0, &mut board.1), Ok(record[0] as i64));
-    assert_eq!(board, (*clues, *masks));
+    let mut read = ([7; 81], [7; 81]);
+    assert_eq!(S::read(record, &mut read.0, &mut read.1), Ok(record[0] as i64));
+    assert_eq!(read, (*clues, *masks));
 }
 
 fn refused(record: &[u8], number: i64, detail: i64) {
@@ -330,7 +544,7 @@ fn records_not_written() {
     let refused = |clues: &Clues, masks: &Masks, lent: usize, number: i64, detail: i64| {
         for write in [Plain::write, Engine::write] {
             let mut bytes = vec![7; lent];
-            assert_eq!(write(clues, masks, &mut bytes), stop(number, detail));
+            assert_eq!(write(&Board::without_entries(clues, masks), &mut bytes), stop(number, detail));
             assert!(bytes.iter().all(|&byte| byte == 7));
         }
     };

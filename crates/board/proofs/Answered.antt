@@ -1,36 +1,28 @@
 -- What a call hands back once its board is checked. Assumes nothing.
-use mathlib.Core.Path.{_≡_, refl, sym, ap, _∙_}
-use mathlib.Core.Bool.{Bool, true, false, cond, not}
+use mathlib.Core.Path.{_≡_, sym, ap, _∙_}
+use mathlib.Core.Bool.{true, false, cond}
 use mathlib.Core.List.{List, [], _∷_}
 use Prim.Native.Nat.{ℕ, suc, _+_, _-_, _<_, _≤_}
 use native.Mathlib.Omega.{arith}
 use borrow.Author.Tests.{lt-ltb, le-ltb}
-use lib.Dec.{eqb, ltb}
+use lib.Dec.{ltb}
 use lib.ListN.{length}
 use Rattle.stops.specs.Answer.{Answer, gives, stop, passing}
-use Rattle.stops.specs.declared.Stop.the-variants.{BadClue, BadMask, NoCell}
-use Rattle.candidates.specs.Masks.{lowNine, count}
-use Rattle.candidates.proofs.Order.{sub-le}
+use Rattle.stops.specs.declared.Stop.the-variants.{NoCell}
 use Rattle.candidates.proofs.Tests.{by-test, cond-true, cond-false}
-use Rattle.grid.specs.Cells.{cells}
 use Rattle.grid.specs.Fillings.{verified}
-use Rattle.grid.specs.Lists.{range, all}
+use Rattle.grid.specs.Lists.{range}
 use Rattle.grid.proofs.Lists.{range-on, range-end}
 use Rattle.steps.specs.Boards as S
-use Rattle.steps.specs.Boards.{at, givensOf, isOpen, freshAt}
-use Rattle.steps.specs.Calls.{badMask, firstBadClue, checkOf, Call, outcome, answer}
-use Rattle.steps.specs.Loops.{first}
-use Rattle.steps.proofs.Check.{clues-givens, fitting, stops-none}
-use Rattle.steps.proofs.Fresh.{freshAt-small}
-use Rattle.steps.proofs.Searches.{none-cells}
+use Rattle.steps.specs.Boards.{at, givens, isOpen}
+use Rattle.steps.specs.Calls.{checkOf, Call, outcome, answer}
 use Rattle.board.specs.Boards.{clueCount, cellMask, noneEmpty, allSingle, onlyDigits, verdictOf}
 use Rattle.board.specs.declared.Verdict.the-variants.{Finished, Open, Dead}
-use Rattle.grid.proofs.Cells.{all-cells}
 
 -- ---- what a call answers, by what the check answered
-pub answers : (k : Call) (b : S.Board) {a : Answer (Unit {0})} → a ≡ checkOf b → passing a (outcome k (givensOf (b .clues)) (b .masks)) ≡ answer k b
+pub answers : (k : Call) (b : S.Board) {a : Answer (Unit {0})} → a ≡ checkOf b → passing a (outcome k (givens b) (b .masks)) ≡ answer k b
 unfolding answer
-answers k b e = ap (λ (a : Answer (Unit {0})). passing a (outcome k (givensOf (b .clues)) (b .masks))) e
+answers k b e = ap (λ (a : Answer (Unit {0})). passing a (outcome k (givens b) (b .masks))) e
 
 -- ---- clues counted
 

@@ -1,24 +1,23 @@
--- The check of a handed board as the code makes it: a mask beside the fresh one, and the first cells of stops 3 and 9. Assumes nothing.
+-- The check of a handed board as the code makes it: a mask beside the fresh one, and the first cells of stops 3, 8 and 9. Assumes nothing.
 use mathlib.Core.Path.{_≡_, sym, ap, _∙_}
 use mathlib.Core.Bool.{true, false, not, and-true, and-false, or-true}
 use mathlib.Core.List.{List}
-use mathlib.Core.Option.{Option, none}
+use mathlib.Core.Option.{Option}
 use Prim.Native.Nat.{ℕ}
 use borrow.Author.Tests.{eq-eqb, ne-eqb}
 use lib.Dec.{eqb}
 use lib.IntN.{ℤ, pos}
 use lib.ListN.{getD}
-use Rattle.stops.specs.Answer.{Answer, gives, stop, stopAt, then, passing}
-use Rattle.stops.specs.declared.Stop.the-variants.{BadClue, BadMask}
+use Rattle.stops.specs.Answer.{gives, stopAt, then, passing}
+use Rattle.stops.specs.declared.Stop.the-variants.{BadClue, BadEntry, BadMask}
 use Rattle.candidates.specs.Masks.{minus}
 use Rattle.candidates.proofs.Order.{sub-refl, minus-of-sub}
 use Rattle.grid.specs.Cells.{cells}
-use Rattle.steps.specs.Boards.{at, givensOf, given, fresh}
-use Rattle.steps.specs.Calls.{badClue, badMask, firstBadClue, checkOf, opened}
-use Rattle.steps.specs.Calls.{Clues}
+use Rattle.steps.specs.Boards.{Board, at, givens, given, fresh}
+use Rattle.steps.specs.Calls.{Clues, badClue, badMask, firstBadClue, firstBadEntry, checkOf, opened}
 use Rattle.steps.specs.Loops.{first}
 use Rattle.steps.proofs.Fresh.{fresh-at}
-use Rattle.board.specs.Boards.{handed, openOf}
+use Rattle.board.specs.Boards.{openOf}
 use Rattle.board.specs.code.Checks.{misfitOf, firstMisfit}
 use Rattle.steps.proofs.Searches.{first-cells, cells-none}
 
@@ -34,19 +33,19 @@ module _ (x f d : ℕ) where
   pub clue-misfit : (d ≡ 0 → ⊥) → (x ≡ f → ⊥) → true ≡ misfitOf x f d
   clue-misfit n m = rw (ne-eqb d 0 n, ne-eqb x f m) (sym (ap not (and-false (eqb (minus x f) 0))))
 
--- ---- the two searches
+-- ---- the searches
 
-pub checks : (clues : List ℤ) (masks : List ℕ) {g f : List ℕ} → g ≡ givensOf clues → f ≡ fresh g
-    → then (stopAt BadClue (firstBadClue clues)) (λ _. stopAt BadMask (firstMisfit g f masks)) ≡ checkOf (handed clues masks)
+pub checks : (b : Board) {g f : List ℕ} → g ≡ givens b → f ≡ fresh g
+    → then (stopAt BadClue (firstBadClue (b .clues))) (λ _. then (stopAt BadEntry (firstBadEntry (b .clues) (b .entries))) (λ _. stopAt BadMask (firstMisfit g f (b .masks)))) ≡ checkOf b
 unfolding checkOf
-checks clues masks {g} {f} p q =
-    ap (λ (x : Option ℕ). then (stopAt BadClue (firstBadClue clues)) (λ _. stopAt BadMask x))
-    (ap (λ (f : List ℕ). firstMisfit g f masks) q ∙ same g ∙ ap (λ (g : List ℕ). first (badMask g masks) cells) p)
+checks b {g} {f} p q =
+    ap (λ (x : Option ℕ). then (stopAt BadClue (firstBadClue (b .clues))) (λ _. then (stopAt BadEntry (firstBadEntry (b .clues) (b .entries))) (λ _. stopAt BadMask x)))
+    (ap (λ (f : List ℕ). firstMisfit g f (b .masks)) q ∙ same g ∙ ap (λ (g : List ℕ). first (badMask g (b .masks)) cells) p)
   where
-    same : (g : List ℕ) → firstMisfit g (fresh g) masks ≡ first (badMask g masks) cells
+    same : (g : List ℕ) → firstMisfit g (fresh g) (b .masks) ≡ first (badMask g (b .masks)) cells
     same g =
-        first-cells (λ c. misfitOf (at masks c) (at (fresh g) c) (given g c)) (badMask g masks)
-        (λ c h. ap (λ (f : ℕ). misfitOf (at masks c) f (given g c)) (fresh-at g c h))
+        first-cells (λ c. misfitOf (at (b .masks) c) (at (fresh g) c) (given g c)) (badMask g (b .masks))
+        (λ c h. ap (λ (f : ℕ). misfitOf (at (b .masks) c) f (given g c)) (fresh-at g c h))
 
 -- ---- the opener
 

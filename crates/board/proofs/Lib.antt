@@ -2,4 +2,5 @@ pub mod Signs
 pub mod Taken
 pub mod Checks
 pub mod Answered
+pub mod Entering
 pub mod VerdictSays

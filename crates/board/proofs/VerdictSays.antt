@@ -1,16 +1,16 @@
--- What a verdict says, wherever the correct fillings in the masks are those that keep the clues. Assumes nothing.
+-- What a verdict says, wherever the correct fillings in the masks are those that count. Assumes nothing.
 use mathlib.Core.Path.{_≡_, refl, sym, ap, _∙_, subst}
 use mathlib.Core.Logic.{_≢_, _⊎_, _↔_, inl, inr, ⊎-elim}
 use mathlib.Core.Bool.{Bool, true, false, cond, not, true≢false}
 use mathlib.Core.List.{List}
-use Prim.Native.Nat.{ℕ, suc, _+_, _<_}
+use Prim.Native.Nat.{ℕ, suc, _<_}
 use native.Mathlib.Omega.{arith}
 use borrow.Author.Tests.{eqb-true, ne-eqb}
 use lib.Dec.{eqb}
 use lib.IntN.{ℤ, pos}
-use lib.ListN.{length, getD}
+use lib.ListN.{length}
 use lib.Seq.{ext-getD}
-use Rattle.candidates.specs.Masks.{has, lowNine, count, lowest}
+use Rattle.candidates.specs.Masks.{has, lowNine, count}
 use Rattle.candidates.specs.Sets.{place, onlyAnswer, onlyOf, digitOr0}
 use Rattle.candidates.specs.declared.SingleCandidate.{SingleCandidate}
 use Rattle.candidates.proofs.Counts.{count-zero}
@@ -20,11 +20,10 @@ use Rattle.candidates.proofs.Only.{Only, one-digit, single-tells}
 use Rattle.candidates.proofs.Places.{place-pos}
 use Rattle.grid.specs.Cells.{cells}
 use Rattle.grid.specs.Fillings.{numberAt, Correct, verified}
-use Rattle.grid.specs.Lists.{all}
 use Rattle.grid.proofs.Cells.{at-cells, cells-size}
 use Rattle.grid.proofs.Fillings.{number-of, place-lt, verified-correct, correct-verified}
 use Rattle.steps.specs.Boards.{at}
-use Rattle.steps.specs.Fillings.{KeepsClues, InMasks}
+use Rattle.steps.specs.Fillings.{InMasks}
 use Rattle.grid.proofs.Lists.{all-member, member-all, range-mem, mem-range}
 use Rattle.board.specs.Boards.{allSingle, noneEmpty, onlyDigits, verdictOf}
 use Rattle.board.specs.Verdicts.{OneSolution, VerdictSays}
@@ -106,14 +105,14 @@ module _ (m : List ℕ) where
           let held = nine-has (at m c) d (place-lt (right .digits c h)) ∙ inside .held c h in
           none-held d (subst (λ (x : ℕ). has x d ≡ true) (count-zero (lowNine (at m c)) e) held)
 
-  pub verdict-says : (clues : List ℤ) → ((f : List ℤ) → length f ≡ 81 → verified f ≡ true → InMasks m f ↔ KeepsClues clues f) → VerdictSays clues m
+  pub verdict-says : (kept : List ℤ → Type 0) → ((f : List ℤ) → length f ≡ 81 → verified f ≡ true → InMasks m f ↔ kept f) → VerdictSays kept m
   unfolding verdictOf
-  verdict-says clues fillings = record { finished = finished; dead = dead }
+  verdict-says kept fillings = record { finished = finished; dead = dead }
     where
-      inside : (f : List ℤ) → Correct f → KeepsClues clues f → InMasks m f
+      inside : (f : List ℤ) → Correct f → kept f → InMasks m f
       inside f right k = fillings f (right .size) (correct-verified f right) .1 k
 
-      finished : verdictOf m ≡ Finished → OneSolution clues (onlyDigits m)
+      finished : verdictOf m ≡ Finished → OneSolution kept (onlyDigits m)
       finished e =
           let w = finished-by (noneEmpty m) (allSingle m) (verified (onlyDigits m)) e in
           record {
@@ -122,7 +121,7 @@ module _ (m : List ℕ) where
             only = λ f right k. digits-only (w .0) f right (inside f right k);
           }
 
-      dead : verdictOf m ≡ Dead → (f : List ℤ) → Correct f → ¬ (KeepsClues clues f)
+      dead : verdictOf m ≡ Dead → (f : List ℤ) → Correct f → ¬ (kept f)
       dead e f right k =
           ⊎-elim (λ n. true≢false (sym (none-is-empty f right (inside f right k)) ∙ n))
           (λ n. true≢false (sym (correct-verified f right) ∙ ap verified (digits-only (n .0) f right (inside f right k)) ∙ n .1))

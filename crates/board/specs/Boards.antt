@@ -13,7 +13,7 @@ use Rattle.grid.specs.Cells.{cells}
 use Rattle.grid.specs.Fillings.{verified}
 use Rattle.grid.specs.Lists.{all}
 use Rattle.steps.specs.Boards as S
-use Rattle.steps.specs.Boards.{at, isOpen}
+use Rattle.steps.specs.Boards.{at, isOpen, noEntries}
 use Rattle.steps.specs.Calls.{firstBadClue, opened}
 use Rattle.board.specs.declared.Board.{Board}
 use Rattle.board.specs.declared.Verdict.{Verdict}
@@ -21,11 +21,11 @@ use Rattle.board.specs.declared.Verdict.the-variants.{Dead, Finished, Op
 
 -- the board of the definitions that a board of the code is
 abbrev pub boardOf : Board → S.Board
-boardOf b = record { clues = b .clues; masks = b .masks }
+boardOf b = record { clues = b .clues; entries = b .entries; masks = b .masks }
 
--- the board that is handed over as its two arrays
-abbrev pub handed : List ℤ → List ℕ → S.Board
-handed clues masks = record { clues = clues; masks = masks }
+-- the board that is handed over as its three arrays
+abbrev pub handed : List ℤ → List ℤ → List ℕ → S.Board
+handed clues entries masks = record { clues = clues; entries = entries; masks = masks }
 
 -- what stands beside a refusal where no board was handed in
 abbrev pub noClues : List ℤ
@@ -35,13 +35,13 @@ abbrev pub noMasks : List ℕ
 noMasks = replicate 81 0
 
 abbrev pub noBoard : S.Board
-noBoard = handed noClues noMasks
+noBoard = handed noClues noEntries noMasks
 
 -- the opener: "first clue outside 0 to 9", else clues and fresh masks
 unfoldable pub openOf : List ℤ → Answer S.Board
 openOf clues = passing (stopAt BadClue (firstBadClue clues)) (opened clues)
 
--- how many cells have a clue
+-- how many cells have a clue: "`clue_count` and `original_puzzle` give the printed clues alone" (document 02, F-6)
 unfoldable pub clueCount : List ℕ → List ℕ → ℕ
 clueCount g [] = 0
 clueCount g (c ∷ cs) = cond (isOpen g c) (clueCount g cs) (suc (clueCount g cs))

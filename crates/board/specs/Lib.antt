@@ -1,4 +1,5 @@
 pub mod Boards
+pub mod Entering
 pub mod Verdicts
 pub mod Answers
 pub mod code

@@ -9,7 +9,7 @@ use stops::Check;
 use stops::Stop;
 
 // Whether a number is outside 0 to 9.
-fn is_bad(clue: i32) -> bool
+pub fn is_bad(clue: i32) -> bool
     ensures { λ r. ⌜ r ≡ badClue clue ⌝ }
 {
     if clue < 0 {

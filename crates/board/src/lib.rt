@@ -1,12 +1,12 @@
-// The board: 81 clues and 81 masks, opened, checked and judged (modules 2 and 13).
+// The board: 81 clues, 81 entries and 81 masks, opened, checked and judged (modules 2 and 13).
 // A call that is handed a board checks it first, and hands on the check's stop.
 
 ghost use mathlib.Core.Path.{_≡_};
 ghost use Rattle.stops.specs.Answer.{checkAnswer, passing, stopAt, then, valueOr};
-ghost use Rattle.stops.specs.declared.Stop.the-variants.{BadClue, BadMask};
+ghost use Rattle.stops.specs.declared.Stop.the-variants.{BadClue, BadEntry, BadMask};
 ghost use Rattle.grid.specs.Cells.{cells};
 ghost use Rattle.steps.specs.Boards.{givensOf};
-ghost use Rattle.steps.specs.Calls.{answer, checkOf, firstBadClue, left, updateCandidates};
+ghost use Rattle.steps.specs.Calls.{answer, checkOf, firstBadClue, firstBadEntry, left, updateCandidates};
 ghost use Rattle.board.specs.Answers.{cellMaskAnswer, countingAnswer, verdictAnswer};
 ghost use Rattle.board.specs.Boards.{boardOf, cellMask, clueCount, handed, noBoard, noClues, noMasks, openOf, verdictOf};
 ghost use Rattle.board.specs.code.Checks.{firstMisfit, misfitOf};
@@ -15,12 +15,14 @@ use stops::Check;
 use stops::Stop;
 
 pub mod clues;
+pub mod entries;
 pub mod fresh;
 pub mod verdicts;
 
-// A board. A clue is 0 where its cell is open; a mask holds the cell's candidates.
+// A board. A clue is 0 where its cell is open, an entry where it has none; a mask holds the cell's candidates.
 pub struct Board {
     pub clues: [i32; 81],
+    pub entries: [i32; 81],
     pub masks: [u16; 81],
 }
 
@@ -106,20 +108,30 @@ fn check_masks(givens: &[u8; 81], fresh: &[u16; 81], masks: &[u16; 81]) -> Check
     Check::Passed
 }
 
-// The check beside the givens and the fresh masks of the clues.
-fn check_beside(clues: &[i32; 81], givens: &[u8; 81], fresh: &[u16; 81], masks: &[u16; 81]) -> Check
-    ensures { λ r. ⌜ checkAnswer r ≡ then (stopAt BadClue (firstBadClue (now (clues .entry)))) (λ _. stopAt BadMask (firstMisfit (now (givens .entry)) (now (fresh .entry)) (now (masks .entry)))) ⌝ }
+// The check beside the givens and the fresh masks of clues and entries.
+fn check_beside(
+    clues: &[i32; 81],
+    entries: &[i32; 81],
+    givens: &[u8; 81],
+    fresh: &[u16; 81],
+    masks: &[u16; 81],
+) -> Check
+    ensures { λ r. ⌜ checkAnswer r ≡ then (stopAt BadClue (firstBadClue (now (clues .entry)))) (λ _. then (stopAt BadEntry (firstBadEntry (now (clues .entry)) (now (entries .entry)))) (λ _. stopAt BadMask (firstMisfit (now (givens .entry)) (now (fresh .entry)) (now (masks .entry))))) ⌝ }
 {
-    stops::then(clues::check_clues(clues), check_masks(givens, fresh, masks))
+    let later = stops::then(
+        entries::check_entries(clues, entries),
+        check_masks(givens, fresh, masks),
+    );
+    stops::then(clues::check_clues(clues), later)
 }
 
-// The check of a handed board: stop 3, then stop 9, each with its first cell.
-pub fn check(clues: &[i32; 81], masks: &[u16; 81]) -> Check
-    ensures { λ r. ⌜ checkAnswer r ≡ checkOf (handed (now (clues .entry)) (now (masks .entry))) ⌝ }
+// The check of a handed board: stop 3, then stop 8, then stop 9, each with its first cell.
+pub fn check(clues: &[i32; 81], entries: &[i32; 81], masks: &[u16; 81]) -> Check
+    ensures { λ r. ⌜ checkAnswer r ≡ checkOf (handed (now (clues .entry)) (now (entries .entry)) (now (masks .entry))) ⌝ }
 {
-    let givens = clues::givens_of(clues);
+    let givens = entries::givens_of(clues, entries);
     let fresh = fresh::fresh_masks(&givens);
-    check_beside(clues, &givens, &fresh, masks)
+    check_beside(clues, entries, &givens, &fresh, masks)
 }
 
 // How many cells have a clue.
@@ -154,11 +166,12 @@ impl Board {
     {
         Self {
             clues: [0; 81],
+            entries: [0; 81],
             masks: [0; 81],
         }
     }
 
-    // Clues and fresh masks. Clues that contradict each other are accepted.
+    // Clues, no entries and fresh masks. Clues that contradict each other are accepted.
     pub fn new(clues: [i32; 81]) -> Opened
         ensures { λ r. ⌜ (passing (checkAnswer (r .answer)) (boardOf (r .board)) ≡ openOf clues) × (boardOf (r .board) ≡ valueOr noBoard (openOf clues)) ⌝ }
     {
@@ -169,10 +182,9 @@ impl Board {
                 board: Board::zeros(),
             };
         };
-        let masks = fresh::fresh_masks(&clues::givens_of(&clues));
         Opened {
             answer,
-            board: Board { clues, masks },
+            board: entries::fresh_board(clues, [0; 81]),
         }
     }
 
@@ -181,31 +193,39 @@ impl Board {
         ensures { λ r. ⌜ (checkAnswer (r .answer) ≡ checkOf (boardOf self)) × (boardOf (r .board) ≡ left (boardOf self) (answer updateCandidates (boardOf self))) ⌝ }
     {
         let clues = self.clues;
+        let entries = self.entries;
         let masks = self.masks;
-        let givens = clues::givens_of(&clues);
+        let givens = entries::givens_of(&clues, &entries);
         let fresh = fresh::fresh_masks(&givens);
-        let answer = check_beside(&clues, &givens, &fresh, &masks);
+        let answer = check_beside(&clues, &entries, &givens, &fresh, &masks);
         let Check::Passed = answer else {
             return Updated {
                 answer,
-                board: Board { clues, masks },
+                board: Board {
+                    clues,
+                    entries,
+                    masks,
+                },
             };
         };
         Updated {
             answer,
             board: Board {
                 clues,
+                entries,
                 masks: fresh,
             },
         }
     }
 
+    // The printed clues alone.
     pub fn original_puzzle(self) -> Puzzle
         ensures { λ r. ⌜ (checkAnswer (r .answer) ≡ checkOf (boardOf self)) × (r .clues ≡ valueOr noClues (passing (checkOf (boardOf self)) (self .clues))) ⌝ }
     {
         let clues = self.clues;
+        let entries = self.entries;
         let masks = self.masks;
-        let answer = check(&clues, &masks);
+        let answer = check(&clues, &entries, &masks);
         let Check::Passed = answer else {
             return Puzzle {
                 answer,
@@ -219,8 +239,9 @@ impl Board {
         ensures { λ r. ⌜ (checkAnswer (r .answer) ≡ checkOf (boardOf self)) × (r .masks ≡ valueOr noMasks (passing (checkOf (boardOf self)) (self .masks))) ⌝ }
     {
         let clues = self.clues;
+        let entries = self.entries;
         let masks = self.masks;
-        let answer = check(&clues, &masks);
+        let answer = check(&clues, &entries, &masks);
         let Check::Passed = answer else {
             return Candidates {
                 answer,
@@ -230,12 +251,14 @@ impl Board {
         Candidates { answer, masks }
     }
 
+    // How many clues are printed.
     pub fn clue_count(self) -> Counting
         ensures { λ r. ⌜ countingAnswer r ≡ passing (checkOf (boardOf self)) (clueCount (givensOf (self .clues)) cells) ⌝ }
     {
         let clues = self.clues;
+        let entries = self.entries;
         let masks = self.masks;
-        match check(&clues, &masks) {
+        match check(&clues, &entries, &masks) {
             Check::Refused(stop) => Counting::Refused(stop),
             Check::Passed => Counting::Clues(count_clues(&clues)),
         }
@@ -246,8 +269,9 @@ impl Board {
         ensures { λ r. ⌜ cellMaskAnswer r ≡ then (checkOf (boardOf self)) (λ _. cellMask (self .masks) cell) ⌝ }
     {
         let clues = self.clues;
+        let entries = self.entries;
         let masks = self.masks;
-        match check(&clues, &masks) {
+        match check(&clues, &entries, &masks) {
             Check::Refused(stop) => CellMask::Refused(stop),
             Check::Passed => mask_of(&masks, cell),
         }
@@ -257,8 +281,9 @@ impl Board {
         ensures { λ r. ⌜ verdictAnswer r ≡ passing (checkOf (boardOf self)) (verdictOf (self .masks)) ⌝ }
     {
         let clues = self.clues;
+        let entries = self.entries;
         let masks = self.masks;
-        match check(&clues, &masks) {
+        match check(&clues, &entries, &masks) {
             Check::Refused(stop) => BoardVerdict::Refused(stop),
             Check::Passed => BoardVerdict::Is(verdicts::verdict_of(&masks)),
         }

@@ -1,4 +1,4 @@
-// The readers, the opener, the board's calls and the writers at their edges. A line for each call, `NAME A B STOP DETAIL`: A and B
+// The readers, the opener, the board's calls, entering and rubbing out, and the writers at their edges. A line for each call, `NAME A B STOP DETAIL`: A and B
 // say on what, and STOP is 0 where the call is not refused, with its number or a checksum of its result beside it.
 // tools/board_check.py makes the file `stdout` from the paper's words, and knows nothing of this crate.
 use board::Board;
@@ -7,6 +7,8 @@ use board::CellMask;
 use board::Counting;
 use board::Verdict;
 use board::clues;
+use board::entries;
+use board::entries::Pencilled;
 use printing::fold;
 use printing::mask_sum;
 use printing::number;
@@ -185,6 +187,14 @@ fn with_clue(grid: [i32; 81], cell: usize, clue: i32) -> [i32; 81] {
     put
 }
 
+fn handed(clues: [i32; 81], entries: [i32; 81], masks: [u16; 81]) -> Board {
+    Board {
+        clues,
+        entries,
+        masks,
+    }
+}
+
 // The fresh board of the clues, with one mask changed.
 fn with_mask(grid: [i32; 81], cell: usize, mask: u16) -> Board {
     let opened = Board::new(grid);
@@ -192,7 +202,7 @@ fn with_mask(grid: [i32; 81], cell: usize, mask: u16) -> Board {
     if cell < 81 {
         masks[cell] = mask;
     }
-    Board { clues: grid, masks }
+    handed(grid, [0; 81], masks)
 }
 
 fn texts() {
@@ -310,17 +320,79 @@ fn masks_at(at: u32) {
 fn orders() {
     let masks = [511; 81];
     let one = with_clue(with_clue([0; 81], 1, 1), 80, 10);
-    calls(6, 0, Board { clues: one, masks });
+    let none = [0; 81];
+    calls(6, 0, handed(one, none, masks));
     let two = with_clue(one, 0, -1);
-    calls(7, 0, Board { clues: two, masks });
-    calls(
-        8,
-        0,
-        Board {
-            clues: with_clue([0; 81], 80, 1),
-            masks,
-        },
-    );
+    calls(7, 0, handed(two, none, masks));
+    calls(8, 0, handed(with_clue(none, 80, 1), none, masks));
+}
+
+// An entry of each number in a cell that is open, and in one with a clue.
+fn entry_numbers() {
+    let beside = with_clue(with_clue([0; 81], 1, 1), 79, 1);
+    let mut i: usize = 0;
+    while i < 7 {
+        let first = with_clue([0; 81], 0, NUMBERS[i]);
+        calls(20 + i as u64, 0, entries::fresh_board(beside, first));
+        let last = with_clue([0; 81], 79, NUMBERS[i]);
+        calls(20 + i as u64, 79, entries::fresh_board(beside, last));
+        i += 1;
+    }
+}
+
+// Two bad entries, a bad entry before a bad clue, one after a bad mask, masks that lack nothing of an entry, and those of its cell alone.
+fn entry_orders() {
+    let clue = with_clue([0; 81], 1, 1);
+    let entry = with_clue([0; 81], 0, 2);
+    let two = with_clue(with_clue([0; 81], 1, 2), 80, 10);
+    calls(30, 0, handed(clue, two, [511; 81]));
+    calls(31, 0, handed(with_clue(clue, 80, -1), two, [511; 81]));
+    let opened = Board::new(clue);
+    let fresh = opened.board.masks;
+    calls(32, 0, handed(clue, entry, fresh));
+    let mut alone = fresh;
+    alone[0] = 2;
+    calls(33, 0, handed(clue, entry, alone));
+}
+
+// The board after a call that enters or rubs out, refused or not.
+fn pencilled(name: &[u8], a: u64, cell: u32, done: Pencilled) {
+    let b = cell as u64;
+    let answer = done.answer;
+    let entries = done.board.entries;
+    let masks = done.board.masks;
+    checked(name, a, b, answer, mask_sum(&masks));
+    line(b"entries", a, b, clue_sum(&entries));
+    line(b"left", a, b, mask_sum(&masks));
+}
+
+fn entered(board: Board, cell: u32) {
+    let mut i: usize = 0;
+    while i < 7 {
+        let done = entries::enter(board, cell, NUMBERS[i]);
+        pencilled(b"enter", i as u64, cell, done);
+        i += 1;
+    }
+    pencilled(b"rub_out", 0, cell, entries::rub_out(board, cell));
+}
+
+// A clue in cell 0, an entry in cell 80 and a candidate removed in cell 40: each number entered in each of these, in a cell that sees the
+// clue and in no cell. Then the same with a mask that is refused.
+fn pencil() {
+    let clue = with_clue([0; 81], 0, 1);
+    let entry = with_clue([0; 81], 80, 2);
+    let opened = entries::fresh_board(clue, entry);
+    let mut masks = opened.masks;
+    masks[40] = 510;
+    let board = handed(clue, entry, masks);
+    entered(board, 0);
+    entered(board, 1);
+    entered(board, 40);
+    entered(board, 80);
+    entered(board, 81);
+    entered(board, 4294967295);
+    masks[40] = 512;
+    entered(handed(clue, entry, masks), 81);
 }
 
 fn good(a: u64, bytes: &[u8]) {
@@ -344,6 +416,9 @@ fn main() {
     masks_at(0);
     masks_at(80);
     orders();
+    entry_numbers();
+    entry_orders();
+    pencil();
     good(
         9,
         b"123456789456789123789123456231564897564897231897231564312645978645978312978312645",

@@ -9,10 +9,9 @@ use Rattle.stops.specs.Answer as answers
 use Rattle.stops.specs.Answer.{Answer, gives, stop, valueOr, passing, progressAnswer}
 use Rattle.stops.proofs.Answers.{map-map}
 use Rattle.steps.specs.Boards as S
-use Rattle.steps.specs.Boards.{givensOf}
+use Rattle.steps.specs.Boards.{givens}
 use Rattle.steps.specs.Calls.{Call, updateCandidates, nakedPairsCall, boxLineCall, xWingCall, nakedSinglesCall, hiddenSinglesCall, advancedCall, wide, settlingCall, chainCall, Outcome, checkOf, outcome, answer, left}
 use Rattle.steps.specs.Passes.{Kind}
-use Rattle.steps.specs.Singles.{Report}
 use Rattle.board.specs.Boards.{boardOf}
 use Rattle.techniques.specs.Reports.{reportsOf}
 use Rattle.techniques.specs.Techniques.{Finds}
@@ -42,11 +41,11 @@ module _ (b : S.Board) where
 
 -- two parts that are the same of the outcome
 module _ {A : Type 0} (f g : Outcome → A) (k : Call) (b : S.Board) where
-  same-part : f (outcome k (givensOf (b .clues)) (b .masks)) ≡ g (outcome k (givensOf (b .clues)) (b .masks)) → answers.map f (answer k b) ≡ answers.map g (answer k b)
+  same-part : f (outcome k (givens b) (b .masks)) ≡ g (outcome k (givens b) (b .masks)) → answers.map f (answer k b) ≡ answers.map g (answer k b)
   unfolding answer
   same-part e = go (checkOf b)
     where
-      go : (a : Answer (Unit {0})) → answers.map f (passing a (outcome k (givensOf (b .clues)) (b .masks))) ≡ answers.map g (passing a (outcome k (givensOf (b .clues)) (b .masks)))
+      go : (a : Answer (Unit {0})) → answers.map f (passing a (outcome k (givens b) (b .masks))) ≡ answers.map g (passing a (outcome k (givens b) (b .masks)))
       go (gives u) = ap gives e
       go (stop s) = refl
 
@@ -56,7 +55,7 @@ module _ {A : Type 0} (z : A) (part : Outcome → A) (k : Call) (b : S.Board) wh
   constant (gives o) = refl
   constant (stop s) = refl
 
-  unspoken : part (outcome k (givensOf (b .clues)) (b .masks)) ≡ z → z ≡ outcomeOr z part (some (answer k b))
+  unspoken : part (outcome k (givens b) (b .masks)) ≡ z → z ≡ outcomeOr z part (some (answer k b))
   unspoken said = sym (ap (valueOr z) (same-part part (λ (o : Outcome). z) k b said) ∙ constant (answer k b))
 
 -- a call that counts nothing, and one that reports nothing either
@@ -67,13 +66,13 @@ abbrev pub Quiet : Call → Type 0
 Quiet k = (g m : List ℕ) → (outcome k g m .sweeps ≡ 0) × (outcome k g m .removed ≡ 0) × (outcome k g m .reports ≡ [])
 
 module _ (k : Call) (b : S.Board) where
-  no-sweeps : outcome k (givensOf (b .clues)) (b .masks) .sweeps ≡ 0 → 0 ≡ outcomeOr 0 (λ (o : Outcome). o .sweeps) (some (answer k b))
+  no-sweeps : outcome k (givens b) (b .masks) .sweeps ≡ 0 → 0 ≡ outcomeOr 0 (λ (o : Outcome). o .sweeps) (some (answer k b))
   no-sweeps = unspoken 0 (λ (o : Outcome). o .sweeps) k b
 
-  none-removed : outcome k (givensOf (b .clues)) (b .masks) .removed ≡ 0 → 0 ≡ outcomeOr 0 (λ (o : Outcome). o .removed) (some (answer k b))
+  none-removed : outcome k (givens b) (b .masks) .removed ≡ 0 → 0 ≡ outcomeOr 0 (λ (o : Outcome). o .removed) (some (answer k b))
   none-removed = unspoken 0 (λ (o : Outcome). o .removed) k b
 
-  no-reports : outcome k (givensOf (b .clues)) (b .masks) .reports ≡ [] → [] ≡ outcomeOr [] (λ (o : Outcome). o .reports) (some (answer k b))
+  no-reports : outcome k (givens b) (b .masks) .reports ≡ [] → [] ≡ outcomeOr [] (λ (o : Outcome). o .reports) (some (answer k b))
   no-reports = unspoken [] (λ (o : Outcome). o .reports) k b
 
 -- ---- what a step hands back, from what its call ensures; o is the step's answer
@@ -82,7 +81,7 @@ module _ (k : Call) (b : S.Board) {o : Option (Answer Outcome)} (is : some (answ
   -- its flag and its board are told, and it says nothing else
   pub quiet-hands : Quiet k → {f : Answer Bool} {c : S.Board} → f ≡ answers.map (λ (o : Outcome). o .flag) (answer k b) → c ≡ left b (answer k b) → Hands r (some f) c (reportsOf []) 0 0 → HandsBack r b o
   quiet-hands q flag board h =
-      let w = q (givensOf (b .clues)) (b .masks) in
+      let w = q (givens b) (b .masks) in
       subst (HandsBack r b) is
       record {
         flag = h .flag ∙ ap some flag;
@@ -97,7 +96,7 @@ module _ (k : Call) (b : S.Board) {o : Option (Answer Outcome)} (is : some (answ
 
   pub reports-hands : Uncounted k → (d : Reported) → Finds k b d → Hands r (some (progressAnswer (d .answer))) (boardOf (d .board)) (d .reports) 0 0 → HandsBack r b o
   reports-hands q d e h =
-      let w = q (givensOf (b .clues)) (b .masks) in
+      let w = q (givens b) (b .masks) in
       subst (HandsBack r b) is
       record {
         flag = h .flag ∙ ap some (e .flag);
@@ -128,7 +127,7 @@ settling-hands b is {r} d e h =
 -- `update_candidates` has no flag
 pub update-flag : (b : S.Board) {a : Answer (Unit {0})} → a ≡ checkOf b → passing a false ≡ answers.map (λ (o : Outcome). o .flag) (answer updateCandidates b)
 unfolding answer outcome
-update-flag b e = ap (λ (a : Answer (Unit {0})). passing a false) e ∙ sym (map-map (λ (o : Outcome). o .flag) (λ _. outcome updateCandidates (givensOf (b .clues)) (b .masks)) (checkOf b))
+update-flag b e = ap (λ (a : Answer (Unit {0})). passing a false) e ∙ sym (map-map (λ (o : Outcome). o .flag) (λ _. outcome updateCandidates (givens b) (b .masks)) (checkOf b))
 
 -- ---- the calls that report nothing or count nothing
 

@@ -1,23 +1,26 @@
 -- Demand 3 of what the calls hand back, from the theorem about lists of calls and about settling (steps/proofs/Lists). Assumes nothing.
 use mathlib.Core.Path.{_≡_, refl, sym, ap, _∙_, subst}
 use mathlib.Core.Bool.{Bool, true}
+use mathlib.Core.List as lists
 use mathlib.Core.List.{List, [], _∷_, _++_}
 use mathlib.Core.Option.{none}
 use Prim.Native.Nat.{ℕ, _+_}
 use lib.IntN.{ℤ}
-use Rattle.stops.specs.Answer.{Answer, gives, passing, valueOr, map, progressAnswer}
+use Rattle.stops.specs.Answer.{Answer, gives, stop, passing, valueOr, map, progressAnswer}
 use Rattle.stops.specs.declared.Progress.{Progress}
 use Rattle.stops.specs.declared.Progress.the-variants as progress
 use Rattle.steps.specs.Boards as S
-use Rattle.steps.specs.Boards.{givensOf, total}
-use Rattle.steps.specs.Calls.{Call, withoutChain, wide, settlingCall, checkOf, Admitted, Outcome, outcome, answer, left, opened, run}
-use Rattle.steps.proofs.ListTheorem as steps
-use Rattle.steps.specs.Calls.{Clues}
-use Rattle.steps.specs.Fillings.{InMasks}
+use Rattle.steps.specs.Boards.{noEntries, total}
+use Rattle.steps.specs.Calls.{Clues, Entries, Call, withoutChain, wide, settlingCall, checkOf, Admitted, Outcome, outcome, answer, left, opened, openedWith, run}
+use Rattle.steps.specs.Entries.{EntryCall, entryAnswer, Deed, step, entry, deed, play, callsIn}
 use Rattle.steps.specs.Passes.{Kind, sweep, settle, removedBy}
-use Rattle.steps.proofs.Lists as steps-proofs
+use Rattle.steps.proofs.Entries.{no-entries, entry-leaves}
+use Rattle.steps.proofs.ListTheorem as steps
+use Rattle.steps.proofs.Lists.{play-run, calls-alone, list-theorem}
 use Rattle.board.specs.Boards.{boardOf, noBoard, openOf}
+use Rattle.board.specs.Entering.{Enters}
 use Rattle.board.specs.declared.Board.{Board}
+use Rattle.board.specs.declared.entries.Pencilled.{Pencilled}
 use Rattle.board.proofs.Checks.{clues-open}
 use Rattle.eliminations.specs.Eliminations.{Eliminates}
 use Rattle.eliminations.specs.declared.Eliminated.{Eliminated}
@@ -26,8 +29,8 @@ use Rattle.passes.specs.Settlings.{settlingAnswer, countsOf, Settles}
 use Rattle.passes.specs.declared.SettledBoard.{SettledBoard}
 use Rattle.passes.specs.declared.Settling as code
 use Rattle.passes.specs.declared.Settling.the-variants as by
-use Rattle.calls.specs.Demand3.{After, StepsWithoutChain, IsSettled, Ends, PassDone, SettlingDone, Demand3}
-use Rattle.calls.specs.Replays.{Run, ran, reached, firstNoStep, callsOf, replayOf, replayingAnswer, Replays}
+use Rattle.calls.specs.Demand3.{After, StepsWithoutChain, givensIn, IsSettled, OneEnd, FillingsStay, Afresh, PassDone, SettlingDone, Demand3}
+use Rattle.calls.specs.Replays.{ran, reached, firstNoStep, callsOf, replayOf, replayingAnswer, Replays}
 use Rattle.calls.specs.declared.Replayed.{Replayed}
 use Rattle.calls.specs.declared.Replaying.{Replaying}
 use Rattle.calls.specs.declared.Replaying.the-variants as replaying
@@ -51,51 +54,83 @@ counted (by.Refused s) k e = cc
 
 -- ---- the boards after a list
 
-run-snoc : (ks : List Call) (k : Call) (b : S.Board) → run (ks ++ k ∷ []) b ≡ left (run ks b) (answer k (run ks b))
-unfolding run
-run-snoc [] k b = refl
-run-snoc (l ∷ ks) k b = run-snoc ks k (left b (answer l b))
+play-snoc : (xs : List Deed) (x : Deed) (b : S.Board) → play (xs ++ x ∷ []) b ≡ deed x (play xs b)
+unfolding play
+play-snoc [] x b = refl
+play-snoc (y ∷ xs) x b = play-snoc xs x (deed y b)
 
-opens : (clues : List ℤ) → Clues clues → (b : Board) → boardOf b ≡ valueOr noBoard (openOf clues) → After clues [] b
-unfolding run
+-- boards that are the same by definition are the same
+same : (B C : Board) → boardOf B ≡ boardOf C → B ≡ C
+same B C e = λ i. record { clues = e i .clues; entries = e i .entries; masks = e i .masks }
+
+opens : (clues : List ℤ) → Clues clues → (b : Board) → boardOf b ≡ valueOr noBoard (openOf clues) → After clues noEntries [] b
+unfolding play
 opens clues ok b e = e ∙ ap (valueOr noBoard) (clues-open clues ok)
 
-calls : (clues : List ℤ) (ks : List Call) (b : Board) → After clues ks b → (k : Call) (c : Board) → boardOf c ≡ left (boardOf b) (answer k (boardOf b)) → After clues (ks ++ k ∷ []) c
-calls clues ks b at k c e = e ∙ ap (λ (b : S.Board). left b (answer k b)) at ∙ sym (run-snoc ks k (opened clues))
+calls : (clues entries : List ℤ) (xs : List Deed) (b : Board) → After clues entries xs b → (k : Call) (c : Board) → boardOf c ≡ left (boardOf b) (answer k (boardOf b)) → After clues entries (xs ++ step k ∷ []) c
+unfolding deed
+calls clues entries xs b at k c e = e ∙ ap (λ (b : S.Board). left b (answer k b)) at ∙ sym (play-snoc xs (step k) (openedWith clues entries))
+
+enters : (clues entries : List ℤ) (xs : List Deed) (b : Board) → After clues entries xs b → (k : EntryCall) (r : Pencilled) → Enters k (boardOf b) r → After clues entries (xs ++ entry k ∷ []) (r .board)
+unfolding deed
+enters clues entries xs b at k r e = e .board ∙ ap (λ (b : S.Board). valueOr b (entryAnswer k b)) at ∙ sym (play-snoc xs (entry k) (openedWith clues entries))
 
 replays : (clues : List ℤ) → Clues clues → (ns : List ℕ) → firstNoStep ns ≡ none → (r : Replayed) → Replays clues ns r
-    → (r .answer ≡ replaying.Done) × After clues (callsOf ns) (r .board)
+    → (r .answer ≡ replaying.Done) × After clues noEntries (lists.map step (callsOf ns)) (r .board)
 replays clues ok ns steps r e =
     let is : replayOf clues ns ≡ gives (ran (run (callsOf ns) (opened clues))) = sym (run-replayed clues ns (sym (clues-open clues ok)) (sym steps)) in
-    (done (r .answer) (boardOf (r .board)) _ (e .answer ∙ is), e .board ∙ ap reached is)
+    (done (r .answer) (boardOf (r .board)) _ (e .answer ∙ is), e .board ∙ ap reached is ∙ sym (play-run (callsOf ns) (opened clues)))
 
-taken : (clues : List ℤ) → Clues clues → (ks : List Call) (b : Board) → After clues ks b → checkOf (boardOf b) ≡ gives tt
-taken clues ok ks b at = ap checkOf at ∙ steps-proofs.list-theorem .taken clues ok ks
+step-clues : (b : S.Board) (a : Answer Outcome) → left b a .clues ≡ b .clues
+step-clues b (gives o) = refl
+step-clues b (stop s) = refl
 
-lists : (clues : List ℤ) → Clues clues → (ks ls : List Call) → withoutChain ks ≡ true → withoutChain ls ≡ true → (B C : Board) → After clues ks B → After clues ls C → Ends clues B C
-lists clues ok ks ls nk nl B C p q =
-    let ends = steps-proofs.list-theorem .lists clues ok ks ls nk nl in
-    record {
-      one = λ s. (λ e. subst IsSettled e s, λ t. same (p ∙ ends .one (subst steps.BoardSettled p s) .1 (subst steps.BoardSettled q t) ∙ sym q));
-      fillings = λ f n v. (
-        λ k. ends .fillings f n v .0 (subst (λ (b : S.Board). InMasks (b .masks) f) p k),
-        λ k. subst (λ (b : S.Board). InMasks (b .masks) f) (sym p) (ends .fillings f n v .1 k),
-      );
-    }
-  where
-    same : boardOf B ≡ boardOf C → B ≡ C
-    same e = λ i. record { clues = e i .clues; masks = e i .masks }
+play-clues : (xs : List Deed) (b : S.Board) → play xs b .clues ≡ b .clues
+unfolding play deed openedWith
+play-clues [] b = refl
+play-clues (step k ∷ xs) b = play-clues xs (left b (answer k b)) ∙ step-clues b (answer k b)
+play-clues (entry k ∷ xs) b = play-clues xs (valueOr b (entryAnswer k b)) ∙ entry-leaves (λ (a : S.Board). a .clues ≡ b .clues) k b refl (λ es e. refl)
 
-replayed : (clues : List ℤ) → Clues clues → (ns ms : List ℕ) → StepsWithoutChain ns → StepsWithoutChain ms → (B C : Replayed) → Replays clues ns B → Replays clues ms C → Ends clues (B .board) (C .board)
+printed : (clues entries : List ℤ) (xs : List Deed) (B : Board) → After clues entries xs B → B .clues ≡ clues
+unfolding openedWith
+printed clues entries xs B at = ap (λ (b : S.Board). b .clues) at ∙ play-clues xs (openedWith clues entries)
+
+taken : (clues entries : List ℤ) → Clues clues → Entries clues entries → (xs : List Deed) (b : Board) → After clues entries xs b → checkOf (boardOf b) ≡ gives tt
+taken clues entries ok en xs b at = ap checkOf at ∙ list-theorem .taken clues entries ok en xs
+
+fillings : (clues entries : List ℤ) → Clues clues → Entries clues entries → (xs : List Deed) → withoutChain (callsIn xs) ≡ true → (B : Board) → After clues entries xs B → FillingsStay B
+fillings clues entries ok en xs n B at = subst steps.FillingsStay (sym at) (list-theorem .fillings clues entries ok en xs n)
+
+lists-end : (clues entries : List ℤ) → Clues clues → Entries clues entries → (ks ls : List Call) → withoutChain ks ≡ true → withoutChain ls ≡ true → (B C : Board)
+    → After clues entries (lists.map step ks) B → After clues entries (lists.map step ls) C → OneEnd B C
+lists-end clues entries ok en ks ls nk nl B C at bt s =
+    let p = at ∙ play-run ks (openedWith clues entries) in
+    let q = bt ∙ play-run ls (openedWith clues entries) in
+    let one = list-theorem .lists clues entries ok en ks ls nk nl (subst steps.BoardSettled p s) in
+    (λ e. subst IsSettled e s, λ t. same B C (p ∙ one .1 (subst steps.BoardSettled q t) ∙ sym q))
+
+replayed : (clues : List ℤ) → Clues clues → (ns ms : List ℕ) → StepsWithoutChain ns → StepsWithoutChain ms → (B C : Replayed) → Replays clues ns B → Replays clues ms C
+    → OneEnd (B .board) (C .board) × FillingsStay (B .board)
 replayed clues ok ns ms n m B C p q =
-    lists clues ok (callsOf ns) (callsOf ms) (n .without) (m .without) (B .board) (C .board) (replays clues ok ns (n .steps) B p .1) (replays clues ok ms (m .steps) C q .1)
+    let first = replays clues ok ns (n .steps) B p .1 in
+    let second = replays clues ok ms (m .steps) C q .1 in
+    let none = no-entries clues in (
+      lists-end clues noEntries ok none (callsOf ns) (callsOf ms) (n .without) (m .without) (B .board) (C .board) first second,
+      fillings clues noEntries ok none (lists.map step (callsOf ns)) (ap withoutChain (calls-alone (callsOf ns)) ∙ n .without) (B .board) first,
+    )
+
+entered : (clues entries : List ℤ) (ks ls : List EntryCall) (B C : Board) → After clues entries (lists.map entry ks) B → After clues entries (lists.map entry ls) C → Afresh clues B C
+entered clues entries ks ls B C p q = record { fresh = fresh ks B p; same = λ e. same B C (fresh ks B p ∙ ap (openedWith clues) e ∙ sym (fresh ls C q)) }
+  where
+    fresh : (ks : List EntryCall) (B : Board) → After clues entries (lists.map entry ks) B → boardOf B ≡ openedWith clues (B .entries)
+    fresh ks B p = p ∙ list-theorem .afresh clues entries ks ∙ ap (λ (b : S.Board). openedWith clues (b .entries)) (sym p)
 
 -- ---- a call on a board that is not refused
 
 module _ (b : Board) (ok : Admitted (boardOf b)) where
-  given : (k : Call) → answer k (boardOf b) ≡ gives (outcome k (givensOf (b .clues)) (b .masks))
+  given : (k : Call) → answer k (boardOf b) ≡ gives (outcome k (givensIn b) (b .masks))
   unfolding answer
-  given k = ap (λ (a : Answer (Unit {0})). passing a (outcome k (givensOf (b .clues)) (b .masks))) (ok .taken)
+  given k = ap (λ (a : Answer (Unit {0})). passing a (outcome k (givensIn b) (b .masks))) (ok .taken)
 
   passes : (k : Kind) (r : Eliminated) → Eliminates (wide k) (boardOf b) r → PassDone k b r
   unfolding outcome
@@ -104,26 +139,28 @@ module _ (b : Board) (ok : Admitted (boardOf b)) where
       record {
         answer = made (r .answer) _ (e .flag ∙ ap (map (λ (o : Outcome). o .flag)) (given (wide k)));
         clues = ap (λ (b : S.Board). b .clues) board;
+        entries = ap (λ (b : S.Board). b .entries) board;
         masks = ap (λ (b : S.Board). b .masks) board;
       }
 
   settles : (r : SettledBoard) → Settles (boardOf b) r
-      → SettlingDone b r (settle (givensOf (b .clues)) (b .masks) .sweeps) (removedBy (b .masks) (settle (givensOf (b .clues)) (b .masks) .left))
+      → SettlingDone b r (settle (givensIn b) (b .masks) .sweeps) (removedBy (b .masks) (settle (givensIn b) (b .masks) .left))
   unfolding outcome
   settles r e =
-      let s = steps-proofs.list-theorem .settling (boardOf b) ok in
+      let s = list-theorem .settling (boardOf b) ok in
       let board = e .board ∙ ap (left (boardOf b)) (given settlingCall) in
       let masks = ap (λ (b : S.Board). b .masks) board in
       let final = masks ∙ s .final in
       record {
         answer = counted (r .answer) _ (e .counts ∙ ap (map countsOf) (given settlingCall));
         clues = ap (λ (b : S.Board). b .clues) board;
+        entries = ap (λ (b : S.Board). b .entries) board;
         masks = final;
         ends = subst steps.BoardSettled (sym board) (s .ends);
         some = s .some;
         goes = s .goes;
-        stops = ap (sweep (givensOf (b .clues))) final ∙ s .stops ∙ sym final;
-        counted = ap (λ (m : List ℕ). total m + removedBy (b .masks) (settle (givensOf (b .clues)) (b .masks) .left)) masks ∙ s .counted;
+        stops = ap (sweep (givensIn b)) final ∙ s .stops ∙ sym final;
+        counted = ap (λ (m : List ℕ). total m + removedBy (b .masks) (settle (givensIn b) (b .masks) .left)) masks ∙ s .counted;
         bound = s .bound;
         most = s .most;
       }
@@ -133,11 +170,15 @@ demand3 =
     record {
       opens = opens;
       calls = calls;
+      enters = enters;
       replays = replays;
+      printed = printed;
       taken = taken;
-      lists = lists;
+      fillings = fillings;
+      lists = lists-end;
       replayed = replayed;
       below = λ ns h. record { steps = all-steps ns h; without = unchained-calls ns h };
+      entered = entered;
       passes = λ k b ok r e. passes b ok k r e;
       settling = λ b ok r e. (_, _, settles b ok r e);
     }

@@ -4,14 +4,17 @@ use mathlib.Core.Bool.{true}
 use mathlib.Core.List.{List}
 use Prim.Native.Nat.{ℕ}
 use lib.IntN.{ℤ}
-use Rattle.steps.specs.Calls.{Call, Clues, withoutChain}
+use Rattle.steps.specs.Calls.{Clues, Entries, withoutChain}
+use Rattle.steps.specs.Entries.{Deed, callsIn}
+use Rattle.steps.specs.Fillings.{Keeps}
+use Rattle.board.specs.Boards.{boardOf}
 use Rattle.board.specs.Verdicts.{VerdictSays}
 use Rattle.board.specs.declared.Board.{Board}
 use Rattle.calls.specs.Demand3.{After, StepsWithoutChain}
 use Rattle.calls.specs.Replays.{Replays}
 use Rattle.calls.specs.declared.Replayed.{Replayed}
 
--- After any list of calls without the chain pass: a finished board has the puzzle's one solution, and where a board is dead the puzzle has none.
+-- After any list without the chain pass: a finished board has the puzzle's one solution, and where a board is dead the puzzle has none. Of the puzzle are the clues, and the entries then on the board.
 pub record VerdictMeans : Type 0 where
-  pub lists : (clues : List ℤ) → Clues clues → (ks : List Call) → withoutChain ks ≡ true → (B : Board) → After clues ks B → VerdictSays clues (B .masks)
-  pub replayed : (clues : List ℤ) → Clues clues → (ns : List ℕ) → StepsWithoutChain ns → (r : Replayed) → Replays clues ns r → VerdictSays clues (r .board .masks)
+  pub lists : (clues entries : List ℤ) → Clues clues → Entries clues entries → (xs : List Deed) → withoutChain (callsIn xs) ≡ true → (B : Board) → After clues entries xs B → VerdictSays (Keeps (boardOf B)) (B .masks)
+  pub replayed : (clues : List ℤ) → Clues clues → (ns : List ℕ) → StepsWithoutChain ns → (r : Replayed) → Replays clues ns r → VerdictSays (Keeps (boardOf (r .board))) (r .board .masks)

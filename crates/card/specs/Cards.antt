@@ -84,7 +84,7 @@ refusalLine (stop s) = refusalBytes s
 
 -- Beyond the demands: a finished card is of a puzzle with one solution, the digits of its last line, and a dead one of a puzzle with none.
 pub record CardSays (clues : List ℤ) : Type 0 where
-  pub finished : cardFor clues .verdict ≡ verdict.Finished → OneSolution clues (onlyDigits (cardFor clues .masks))
+  pub finished : cardFor clues .verdict ≡ verdict.Finished → OneSolution (KeepsClues clues) (onlyDigits (cardFor clues .masks))
   pub dead : cardFor clues .verdict ≡ verdict.Dead → (f : List ℤ) → Correct f → ¬ (KeepsClues clues f)
 
 pub record CardsSay : Type 0 where

@@ -8,6 +8,7 @@ use Rattle.cases.proofs.P10.{p10-holds}
 use Rattle.cases.proofs.P11.{p11-holds}
 use Rattle.cases.proofs.Full.{full-holds}
 use Rattle.cases.proofs.Claimed.{claimed-holds}
+use Rattle.cases.proofs.Entered.{entries-hold}
 
 pub cases : Cases
 cases =
@@ -25,4 +26,5 @@ cases =
       eleven = p11-holds;
       full = full-holds;
       claiming = claimed-holds;
+      entries = entries-hold;
     }

@@ -10,5 +10,6 @@ pub mod P10
 pub mod P11
 pub mod Full
 pub mod Claimed
+pub mod Entered
 pub mod Cases
 pub mod Misread

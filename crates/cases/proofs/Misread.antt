@@ -17,21 +17,19 @@ use Rattle.grid.specs.Lists.{each, select}
 use Rattle.grid.specs.Units.{units, unit, unitCell}
 use Rattle.steps.specs.Boards.{at, givensOf, isOpen, fresh, taken, total}
 use Rattle.steps.specs.Calls.{wide, opened, run}
-use Rattle.steps.specs.Calls.{Clues}
 use Rattle.steps.specs.Fillings.{KeepsClues, InMasks}
 use Rattle.steps.specs.Instances.{stepOf, lones, places, pointings, claimings}
 use Rattle.steps.specs.Loops.{for, upTo}
 use Rattle.steps.specs.Passes.{Lone, Place, Pointing, Claiming, Cross, instances, instanceTaken, pass, settle}
 use Rattle.steps.specs.Ported.{spots, nakedPairAt, nakedPairs}
 use Rattle.steps.specs.Steps.{Step, stepTaken}
-use Rattle.steps.proofs.Check.{clues-by}
-use Rattle.steps.proofs.Lists.{list-theorem}
+use Rattle.steps.proofs.Lists.{run-fillings}
 use Rattle.cases.specs.Cases.{freshMasks}
 use Rattle.cases.specs.Grids.{gridOf, gridA, p5}
 use Rattle.cases.proofs.Conflict.{withFive, settled-below}
 use Rattle.cases.proofs.Idle.{cross-idle}
 use Rattle.cases.proofs.Laws.{Values}
-use Rattle.cases.proofs.P2to6.{p6-holds}
+use Rattle.cases.proofs.P2to6.{p5-clues, p6-holds}
 
 -- ---- "Counting open cells alone in Place: a clue d leaves no open holder, and a cell loses its true digit."
 
@@ -49,10 +47,6 @@ pub record Costs (f : List ℕ → List ℕ → List ℕ) (clues filling : List 
   pub keeps : KeepsClues clues filling
   pub after : InMasks (run (wide Place ∷ []) (opened clues) .masks) filling
   pub lost : InMasks (f (givensOf clues) (freshMasks clues)) filling → ⊥
-
-p5-clues : Clues p5
-unfolding p5 gridA gridOf for
-p5-clues = clues-by p5 refl tt
 
 p5-kept : KeepsClues p5 gridA
 unfolding p5 gridA gridOf for
@@ -76,7 +70,7 @@ place-over-open-cells =
     record {
       correct = p6-holds .right;
       keeps = p5-kept;
-      after = list-theorem .lists p5 p5-clues (wide Place ∷ []) [] refl refl .fillings gridA size (p6-holds .right) .1 p5-kept;
+      after = run-fillings p5 p5-clues (wide Place ∷ []) refl gridA size (p6-holds .right) .1 p5-kept;
       lost = p5-lost;
     }
 

@@ -9,8 +9,8 @@ use Rattle.candidates.specs.Masks.{gather}
 use Rattle.grid.specs.Cells.{cells, peers}
 use Rattle.grid.specs.Lists.{each}
 use Rattle.grid.specs.Units.{units, unit}
-use Rattle.steps.specs.Boards.{givensOf, fresh, taken, total}
-use Rattle.steps.specs.Calls.{Outcome, nakedSinglesCall, hiddenSinglesCall, advancedCall, settlingCall, outcome, opened}
+use Rattle.steps.specs.Boards.{givensOf, together, fresh, taken, total}
+use Rattle.steps.specs.Calls.{Outcome, nakedSinglesCall, hiddenSinglesCall, advancedCall, settlingCall, outcome, opened, openedWith}
 use Rattle.steps.specs.Chains.{firstSome, weakLinks, strongLinks, enter, chainEnd, chainDigit, chains}
 use Rattle.steps.specs.Instances.{stepOf, lones, places, pointings, claimings}
 use Rattle.steps.specs.Loops.{for, first}
@@ -107,7 +107,7 @@ none-removed = refl
 -- ---- the record
 
 no-bytes : recordOf (opened p1) ≡ 0 ∷ 0 ∷ 0 ∷ []
-unfolding recordOf opened sectionBytes clueSets lacking candidates p1 gridOf for givensOf fresh taken each cells peers
+unfolding recordOf openedWith together sectionBytes clueSets lacking candidates p1 gridOf for givensOf fresh taken each cells peers
 no-bytes = refl
 
 pub p1-holds : Case1

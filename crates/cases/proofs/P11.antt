@@ -14,9 +14,10 @@ use Rattle.candidates.proofs.Order.{sub-le}
 use Rattle.grid.specs.Cells.{cells, peers}
 use Rattle.grid.specs.Lists.{each}
 use Rattle.grid.specs.Units.{units, unit}
-use Rattle.steps.specs.Boards.{givensOf, at, fresh, taken, total, Under}
-use Rattle.steps.specs.Calls.{Outcome, settlingCall, outcome, checkOf, opened}
+use Rattle.steps.specs.Boards.{givensOf, together, at, fresh, taken, total, Under}
+use Rattle.steps.specs.Calls.{Outcome, settlingCall, outcome, checkOf, opened, openedWith}
 use Rattle.steps.specs.Instances.{stepOf}
+use Rattle.steps.proofs.Entries.{opened-masks}
 use Rattle.steps.specs.Loops.{for, first}
 use Rattle.steps.specs.Passes.{instanceTaken, settle}
 use Rattle.steps.specs.Steps.{stepTaken}
@@ -90,14 +91,14 @@ settled-zero c e =
     omega (arith, sub-le (below .at c))
 
 open-board : checkOf (opened p11) ≡ gives tt
-unfolding p11 gridOf for givensOf checkOf opened first fresh taken each cells peers
+unfolding p11 gridOf for givensOf checkOf openedWith together first fresh taken each cells peers
 open-board = refl
 
 pub p11-holds : Case11
-unfolding outcome opened
+unfolding outcome
 p11-holds =
     record {
       taken = open-board;
-      others = λ c h k. ap (λ (l : List ℕ). has (at l c) 4) (fresh-value values) ∙ no-five c h k;
+      others = λ c h k. ap (λ (l : List ℕ). has (at l c) 4) (opened-masks p11 ∙ fresh-value values) ∙ no-five c h k;
       emptied = λ c h k. ap (λ (o : Outcome). at (o .masks) c) (call-value values settlingCall) ∙ settled-zero c (row-zero c h k);
     }

@@ -14,10 +14,11 @@ use Rattle.grid.specs.Fillings.{verified}
 use Rattle.grid.specs.Lists.{each}
 use Rattle.grid.specs.Units.{units, unit}
 use Rattle.steps.specs.Boards.{givensOf, taken, fresh}
-use Rattle.steps.specs.Calls.{outcome, checkOf}
+use Rattle.steps.specs.Calls.{Clues, outcome, checkOf}
 use Rattle.steps.specs.Loops.{for, first}
 use Rattle.steps.specs.Ported.{spots}
 use Rattle.steps.specs.Singles.{nakedSingles, hiddenSingles}
+use Rattle.steps.proofs.Check.{clues-by}
 use Rattle.board.specs.Boards.{openOf}
 use Rattle.text.specs.Texts.{parseOf}
 use Rattle.card.specs.Cards.{printed}
@@ -58,7 +59,11 @@ p3-holds = record { last = last; row = refl; card = prints p3Text last (λ e. om
 
 pub p4-holds : Case4
 unfolding p4Low p4High p1 gridOf for checkOf openOf first cells
-p4-holds = record { opensLow = refl; opensHigh = refl; low = λ m. refl; high = λ m. refl; rowLow = refl; rowHigh = refl }
+p4-holds = record { opensLow = refl; opensHigh = refl; low = λ es m. refl; high = λ es m. refl; rowLow = refl; rowHigh = refl }
+
+pub p5-clues : Clues p5
+unfolding p5 gridA gridOf for
+p5-clues = clues-by p5 refl tt
 
 pub p5-holds : Case5
 unfolding p5 gridA gridOf for givensOf fresh taken each cells peers outcome nakedSingles hiddenSingles spots gather firstPlace ones unit units

@@ -3,19 +3,22 @@ use mathlib.Core.Path.{_≡_}
 use mathlib.Core.Logic.{_≢_}
 use mathlib.Core.Bool.{true, false}
 use mathlib.Core.List.{List, [], _∷_, map}
-use Prim.Native.Nat.{ℕ, _≤_, _<_}
+use Prim.Native.Nat.{ℕ, _+_, _*_, _≤_, _<_}
 use lib.IntN.{ℤ, pos, negsuc}
 use lib.ListN.{length, getD, replicate, set}
 use Rattle.stops.specs.Answer.{gives, stop}
 use Rattle.stops.specs.Stops.{rowOf}
-use Rattle.stops.specs.declared.Stop.the-variants.{TextLength, OtherByte, BadClue}
+use Rattle.stops.specs.declared.Stop.the-variants.{TextLength, OtherByte, BadClue, BadDigit, NoCell, BadEntry, ClueCell, AlreadyEntered, NotEntered}
 use Rattle.candidates.specs.Masks.{has}
+use Rattle.grid.specs.Cells.{cells}
 use Rattle.grid.specs.Fillings.{verified}
-use Rattle.steps.specs.Boards.{at, givensOf, fresh}
-use Rattle.steps.specs.Calls.{Call, Outcome, nakedPairsCall, boxLineCall, xWingCall, nakedSinglesCall, hiddenSinglesCall, advancedCall, wide, settlingCall, chainCall, outcome, checkOf, opened}
+use Rattle.steps.specs.Boards.{Board, at, givensOf, givens, noEntries, fresh}
+use Rattle.steps.specs.Calls.{Call, Outcome, nakedPairsCall, boxLineCall, xWingCall, nakedSinglesCall, hiddenSinglesCall, advancedCall, wide, settlingCall, chainCall, outcome, checkOf, opened, openedWith}
+use Rattle.steps.specs.Entries.{enter, rubOut, entryAnswer, step, entry, play}
 use Rattle.steps.specs.Passes.{Kind, Claiming, removedBy}
 use Rattle.steps.specs.Singles.{Report}
-use Rattle.board.specs.Boards.{openOf}
+use Rattle.board.specs.Boards.{clueCount, handed, openOf, verdictOf}
+use Rattle.board.specs.declared.Verdict.the-variants.{Dead}
 use Rattle.text.specs.Texts.{parseOf}
 use Rattle.record.specs.Records.{recordOf}
 use Rattle.card.specs.Cards.{cardOf, printed}
@@ -69,12 +72,12 @@ pub record Case3 : Type 0 where
   pub card : printed (cardOf p3Text) ≡ p3Line
   pub cardEnded : printed (cardOf (ended p3Text)) ≡ p3Line
 
--- "P4 clue -1 at cell 0: 3, 0. Clue 10 at cell 80: 3, 80." The opener's, and of a board that is handed in, whatever its masks: the clues are checked first.
+-- "P4 clue -1 at cell 0: 3, 0. Clue 10 at cell 80: 3, 80." The opener's, and of a board that is handed in, whatever its entries and masks: the clues are checked first.
 pub record Case4 : Type 0 where
   pub opensLow : openOf p4Low ≡ stop (BadClue (pos 0))
   pub opensHigh : openOf p4High ≡ stop (BadClue (pos 80))
-  pub low : (m : List ℕ) → checkOf (record { clues = p4Low; masks = m }) ≡ stop (BadClue (pos 0))
-  pub high : (m : List ℕ) → checkOf (record { clues = p4High; masks = m }) ≡ stop (BadClue (pos 80))
+  pub low : (es : List ℤ) (m : List ℕ) → checkOf (handed p4Low es m) ≡ stop (BadClue (pos 0))
+  pub high : (es : List ℤ) (m : List ℕ) → checkOf (handed p4High es m) ≡ stop (BadClue (pos 80))
   pub rowLow : rowOf (BadClue (pos 0)) ≡ record { number = 3; detail = pos 0 }
   pub rowHigh : rowOf (BadClue (pos 80)) ≡ record { number = 3; detail = pos 80 }
 
@@ -145,6 +148,42 @@ pub record CaseClaiming : Type 0 where
   pub sweeps : onFresh settlingCall claimed .sweeps ≡ 2
   pub settled : onFresh settlingCall claimed .removed ≡ 18
 
+-- the fresh board of a grid with one entry
+abbrev pub withEntry : List ℤ → ℕ → ℤ → Board
+withEntry clues c z = openedWith clues (set noEntries c z)
+
+-- what a call answers on it
+abbrev pub onEntry : Call → List ℤ → ℕ → ℤ → Outcome
+onEntry k clues c z = outcome k (givens (withEntry clues c z)) (withEntry clues c z .masks)
+
+-- Document 02, F-6.
+pub record CaseEntries : Type 0 where
+  -- P5 with 1 entered in cell 0: the masks are what they were, the cell is no longer reported, and the clues are 80 still
+  pub right : entryAnswer (enter 0 (pos 1)) (opened p5) ≡ gives (withEntry p5 0 (pos 1))
+  pub masks : withEntry p5 0 (pos 1) .masks ≡ freshMasks p5
+  pub naked : onEntry nakedSinglesCall p5 0 (pos 1) .reports ≡ []
+  pub counted : clueCount (givensOf (withEntry p5 0 (pos 1) .clues)) cells ≡ 80
+  -- an entry that contradicts: cell 1 has the clue 2
+  pub wrong : entryAnswer (enter 0 (pos 2)) (opened p5) ≡ gives (withEntry p5 0 (pos 2))
+  pub dead : verdictOf (withEntry p5 0 (pos 2) .masks) ≡ Dead
+  -- entering, a pass, rubbing out: with 1 in cell 80 of P10 cell 8 lacks it, so that box-line removes 17; then all removals are gone
+  pub removed : removedBy (withEntry p10 80 (pos 1) .masks) (onEntry boxLineCall p10 80 (pos 1) .masks) ≡ 17
+  pub rubbed : play (entry (enter 80 (pos 1)) ∷ step boxLineCall ∷ entry (rubOut 80) ∷ []) (opened p10) ≡ opened p10
+  -- 1 entered in cell 80 of P1: no clue, and removed are what the fresh masks of no clue at all have and the board lacks, eight digits in cell 80 and 1 in its 20 peers
+  pub recorded : length (recordOf (withEntry p1 80 (pos 1))) ≡ 3 + 2 * 28
+  -- stop 8, whatever the masks: an entry on a clue, and one above 9
+  pub onClue : (m : List ℕ) → checkOf (handed p11 (set noEntries 1 (pos 5)) m) ≡ stop (BadEntry (pos 1))
+  pub ten : (m : List ℕ) → checkOf (handed p1 (set noEntries 80 (pos 10)) m) ≡ stop (BadEntry (pos 80))
+  pub row8 : rowOf (BadEntry (pos 80)) ≡ record { number = 8; detail = pos 80 }
+  -- "the order is 5, 4 (entering only), 12, 13"
+  pub five : entryAnswer (enter 81 (pos 0)) (opened p5) ≡ stop (NoCell 81)
+  pub four : entryAnswer (enter 1 (pos 0)) (opened p5) ≡ stop (BadDigit (pos 0))
+  pub twelve : entryAnswer (enter 1 (pos 1)) (opened p5) ≡ stop (ClueCell 1)
+  pub row12 : rowOf (ClueCell 1) ≡ record { number = 12; detail = pos 1 }
+  pub again : entryAnswer (enter 0 (pos 2)) (withEntry p5 0 (pos 1)) ≡ stop (AlreadyEntered 0)
+  pub nothing : entryAnswer (rubOut 0) (opened p5) ≡ stop (NotEntered 0)
+  pub row13 : (rowOf (AlreadyEntered 0) ≡ record { number = 13; detail = pos 0 }) × (rowOf (NotEntered 0) ≡ record { number = 13; detail = pos 0 })
+
 -- The cases as a group.
 pub record Cases : Type 0 where
   pub one : Case1
@@ -160,3 +199,4 @@ pub record Cases : Type 0 where
   pub eleven : Case11
   pub full : CaseFull
   pub claiming : CaseClaiming
+  pub entries : CaseEntries

@@ -1,7 +1,13 @@
-// The published cases P1 to P11, and document 02's of Claiming, through the public calls. The file `stdout` is written from the paper's sentences:
+// The published cases P1 to P11, and document 02's of Claiming and of entries, through the public calls. The file `stdout` is written from the paper's sentences:
 // a text or clue numbers with the stop and what stands beside it, `step NUMBER FLAG REMOVED` by step numbers, a mask by its cell.
 use board::Board;
+use board::BoardVerdict;
 use board::CellMask;
+use board::Counting;
+use board::Verdict;
+use board::entries::Pencilled;
+use board::entries::enter;
+use board::entries::rub_out;
 use calls::Stepping;
 use calls::step;
 use printing::number;
@@ -283,6 +289,80 @@ fn claims() {
     settle(b"F-5 settled", board);
 }
 
+// A digit entered or rubbed out; the board after it.
+fn pencil(name: &[u8], done: Pencilled) -> Board {
+    let answer = done.answer;
+    let board = done.board;
+    checked(name, answer);
+    board
+}
+
+fn count(name: &[u8], board: Board) {
+    match board.clue_count() {
+        Counting::Clues(count) => line(name, 0, count as u64),
+        Counting::Refused(stop) => refused(name, stop),
+    }
+}
+
+fn judged(name: &[u8], verdict: Verdict) {
+    word(name);
+    match verdict {
+        Verdict::Dead => word(b" dead\n"),
+        Verdict::Finished => word(b" finished\n"),
+        Verdict::Open => word(b" open\n"),
+    }
+}
+
+fn verdict(name: &[u8], board: Board) {
+    match board.verdict() {
+        BoardVerdict::Is(found) => judged(name, found),
+        BoardVerdict::Refused(stop) => refused(name, stop),
+    }
+}
+
+// The right digit and a wrong one in the open cell of P5; then the stops.
+fn entered() {
+    let board = fresh(
+        b".23456789456789123789123456231564897564897231897231564312645978645978312978312645",
+    );
+    let right = pencil(b"F-6 enter", enter(board, 0, 1));
+    mask(b"F-6 mask", right, 0);
+    reports(b"F-6 naked", 4, right);
+    count(b"F-6 count", right);
+    verdict(b"F-6 verdict", right);
+    let wrong = pencil(b"F-6 enter", enter(board, 0, 2));
+    mask(b"F-6 mask", wrong, 0);
+    verdict(b"F-6 verdict", wrong);
+    pencil(b"F-6 enter", enter(board, 81, 0));
+    pencil(b"F-6 enter", enter(board, 1, 0));
+    pencil(b"F-6 enter", enter(board, 1, 1));
+    pencil(b"F-6 enter", enter(right, 0, 2));
+    pencil(b"F-6 rub out", rub_out(board, 81));
+    pencil(b"F-6 rub out", rub_out(board, 1));
+    pencil(b"F-6 rub out", rub_out(board, 0));
+}
+
+// Entering, a pass and rubbing out on P10: all removals are gone.
+fn rubbed() {
+    let board = fresh(
+        b".........456......789............................................................",
+    );
+    let entered = pencil(b"F-6 enter", enter(board, 80, 1));
+    let after = take(b"F-6 step", 2, entered);
+    let back = pencil(b"F-6 rub out", rub_out(after, 80));
+    line(b"F-6 left", fewer(board, back), fewer(back, board));
+    let text = b"55...............................................................................";
+    let masks = fresh(text).masks;
+    let clash = Board {
+        clues: clues_of(text),
+        entries: with_clue([0; 81], 1, 5),
+        masks,
+    };
+    mask(b"F-6 mask", clash, 0);
+    let one = pencil(b"F-6 enter", enter(fresh(&[b'.'; 81]), 80, 1));
+    record(b"F-6 record", one);
+}
+
 fn main() {
     empty_grid();
     stops();
@@ -293,4 +373,6 @@ fn main() {
     lines();
     conflict();
     claims();
+    entered();
+    rubbed();
 }

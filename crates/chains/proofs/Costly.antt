@@ -16,15 +16,16 @@ use Rattle.grid.specs.Cells.{cells, peers}
 use Rattle.grid.specs.Fillings.{numberAt, sameNumber, verified}
 use Rattle.grid.specs.Units.{units, unit}
 use Rattle.grid.proofs.Lists.{same-eq}
-use Rattle.steps.specs.Boards.{at, givensOf, isOpen, taken, fresh}
+use Rattle.steps.specs.Boards.{at, givensOf, givens, isOpen, taken, fresh}
 use Rattle.stops.specs.Answer.{Answer, gives, passing}
-use Rattle.steps.specs.Calls.{checkOf, outcome, answer, left, opened, run, chainCall}
+use Rattle.steps.specs.Calls.{checkOf, outcome, answer, left, opened, openedWith, run, chainCall}
 use Rattle.steps.specs.Chains.{firstSome, weakLinks, strongLinks, elimination, enter, chainEnd, loseFound, chainDigit, chains}
 use Rattle.steps.specs.Calls.{Clues}
 use Rattle.steps.specs.Fillings.{KeepsClues, InMasks}
 use Rattle.steps.specs.Loops.{each, for, first, range}
 use Rattle.steps.proofs.Check.{clues-by}
-use Rattle.steps.proofs.Lists.{list-theorem}
+use Rattle.steps.proofs.Entries.{givens-none}
+use Rattle.steps.proofs.Lists.{opened-taken, run-fillings}
 use Rattle.steps.proofs.Loops.{each-keeps}
 use Rattle.steps.proofs.Steps.{lose-under}
 use Rattle.chains.specs.Costly.{Lost, threeClues}
@@ -130,14 +131,14 @@ correct = refl
 -- ---- the board after the pass
 
 untouched : checkOf (opened threeClues) ≡ gives tt
-unfolding run
-untouched = list-theorem .taken threeClues good []
+untouched = opened-taken threeClues good
 
 passed : run (chainCall ∷ []) (opened threeClues) .masks ≡ chains g m
-unfolding run answer outcome opened
+unfolding run answer outcome openedWith
 passed =
-    ap (λ (o : Answer (Unit {0})). left (opened threeClues) (passing o (outcome chainCall (givensOf threeClues) (fresh (givensOf threeClues)))) .masks) untouched
-    ∙ ap₂ chains givens-are (ap fresh givens-are ∙ fresh-are)
+    let b = opened threeClues in
+    let same = givens-none threeClues ∙ givens-are in
+    ap (λ (o : Answer (Unit {0})). left b (passing o (outcome chainCall (givens b) (b .masks))) .masks) untouched ∙ ap₂ chains same (ap fresh same ∙ fresh-are)
 
 lost : InMasks (run (chainCall ∷ []) (opened threeClues) .masks) filling → ⊥
 unfolding filling
@@ -149,6 +150,6 @@ costs-a-filling =
     record {
       correct = correct;
       keeps = kept;
-      before = list-theorem .lists threeClues good [] [] refl refl .fillings filling size correct .1 kept;
+      before = run-fillings threeClues good [] refl filling size correct .1 kept;
       after = lost;
     }

@@ -8,7 +8,7 @@ ghost use Rattle.eliminations.specs.Eliminations.{Eliminates};
 ghost use Rattle.eliminations.specs.code.Calls.{callOf};
 use board::Board;
 use board::check;
-use board::clues::givens_of;
+use board::entries::givens_of;
 use cells::changed;
 use chains::chains;
 use locked::claiming;
@@ -63,18 +63,27 @@ fn apply(elimination: Elimination, board: Board) -> Eliminated
     ensures { λ r. ⌜ Eliminates (callOf elimination) (boardOf board) r ⌝ }
 {
     let clues = board.clues;
+    let entries = board.entries;
     let before = board.masks;
     let mut masks = board.masks;
-    match check(&clues, &before) {
+    match check(&clues, &entries, &before) {
         Check::Refused(stop) => Eliminated {
             answer: Progress::Refused(stop),
-            board: Board { clues, masks },
+            board: Board {
+                clues,
+                entries,
+                masks,
+            },
         },
         Check::Passed => {
-            eliminate(elimination, &givens_of(&clues), &mut masks);
+            eliminate(elimination, &givens_of(&clues, &entries), &mut masks);
             Eliminated {
                 answer: Progress::Made(changed(before, masks)),
-                board: Board { clues, masks },
+                board: Board {
+                    clues,
+                    entries,
+                    masks,
+                },
             }
         }
     }

@@ -2,4 +2,5 @@ mod Calls
 mod Cases
 mod Fitting
 mod Numbers
+mod Pencilled
 mod StepNumbers

@@ -10,8 +10,8 @@ use lib.ListN.{length}
 use mir.Syntax.{w64}
 use mir.Val.{SFits}
 use Rattle.stops.specs.Answer.{Answer, gives, stop, map, passing}
-use Rattle.steps.specs.Boards.{Board, Givens, Admissible, givensOf}
-use Rattle.steps.specs.Calls.{Call, updateCandidates, nakedPairsCall, boxLineCall, xWingCall, nakedSinglesCall, hiddenSinglesCall, advancedCall, wide, settlingCall, chainCall, Outcome, outcome, checkOf, answer}
+use Rattle.steps.specs.Boards.{Board, Givens, Admissible, givens, together}
+use Rattle.steps.specs.Calls.{Call, updateCandidates, nakedPairsCall, boxLineCall, xWingCall, nakedSinglesCall, hiddenSinglesCall, advancedCall, wide, settlingCall, chainCall, Outcome, outcome, checkOf, Admitted, answer}
 use Rattle.steps.specs.Singles.{Report}
 use Rattle.steps.proofs.Check.{admits, clues-givens}
 use Rattle.steps.proofs.Fresh.{total-most}
@@ -76,7 +76,7 @@ pub record StepFits (o : Option (Answer Outcome)) : Type 0 where
   pub sweeps : SFits w64 (pos (sweepsIn o))
   pub removed : SFits w64 (pos (removedIn o))
 
-module _ (b : Board) (clues : length (b .clues) ≡ 81) (masks : length (b .masks) ≡ 81) where
+module _ (b : Board) (clues : length (b .clues) ≡ 81) (entries : length (b .entries) ≡ 81) (masks : length (b .masks) ≡ 81) where
   pub step-fits : (n : ℕ) → StepFits (stepAnswer n b)
   unfolding stepAnswer answer
   step-fits n = go (stepCall n) (checkOf b) refl
@@ -84,9 +84,10 @@ module _ (b : Board) (clues : length (b .clues) ≡ 81) (masks : length (b .mask
       none-fits : {n : ℕ} → n ≤ 0 → SFits w64 (pos n)
       none-fits h = place-fits (omega arith)
 
-      go : (o : Option Call) (a : Answer (Unit {0})) → checkOf b ≡ a → StepFits (Option·map (λ k. passing a (outcome k (givensOf (b .clues)) (b .masks))) o)
+      go : (o : Option Call) (a : Answer (Unit {0})) → checkOf b ≡ a → StepFits (Option·map (λ k. passing a (outcome k (givens b) (b .masks))) o)
       go none a e = record { reports = none-fits (omega arith); sweeps = none-fits (omega arith); removed = none-fits (omega arith) }
       go (some k) (stop s) e = record { reports = none-fits (omega arith); sweeps = none-fits (omega arith); removed = none-fits (omega arith) }
       go (some k) (gives u) e =
-          let s = call-small k (givensOf (b .clues)) (b .masks) (clues-givens (b .clues)) (admits b clues masks e .1) in
+          let w : Admitted b = record { clues = clues; entries = entries; masks = masks; taken = e } in
+          let s = call-small k (givens b) (b .masks) (clues-givens (together (b .clues) (b .entries))) (admits b w .2) in
           record { reports = place-fits (omega (arith, s .reports)); sweeps = place-fits (omega (arith, s .sweeps)); removed = place-fits (omega (arith, s .removed)) }

@@ -34,3 +34,7 @@ noNumber a = pos 0
 -- a call number that stands for nothing: -1 and the number
 abbrev pub unknown : ℕ → List ℤ
 unknown k = four (negsuc 0) (pos k) (pos 0) (pos 0)
+
+-- which parameters the exports have: raised where those of one of them change, since a C linker does not see that
+abbrev pub abiNumber : ℕ
+abiNumber = 1

@@ -1,6 +1,7 @@
 pub mod Codes
 pub mod Sets
 pub mod Boards
+pub mod Entries
 pub mod Steps
 pub mod Texts
 pub mod Sheets

@@ -1,10 +1,12 @@
 // What is written to lent arrays: a call's value, or what they held where the call was refused.
 ghost use mathlib.Core.Path.{_≡_};
+ghost use lib.IntN.{pos};
 ghost use Rattle.stops.specs.Answer.{checkAnswer, map, passing, valueOr};
 ghost use Rattle.host.specs.Boards.{clueNumber};
 ghost use Rattle.host.specs.Codes.{coded};
 use crate::codes;
 use board::count_clues;
+use board::entries::Pencilled;
 use stops::Check;
 
 pub fn put_clues(check: Check, clues: &[i32; 81], lent: &mut [i32; 81])
@@ -42,4 +44,21 @@ pub fn put_grid(check: Check, grid: &[i32; 81], clues: &mut [i32; 81], answer: &
 {
     *answer = codes::of_check(check, clue_number(grid), 0);
     put_clues(check, grid, clues);
+}
+
+// The board after a call that enters or rubs out: its entries and its masks.
+pub fn put_pencilled(
+    done: Pencilled,
+    entries: &mut [i32; 81],
+    masks: &mut [u16; 81],
+    answer: &mut [i64; 4],
+)
+    ensures { λ _. ⌜ (now (answer .exit) ≡ coded (passing (checkAnswer (done .answer)) (pos 0)) 0) × (now (entries .exit) ≡ valueOr (now (entries .entry)) (passing (checkAnswer (done .answer)) (done .board .entries))) × (now (masks .exit) ≡ valueOr (now (masks .entry)) (passing (checkAnswer (done .answer)) (done .board .masks))) ⌝ }
+{
+    let check = done.answer;
+    let pencilled = done.board.entries;
+    let fresh = done.board.masks;
+    *answer = codes::of_check(check, 0, 0);
+    put_clues(check, &pencilled, entries);
+    put_masks(check, &fresh, masks);
 }

@@ -2,8 +2,11 @@
 // Nothing is owed by a caller beyond the lengths of what it lends, and each answer fixes all that was lent.
 ghost use mathlib.Core.Path.{_≡_};
 ghost use Rattle.grid.specs.Fillings.{verified};
+ghost use Rattle.steps.specs.Entries.{enter, rubOut};
 ghost use Rattle.board.specs.Boards.{handed};
 ghost use Rattle.host.specs.Boards.{asked, checkCode, keptCheck, openCode, openMasks, readClues, readCode};
+ghost use Rattle.host.specs.Codes.{abiNumber};
+ghost use Rattle.host.specs.Entries.{pencilCode, pencilEntries, pencilMasks};
 ghost use Rattle.host.specs.Records.{recordClues, recordCode, recordMasks, recordReadCode, writtenRecord};
 ghost use Rattle.host.specs.Rounds.{trialClues, trialCode};
 ghost use Rattle.host.specs.Sets.{setCall, nextCall};
@@ -17,6 +20,14 @@ mod arrays;
 mod codes;
 mod sets;
 mod step_calls;
+
+// Which parameters the exports have: a caller made for another number must not call them.
+#[no_mangle]
+pub extern "C" fn sudoku_abi() -> u32
+    ensures { λ r. ⌜ r ≡ abiNumber ⌝ }
+{
+    1
+}
 
 // Whether 81 numbers are a correct filling.
 #[no_mangle]
@@ -101,30 +112,34 @@ pub extern "C" fn sudoku_ask(
     question: u8,
     cell: u32,
     clues: &[i32; 81],
+    entries: &[i32; 81],
     masks: &[u16; 81],
     answer: &mut [i64; 4],
 )
-    ensures { λ _. ⌜ now (answer .exit) ≡ asked question (handed (now (clues .entry)) (now (masks .entry))) cell ⌝ }
+    ensures { λ _. ⌜ now (answer .exit) ≡ asked question (handed (now (clues .entry)) (now (entries .entry)) (now (masks .entry))) cell ⌝ }
 {
     let board = Board {
         clues: *clues,
+        entries: *entries,
         masks: *masks,
     };
     *answer = accessors::ask(question, board, cell);
 }
 
-// The clues of a board.
+// The printed clues of a board.
 #[no_mangle]
 pub extern "C" fn sudoku_original_puzzle(
     clues: &[i32; 81],
+    entries: &[i32; 81],
     masks: &[u16; 81],
     puzzle: &mut [i32; 81],
     answer: &mut [i64; 4],
 )
-    ensures { λ _. ⌜ (now (answer .exit) ≡ checkCode (handed (now (clues .entry)) (now (masks .entry)))) × (now (puzzle .exit) ≡ keptCheck (handed (now (clues .entry)) (now (masks .entry))) (now (clues .entry)) (now (puzzle .entry))) ⌝ }
+    ensures { λ _. ⌜ (now (answer .exit) ≡ checkCode (handed (now (clues .entry)) (now (entries .entry)) (now (masks .entry)))) × (now (puzzle .exit) ≡ keptCheck (handed (now (clues .entry)) (now (entries .entry)) (now (masks .entry))) (now (clues .entry)) (now (puzzle .entry))) ⌝ }
 {
     let board = Board {
         clues: *clues,
+        entries: *entries,
         masks: *masks,
     };
     let found = board.original_puzzle();
@@ -138,14 +153,16 @@ pub extern "C" fn sudoku_original_puzzle(
 #[no_mangle]
 pub extern "C" fn sudoku_get_candidates(
     clues: &[i32; 81],
+    entries: &[i32; 81],
     masks: &[u16; 81],
     candidates: &mut [u16; 81],
     answer: &mut [i64; 4],
 )
-    ensures { λ _. ⌜ (now (answer .exit) ≡ checkCode (handed (now (clues .entry)) (now (masks .entry)))) × (now (candidates .exit) ≡ keptCheck (handed (now (clues .entry)) (now (masks .entry))) (now (masks .entry)) (now (candidates .entry))) ⌝ }
+    ensures { λ _. ⌜ (now (answer .exit) ≡ checkCode (handed (now (clues .entry)) (now (entries .entry)) (now (masks .entry)))) × (now (candidates .exit) ≡ keptCheck (handed (now (clues .entry)) (now (entries .entry)) (now (masks .entry))) (now (masks .entry)) (now (candidates .entry))) ⌝ }
 {
     let board = Board {
         clues: *clues,
+        entries: *entries,
         masks: *masks,
     };
     let found = board.get_candidates();
@@ -160,13 +177,55 @@ pub extern "C" fn sudoku_get_candidates(
 pub extern "C" fn sudoku_step(
     step: u8,
     clues: &[i32; 81],
+    entries: &[i32; 81],
     masks: &mut [u16; 81],
     reports: &mut [u8; 648],
     answer: &mut [i64; 4],
 )
-    ensures { λ _. ⌜ (now (answer .exit) ≡ stepCode step (handed (now (clues .entry)) (now (masks .entry)))) × (now (masks .exit) ≡ stepMasks step (handed (now (clues .entry)) (now (masks .entry)))) × (now (reports .exit) ≡ stepReports step (handed (now (clues .entry)) (now (masks .entry))) (now (reports .entry))) ⌝ }
+    ensures { λ _. ⌜ (now (answer .exit) ≡ stepCode step (handed (now (clues .entry)) (now (entries .entry)) (now (masks .entry)))) × (now (masks .exit) ≡ stepMasks step (handed (now (clues .entry)) (now (entries .entry)) (now (masks .entry)))) × (now (reports .exit) ≡ stepReports step (handed (now (clues .entry)) (now (entries .entry)) (now (masks .entry))) (now (reports .entry))) ⌝ }
 {
-    *masks = step_calls::step(step, *clues, *masks, reports, answer);
+    *masks = step_calls::step(step, *clues, *entries, *masks, reports, answer);
+}
+
+// A digit entered in a cell of a board.
+#[no_mangle]
+pub extern "C" fn sudoku_enter(
+    cell: u32,
+    digit: i32,
+    clues: &[i32; 81],
+    entries: &mut [i32; 81],
+    masks: &mut [u16; 81],
+    answer: &mut [i64; 4],
+)
+    ensures { λ _. ⌜ (now (answer .exit) ≡ pencilCode (enter cell digit) (handed (now (clues .entry)) (now (entries .entry)) (now (masks .entry)))) × (now (entries .exit) ≡ pencilEntries (enter cell digit) (handed (now (clues .entry)) (now (entries .entry)) (now (masks .entry)))) × (now (masks .exit) ≡ pencilMasks (enter cell digit) (handed (now (clues .entry)) (now (entries .entry)) (now (masks .entry)))) ⌝ }
+{
+    let board = Board {
+        clues: *clues,
+        entries: *entries,
+        masks: *masks,
+    };
+    let done = board::entries::enter(board, cell, digit);
+    arrays::put_pencilled(done, entries, masks, answer);
+}
+
+// The entry of a cell of a board rubbed out.
+#[no_mangle]
+pub extern "C" fn sudoku_rub_out(
+    cell: u32,
+    clues: &[i32; 81],
+    entries: &mut [i32; 81],
+    masks: &mut [u16; 81],
+    answer: &mut [i64; 4],
+)
+    ensures { λ _. ⌜ (now (answer .exit) ≡ pencilCode (rubOut cell) (handed (now (clues .entry)) (now (entries .entry)) (now (masks .entry)))) × (now (entries .exit) ≡ pencilEntries (rubOut cell) (handed (now (clues .entry)) (now (entries .entry)) (now (masks .entry)))) × (now (masks .exit) ≡ pencilMasks (rubOut cell) (handed (now (clues .entry)) (now (entries .entry)) (now (masks .entry)))) ⌝ }
+{
+    let board = Board {
+        clues: *clues,
+        entries: *entries,
+        masks: *masks,
+    };
+    let done = board::entries::rub_out(board, cell);
+    arrays::put_pencilled(done, entries, masks, answer);
 }
 
 // A list of steps from the fresh board of the clues.
@@ -190,14 +249,16 @@ pub extern "C" fn sudoku_run(
 #[no_mangle]
 pub extern "C" fn sudoku_write_record(
     clues: &[i32; 81],
+    entries: &[i32; 81],
     masks: &[u16; 81],
     bytes: &mut [u8],
     answer: &mut [i64; 4],
 )
-    ensures { λ _. ⌜ (now (answer .exit) ≡ recordCode (handed (now (clues .entry)) (now (masks .entry))) (now (bytes .entry))) × (now (bytes .exit) ≡ writtenRecord (handed (now (clues .entry)) (now (masks .entry))) (now (bytes .entry))) ⌝ }
+    ensures { λ _. ⌜ (now (answer .exit) ≡ recordCode (handed (now (clues .entry)) (now (entries .entry)) (now (masks .entry))) (now (bytes .entry))) × (now (bytes .exit) ≡ writtenRecord (handed (now (clues .entry)) (now (entries .entry)) (now (masks .entry))) (now (bytes .entry))) ⌝ }
 {
     let board = Board {
         clues: *clues,
+        entries: *entries,
         masks: *masks,
     };
     let writing = record::write_record(board, bytes);

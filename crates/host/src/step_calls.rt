@@ -108,13 +108,19 @@ fn put_reports(stepping: Stepping, found: Reports, lent: &mut [u8; 648])
 pub fn step(
     number: u8,
     clues: [i32; 81],
+    entries: [i32; 81],
     masks: [u16; 81],
     reports: &mut [u8; 648],
     answer: &mut [i64; 4],
 ) -> [u16; 81]
-    ensures { λ r. ⌜ (r ≡ stepMasks number (handed clues masks)) × (now (reports .exit) ≡ stepReports number (handed clues masks) (now (reports .entry))) × (now (answer .exit) ≡ stepCode number (handed clues masks)) ⌝ }
+    ensures { λ r. ⌜ (r ≡ stepMasks number (handed clues entries masks)) × (now (reports .exit) ≡ stepReports number (handed clues entries masks) (now (reports .entry))) × (now (answer .exit) ≡ stepCode number (handed clues entries masks)) ⌝ }
 {
-    let done = calls::step(number, Board { clues, masks });
+    let handed = Board {
+        clues,
+        entries,
+        masks,
+    };
+    let done = calls::step(number, handed);
     let stepping = done.answer;
     let found = done.reports;
     let board = done.board;

@@ -5,7 +5,7 @@ ghost use Rattle.board.specs.Boards.{boardOf};
 ghost use Rattle.passes.specs.Settlings.{Settles};
 use board::Board;
 use board::check;
-use board::clues::givens_of;
+use board::entries::givens_of;
 use cells::changed;
 use cells::total;
 use locked::claiming;
@@ -87,17 +87,26 @@ pub fn apply_settling(board: Board) -> SettledBoard
     ensures { λ r. ⌜ Settles (boardOf board) r ⌝ }
 {
     let clues = board.clues;
+    let entries = board.entries;
     let mut masks = board.masks;
-    match check(&clues, &masks) {
+    match check(&clues, &entries, &masks) {
         Check::Refused(stop) => SettledBoard {
             answer: Settling::Refused(stop),
-            board: Board { clues, masks },
+            board: Board {
+                clues,
+                entries,
+                masks,
+            },
         },
         Check::Passed => {
-            let counts = settle(&givens_of(&clues), &mut masks);
+            let counts = settle(&givens_of(&clues, &entries), &mut masks);
             SettledBoard {
                 answer: Settling::Counted(counts.sweeps, counts.removed),
-                board: Board { clues, masks },
+                board: Board {
+                    clues,
+                    entries,
+                    masks,
+                },
             }
         }
     }

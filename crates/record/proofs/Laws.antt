@@ -1,4 +1,4 @@
--- Records and admitted boards determine each other. Assumes nothing.
+-- Records and admitted boards without entries determine each other. Assumes nothing.
 use mathlib.Core.Path.{_≡_, refl, sym, ap, _∙_, subst}
 use mathlib.Core.List.{List, [], _++_, append-nil}
 use Prim.Native.Nat.{ℕ, _+_, _≤_, _<_}
@@ -11,13 +11,13 @@ use lib.ListN.{length, getD, drop, length-append, drop-of-length-le}
 use lib.Seq.{drop-at}
 use Rattle.stops.specs.Answer.{gives}
 use Rattle.stops.proofs.Answers.{gives-same}
-use Rattle.steps.specs.Boards.{Board, givensOf, fresh, Givens, Admissible}
-use Rattle.steps.specs.Calls.{Admitted}
+use Rattle.steps.specs.Boards.{Board, together, givensOf, fresh, noEntries, Givens, Admissible}
 use Rattle.steps.specs.Calls as D
 use Rattle.steps.proofs.Check.{admitted, admits, clues-givens}
+use Rattle.steps.proofs.Entries.{givens-none, no-entries}
 use Rattle.board.specs.Boards.{handed}
 use Rattle.record.specs.declared.sections.Section.the-variants.{Clues, Removed}
-use Rattle.record.specs.Laws.{RecordLaws}
+use Rattle.record.specs.Laws.{Unentered, RecordLaws}
 use Rattle.record.specs.Records.{clueSets, lacking, recordOf, allSets, digitsIn, openSets, cluesFrom, boardFrom, readRemoved, readOf}
 use Rattle.record.specs.Sections.{Entries, withSets, sectionBytes, readSection}
 use Rattle.record.proofs.BoardSets.{clues-hold, digits-again, givens-again, clues-again, digits-good, clue-sets-again, lacking-twice, removals-hold, removals-fresh, read-admissible, clues-good}
@@ -28,9 +28,11 @@ use Rattle.record.proofs.Writing.{record-is}
 
 -- ---- reading what was written
 
-module _ (b : Board) (w : Admitted b) where
+module _ (b : Board) (w : Unentered b) where
   good : D.Clues (b .clues) × Admissible (givensOf (b .clues)) (b .masks)
-  good = admits b (w .clues) (w .masks) (w .taken)
+  good =
+      let a = admits b (w .admitted) in
+      (a .0, subst (λ (g : List ℕ). Admissible g (b .masks)) (ap (λ (e : List ℤ). givensOf (together (b .clues) e)) (w .none) ∙ givens-none (b .clues)) (a .2))
 
   module _ (g f first second : List ℕ) (pg : g ≡ givensOf (b .clues)) (pf : f ≡ fresh g)
       (p : first ≡ sectionBytes Clues (clueSets g)) (q : second ≡ sectionBytes Removed (lacking f (b .masks))) where
@@ -60,8 +62,9 @@ module _ (b : Board) (w : Admitted b) where
     board : boardFrom g (lacking (fresh g) (b .masks)) ≡ b
     unfolding boardFrom
     board =
-        ap (λ (x : List ℤ). handed x (lacking (fresh g) (lacking (fresh g) (b .masks)))) (ap cluesFrom pg ∙ clues-again (b .clues) (good .0))
-        ∙ ap (λ (x : List ℕ). handed (b .clues) x) (lacking-twice (fresh g) (b .masks) (fit .size) (λ c h. fit .under .at c))
+        ap (λ (x : List ℤ). handed x noEntries (lacking (fresh g) (lacking (fresh g) (b .masks)))) (ap cluesFrom pg ∙ clues-again (b .clues) (good .0))
+        ∙ ap (λ (x : List ℤ). handed (b .clues) x (lacking (fresh g) (lacking (fresh g) (b .masks)))) (sym (w .none))
+        ∙ ap (λ (x : List ℕ). handed (b .clues) (b .entries) x) (lacking-twice (fresh g) (b .masks) (fit .size) (λ c h. fit .under .at c))
 
     all-read : readOf (recordOf b) ≡ gives b
     all-read =
@@ -96,18 +99,26 @@ module _ (bs : List ℕ) (h : (i : ℕ) → getD bs i 0 < 256) where
         ∙ sym (clue-part .1 ∙ ap (λ (x : List ℕ). sectionBytes Clues (c .sets) ++ x) (removed-part .1
         ∙ ap (λ (x : List ℕ). sectionBytes Removed (r .sets) ++ x) (drop-of-length-le bs end) ∙ append-nil (sectionBytes Removed (r .sets))))
 
-    pub board-admitted : Admitted (boardFrom (digitsIn (c .sets)) (r .sets))
+    pub board-unentered : Unentered (boardFrom (digitsIn (c .sets)) (r .sets))
     unfolding boardFrom
-    board-admitted =
-        let cl = clues-good (digitsIn (c .sets)) digits in
-        let m = read-admissible (digitsIn (c .sets)) digits (r .sets) (removed-part .0) in
+    board-unentered =
+        let g = digitsIn (c .sets) in
+        let cl = clues-good g digits in
+        let m = read-admissible g digits (r .sets) (removed-part .0) in
         record {
-          clues = cl .size;
-          masks = m .size;
-          taken = admitted (boardFrom (digitsIn (c .sets)) (r .sets)) cl (rw (givens-again (digitsIn (c .sets)) digits) m);
+          admitted =
+              record {
+                clues = cl .size;
+                entries = refl;
+                masks = m .size;
+                taken =
+                    admitted (boardFrom g (r .sets)) cl (no-entries (cluesFrom g))
+                    (subst (λ (x : List ℕ). Admissible x (lacking (fresh g) (r .sets))) (sym (givens-none (cluesFrom g) ∙ givens-again g digits)) m);
+              };
+          none = refl;
         }
 
-  write-again : (b : Board) → readOf bs ≡ gives b → Admitted b × (recordOf b ≡ bs)
+  write-again : (b : Board) → readOf bs ≡ gives b → Unentered b × (recordOf b ≡ bs)
   unfolding readOf readRemoved
   write-again b t =
       let c = then-gives (readSection Clues allSets bs 0) t in
@@ -115,8 +126,8 @@ module _ (bs : List ℕ) (h : (i : ℕ) → getD bs i 0 < 256) where
       let r = then-gives (readSection Removed (openSets g (fresh g)) bs (c .0 .next)) (c .2) in
       let e = tested-gives (leb (length bs) (r .0 .next)) _ _ (r .2) in
       let end = leb-true (length bs) (r .0 .next) (e .0) in
-      subst (λ (x : Board). Admitted x × (recordOf x ≡ bs)) (gives-same (e .1))
-      (board-admitted (c .0) (r .0) (c .1) (r .1) end, bytes-again (c .0) (r .0) (c .1) (r .1) end)
+      subst (λ (x : Board). Unentered x × (recordOf x ≡ bs)) (gives-same (e .1))
+      (board-unentered (c .0) (r .0) (c .1) (r .1) end, bytes-again (c .0) (r .0) (c .1) (r .1) end)
 
 -- ---- the laws
 

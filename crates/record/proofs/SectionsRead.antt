@@ -13,7 +13,7 @@ use Rattle.stops.specs.declared.Stop.{Stop}
 use Rattle.stops.specs.declared.Stop.the-variants.{RecordBytes}
 use Rattle.candidates.proofs.Tests.{cond-true, cond-false}
 use Rattle.steps.specs.Boards as S
-use Rattle.steps.specs.Boards.{fresh}
+use Rattle.steps.specs.Boards.{fresh, noEntries}
 use Rattle.board.specs.Boards.{noBoard}
 use Rattle.record.specs.declared.sections.Reading.{Reading}
 use Rattle.record.specs.declared.sections.Reading.the-variants.{Refused}
@@ -82,7 +82,7 @@ module _ (g bs : List ℕ) (i : ℕ) where
     pub removed-read : length bs ≤ n → gives (boardFrom g s) ≡ readRemoved g bs i
     removed-read h = sym (cond-true (leb (length bs) n) (gives (boardFrom g s)) (stop (RecordBytes (pos n))) (le-leb (length bs) n h)) ∙ from-removed e
 
-pub board-from : (g s : List ℕ) {f : List ℕ} → f ≡ fresh g → {c : List ℤ} {m : List ℕ} → c ≡ cluesFrom g → m ≡ lacking f s → _≡_ {A = S.Board} (record { clues = c; masks = m }) (boardFrom g s)
+pub board-from : (g s : List ℕ) {f : List ℕ} → f ≡ fresh g → {c : List ℤ} {m : List ℕ} → c ≡ cluesFrom g → m ≡ lacking f s → _≡_ {A = S.Board} (record { clues = c; entries = noEntries; masks = m }) (boardFrom g s)
 unfolding boardFrom
 board-from g s {f} p q r =
     let w : lacking f s ≡ lacking (fresh g) s = ap (λ (x : List ℕ). lacking x s) p in

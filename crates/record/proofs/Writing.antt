@@ -15,7 +15,7 @@ use Rattle.stops.specs.Answer.{Answer, gives, stop, then}
 use Rattle.stops.specs.declared.Stop.the-variants.{TooFewBytes}
 use Rattle.candidates.proofs.Tests.{by-test, cond-true, cond-false}
 use Rattle.grid.proofs.Lists.{range-on, range-end}
-use Rattle.steps.specs.Boards.{Board, givensOf, fresh}
+use Rattle.steps.specs.Boards.{Board, givensOf, fresh, noEntries}
 use Rattle.steps.specs.Calls.{checkOf}
 use Rattle.steps.specs.Loops.{range, select}
 use Rattle.record.specs.declared.sections.Section.{Section}
@@ -115,6 +115,11 @@ module _ (l : List ℕ) (i n : ℕ) where
 -- ---- the record
 
 module _ (b : Board) where
+  -- entries have no part in it
+  pub record-bare : recordOf (record { clues = b .clues; entries = noEntries; masks = b .masks }) ≡ recordOf b
+  unfolding recordOf
+  record-bare = refl
+
   pub record-is : {g f cs ls : List ℕ} → g ≡ givensOf (b .clues) → f ≡ fresh g → cs ≡ clueSets g → ls ≡ lacking f (b .masks)
       → sectionBytes Clues cs ++ sectionBytes Removed ls ≡ recordOf b
   unfolding recordOf

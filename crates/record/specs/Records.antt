@@ -1,4 +1,4 @@
--- The record of a board (module 14): its clue section, then its removed section. The board is its clues and what its masks lack of the fresh ones.
+-- The record of a board (module 14): its clue section, then its removed section. A board without entries is its clues and what its masks lack of the fresh ones.
 use mathlib.Core.Bool.{cond}
 use mathlib.Core.List.{List, _++_, map}
 use Prim.Native.Nat.{ℕ, _+_}
@@ -9,7 +9,7 @@ use Rattle.stops.specs.Answer.{Answer, gives, stop, then}
 use Rattle.stops.specs.declared.Stop.the-variants.{TooFewBytes, RecordBytes}
 use Rattle.candidates.specs.Masks.{minus, lowest}
 use Rattle.grid.specs.Cells.{cells}
-use Rattle.steps.specs.Boards.{Board, at, given, givensOf, isOpen, givenMask, fresh}
+use Rattle.steps.specs.Boards.{Board, at, given, givensOf, isOpen, givenMask, fresh, noEntries}
 use Rattle.steps.specs.Calls.{checkOf}
 use Rattle.record.specs.declared.sections.Section.the-variants.{Clues, Removed}
 use Rattle.record.specs.Sections.{sectionBytes, readSection}
@@ -26,7 +26,7 @@ lacking f m = map (λ c. minus (at f c) (at m c)) cells
 
 -- ---- the writer
 
--- the clues, and "what the fresh mask has and the board lacks"
+-- the clues, and "what the fresh mask has and the board lacks". "Until entries have a record, module 14 writes the printed clues and what their own fresh masks have and the board lacks." (document 02, F-6)
 unfoldable pub recordOf : Board → List ℕ
 recordOf b =
     let g = givensOf (b .clues) in
@@ -36,7 +36,7 @@ recordOf b =
 abbrev pub writeIn : ℕ → ℕ → Answer ℕ
 writeIn n lent = cond (leb n lent) (gives n) (stop (TooFewBytes (pos lent)))
 
--- "the record writer after its board's 3 and 9"
+-- "the record writer after its board's 3 and 9", and 8 between them
 unfoldable pub writeOf : Board → ℕ → Answer ℕ
 writeOf b lent = then (checkOf b) λ _. writeIn (length (recordOf b)) lent
 
@@ -65,9 +65,9 @@ openSets g f = map (λ c. cond (isOpen g c) (at f c) 0) cells
 abbrev pub cluesFrom : List ℕ → List ℤ
 cluesFrom g = map (λ c. pos (given g c)) cells
 
--- the board with these givens whose masks lack the candidates of s
+-- the board with these givens as its clues, no entries, and masks that lack the candidates of s
 unfoldable pub boardFrom : List ℕ → List ℕ → Board
-boardFrom g s = record { clues = cluesFrom g; masks = lacking (fresh g) s }
+boardFrom g s = record { clues = cluesFrom g; entries = noEntries; masks = lacking (fresh g) s }
 
 -- the removed section, and nothing after it: "left over after all sections", with the "offset of the first such byte"
 unfoldable pub readRemoved : List ℕ → List ℕ → ℕ → Answer Board

@@ -1,9 +1,11 @@
-// The record of a board (module 14): its clue section and then its removed section, what the fresh masks have and the board lacks.
+// The record of a board (module 14): its clue section and then its removed section, what the fresh masks of its clues have and the board lacks.
+// Entries have no record yet: one that stands on the board is written as what its cell and its peers lack.
 ghost use mathlib.Core.Path.{_≡_};
 ghost use mathlib.Core.List.{_++_};
 ghost use Prim.Native.Nat.{_≤_};
 ghost use lib.ListN.{drop, length};
 ghost use Rattle.stops.specs.Answer.{checkAnswer, map, passing, valueOr, writingAnswer};
+ghost use Rattle.steps.specs.Boards.{noEntries};
 ghost use Rattle.board.specs.Boards.{boardOf, handed, noBoard};
 ghost use Rattle.record.specs.Records.{readOf, readRemoved, recordOf, writeIn, writeOf, written};
 ghost use Rattle.record.specs.Sections.{leading, readingAnswer, stored};
@@ -28,9 +30,9 @@ pub struct RecordRead {
     pub board: Board,
 }
 
-// The record of a board, from the first byte on; what is returned is its length.
+// The record of clues and masks, from the first byte on; what is returned is its length.
 fn put_record(clues: &[i32; 81], masks: &[u16; 81], bytes: &mut [u8; 2919]) -> usize
-    ensures { λ r. ⌜ (now (bytes .exit) ≡ stored (now (bytes .entry)) 0 (recordOf (handed (now (clues .entry)) (now (masks .entry))))) × (r ≡ length (recordOf (handed (now (clues .entry)) (now (masks .entry))))) × (r ≤ 2919) ⌝ }
+    ensures { λ r. ⌜ (now (bytes .exit) ≡ stored (now (bytes .entry)) 0 (recordOf (handed (now (clues .entry)) noEntries (now (masks .entry))))) × (r ≡ length (recordOf (handed (now (clues .entry)) noEntries (now (masks .entry))))) × (r ≤ 2919) ⌝ }
 {
     let givens = givens_of(clues);
     let fresh = fresh_masks(&givens);
@@ -66,13 +68,14 @@ fn copy_out(bytes: &[u8; 2919], count: usize, out: &mut [u8]) -> Writing
     Writing::Written(count)
 }
 
-// The record of a board in the first lent bytes: stops 3 and 9 of the board, then stop 6 with the lent length.
+// The record of a board in the first lent bytes: stops 3, 8 and 9 of the board, then stop 6 with the lent length.
 pub fn write_record(board: Board, out: &mut [u8]) -> Writing
     ensures { λ r. ⌜ (writingAnswer r ≡ writeOf (boardOf board) (length (now (out .entry)))) × (now (out .exit) ≡ written (writeOf (boardOf board) (length (now (out .entry)))) (recordOf (boardOf board)) (now (out .entry))) ⌝ }
 {
     let clues = board.clues;
+    let entries = board.entries;
     let masks = board.masks;
-    match check(&clues, &masks) {
+    match check(&clues, &entries, &masks) {
         Check::Refused(stop) => Writing::Refused(stop),
         Check::Passed => {
             let mut bytes = [0u8; 2919];
@@ -96,7 +99,7 @@ fn refused(reading: Reading) -> RecordRead
     }
 }
 
-// The board with these givens, from the removed section on.
+// The board with these givens as its clues and no entries, from the removed section on.
 fn read_removed(givens: &[u8; 81], bytes: &[u8], start: usize) -> RecordRead
     ensures { λ r. ⌜ (passing (checkAnswer (r .answer)) (boardOf (r .board)) ≡ readRemoved (now (givens .entry)) (now (bytes .entry)) start) × (boardOf (r .board) ≡ valueOr noBoard (readRemoved (now (givens .entry)) (now (bytes .entry)) start)) ⌝ }
 {
@@ -114,7 +117,11 @@ fn read_removed(givens: &[u8; 81], bytes: &[u8], start: usize) -> RecordRead
     let masks = sets::lacking_sets(&fresh, &removed);
     RecordRead {
         answer: Check::Passed,
-        board: Board { clues, masks },
+        board: Board {
+            clues,
+            entries: [0; 81],
+            masks,
+        },
     }
 }
 

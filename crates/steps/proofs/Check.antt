@@ -1,4 +1,4 @@
--- The check of a handed board: it admits just the boards whose clues are 0 to 9 and whose masks are admissible. Assumes nothing.
+-- The check of a handed board: it admits just the boards whose clues are 0 to 9, whose entries are 0 to 9 and on no clue, and whose masks are admissible. Assumes nothing.
 use mathlib.Core.Path.{_≡_, refl, sym, ap, _∙_, subst}
 use mathlib.Core.Logic.{⊎-elim}
 use mathlib.Core.Bool.{Bool, true, false, not, _&&_, _||_, true≢false}
@@ -11,18 +11,17 @@ use borrow.Author.Tests.{eqb-true, eq-eqb, leb-true, not-true, not-false}
 use lib.Dec.{T, eqb, leb}
 use lib.IntN.{ℤ, pos, negsuc}
 use lib.ListN.{length, getD, List·getD-eq-default}
-use Rattle.stops.specs.Answer.{gives, stopAt, then}
+use Rattle.stops.specs.Answer.{Answer, gives, stopAt, then}
 use Rattle.stops.specs.declared.Stop.{Stop}
-use Rattle.stops.specs.declared.Stop.the-variants.{BadClue, BadMask}
+use Rattle.stops.specs.declared.Stop.the-variants.{BadClue, BadEntry, BadMask}
 use Rattle.stops.proofs.Answers.{stop-gives}
 use Rattle.candidates.specs.Masks.{Sub, minus}
 use Rattle.candidates.proofs.Tests.{allBelow, below, by-test, cond-true, T-true, both-left, both-right, either}
 use Rattle.candidates.proofs.Order.{sub-none, sub-of-minus, minus-of-sub}
 use Rattle.grid.specs.Cells.{cells}
 use Rattle.grid.proofs.Cells.{at-cells}
-use Rattle.steps.specs.Boards.{Board, at, digitOf, givensOf, given, isOpen, freshAt, fresh, Givens, Admissible}
-use Rattle.steps.specs.Calls.{badClue, misfit, badMask, firstBadClue, checkOf}
-use Rattle.steps.specs.Calls.{Clues}
+use Rattle.steps.specs.Boards.{Board, at, digitOf, givensOf, givens, given, isOpen, freshAt, fresh, Givens, Admissible}
+use Rattle.steps.specs.Calls.{Clues, Entries, badClue, badEntry, misfit, badMask, firstBadClue, firstBadEntry, checkOf, Admitted}
 use Rattle.steps.specs.Loops.{first}
 use Rattle.steps.proofs.Fresh.{fresh-at, fresh-out}
 use Rattle.steps.proofs.Searches.{cells-none, none-cells}
@@ -92,25 +91,43 @@ module _ (g m : List ℕ) where
 
 -- ---- the check
 
--- neither stop
-pub stops-none : (n k : ℤ → Stop) (x y : Option ℕ) → then (stopAt n x) (λ _. stopAt k y) ≡ gives tt → (x ≡ none) × (y ≡ none)
-stops-none n k none none t = (refl, refl)
-stops-none n k none (some c) t = absurd (stop-gives t)
-stops-none n k (some c) y t = absurd (stop-gives t)
+-- no stop here, and none later
+pub stop-none : (case : ℤ → Stop) (x : Option ℕ) (later : Answer (Unit {0})) → then (stopAt case x) (λ _. later) ≡ gives tt → (x ≡ none) × (later ≡ gives tt)
+stop-none case none later t = (refl, t)
+stop-none case (some c) later t = absurd (stop-gives t)
 
+-- none at the end
+pub last-none : (case : ℤ → Stop) (x : Option ℕ) → stopAt case x ≡ gives tt → x ≡ none
+last-none case none t = refl
+last-none case (some c) t = absurd (stop-gives t)
+
+-- the three answers of the check
 module _ (b : Board) where
-  pub admitted : Clues (b .clues) → Admissible (givensOf (b .clues)) (b .masks) → checkOf b ≡ gives tt
-  unfolding checkOf
-  admitted ok a =
-      ap (λ (x : Option ℕ). then (stopAt BadClue x) (λ _. stopAt BadMask (first (badMask (givensOf (b .clues)) (b .masks)) cells)))
-      (cells-none (λ c. badClue (getD (b .clues) c (pos 0))) (ok .good))
-      ∙ ap (stopAt BadMask)
-      (cells-none (badMask (givensOf (b .clues)) (b .masks)) (admissible-good (givensOf (b .clues)) (b .masks) a))
+  abbrev pub maskCheck : Answer (Unit {0})
+  maskCheck = stopAt BadMask (first (badMask (givens b) (b .masks)) cells)
 
-  pub admits : length (b .clues) ≡ 81 → length (b .masks) ≡ 81 → checkOf b ≡ gives tt → Clues (b .clues) × Admissible (givensOf (b .clues)) (b .masks)
+  abbrev pub entryCheck : Answer (Unit {0})
+  entryCheck = then (stopAt BadEntry (firstBadEntry (b .clues) (b .entries))) (λ _. maskCheck)
+
+  pub admitted : Clues (b .clues) → Entries (b .clues) (b .entries) → Admissible (givens b) (b .masks) → checkOf b ≡ gives tt
   unfolding checkOf
-  admits lc lm t =
-      let w = stops-none BadClue BadMask (firstBadClue (b .clues)) (first (badMask (givensOf (b .clues)) (b .masks)) cells) t in (
-        record { size = lc; good = none-cells (λ c. badClue (getD (b .clues) c (pos 0))) (w .0) },
-        good-admissible (givensOf (b .clues)) (b .masks) lm (none-cells (badMask (givensOf (b .clues)) (b .masks)) (w .1)),
+  admitted ok en a =
+      ap (λ (x : Option ℕ). then (stopAt BadClue x) (λ _. entryCheck)) (cells-none (λ c. badClue (getD (b .clues) c (pos 0))) (ok .good))
+      ∙ ap (λ (x : Option ℕ). then (stopAt BadEntry x) (λ _. maskCheck)) (cells-none (λ c. badEntry (getD (b .clues) c (pos 0)) (getD (b .entries) c (pos 0))) (en .good))
+      ∙ ap (stopAt BadMask) (cells-none (badMask (givens b) (b .masks)) (admissible-good (givens b) (b .masks) a))
+
+  -- where the check found nothing
+  pub none-found : checkOf b ≡ gives tt → (firstBadClue (b .clues) ≡ none) × (firstBadEntry (b .clues) (b .entries) ≡ none) × (first (badMask (givens b) (b .masks)) cells ≡ none)
+  unfolding checkOf
+  none-found t =
+      let x = stop-none BadClue (firstBadClue (b .clues)) entryCheck t in
+      let y = stop-none BadEntry (firstBadEntry (b .clues) (b .entries)) maskCheck (x .1) in
+      (x .0, y .0, last-none BadMask (first (badMask (givens b) (b .masks)) cells) (y .1))
+
+  pub admits : Admitted b → Clues (b .clues) × Entries (b .clues) (b .entries) × Admissible (givens b) (b .masks)
+  admits w =
+      let n = none-found (w .taken) in (
+        record { size = w .clues; good = none-cells (λ c. badClue (getD (b .clues) c (pos 0))) (n .0) },
+        record { size = w .entries; good = none-cells (λ c. badEntry (getD (b .clues) c (pos 0)) (getD (b .entries) c (pos 0))) (n .1) },
+        good-admissible (givens b) (b .masks) (w .masks) (none-cells (badMask (givens b) (b .masks)) (n .2)),
       )

@@ -19,6 +19,7 @@ pub mod Wide
 pub mod Fillings
 pub mod FreshDigits
 pub mod Clues
+pub mod Entries
 pub mod Spots
 pub mod PassTurns
 pub mod Reports
@@ -30,4 +31,5 @@ pub mod Ported
 pub mod Chains
 pub mod ListTheorem
 pub mod Lists
+pub mod EntriesStand
 pub mod SinglesHold

@@ -1,25 +1,29 @@
 -- The theorem about lists of calls and about settling: `list-theorem`. Assumes nothing.
-use mathlib.Core.Path.{_≡_, refl, sym, _∙_, subst}
-use mathlib.Core.Logic.{_⊎_, inl, inr, ⊎-elim}
+use mathlib.Core.Path.{_≡_, refl, sym, ap, _∙_, subst}
+use mathlib.Core.Logic.{_⊎_, _↔_, inl, inr, ⊎-elim}
 use mathlib.Core.Bool.{true, false, not, true≢false}
+use mathlib.Core.List as lists
 use mathlib.Core.List.{List, [], _∷_}
-use mathlib.Core.Option.{Option, none, some}
 use Prim.Native.Nat.{ℕ}
 use native.Mathlib.Omega.{arith}
 use borrow.Author.Tests.{not-true}
 use lib.IntN.{ℤ}
+use lib.ListN.{length}
 use Rattle.candidates.proofs.Tests.{by-test}
+use Rattle.grid.specs.Fillings.{verified}
 use Rattle.grid.proofs.Fillings.{verified-correct}
 use Rattle.candidates.proofs.Tests.{both-left, both-right}
-use Rattle.steps.specs.Boards.{Board, givensOf, fresh, Givens, Admissible}
-use Rattle.steps.specs.Calls.{Call, updateCandidates, nakedPairsCall, boxLineCall, xWingCall, nakedSinglesCall, hiddenSinglesCall, advancedCall, wide, settlingCall, chainCall, isChain, withoutChain, outcome, advancedOutcome, answer, left, checkOf, run, opened}
-use Rattle.stops.specs.Answer.{Answer, gives, passing}
-use Rattle.steps.proofs.ListTheorem.{BoardSettled, ListEnds, SettlingEnds, ListTheorem}
-use Rattle.steps.specs.Calls.{Clues}
+use Rattle.steps.specs.Boards.{Board, givensOf, together, givens, noEntries, fresh, Givens, Admissible}
+use Rattle.steps.specs.Calls.{Clues, Entries, Admitted, Call, Outcome, updateCandidates, nakedPairsCall, boxLineCall, xWingCall, nakedSinglesCall, hiddenSinglesCall, advancedCall, wide, settlingCall, chainCall, isChain, withoutChain, outcome, advancedOutcome, answer, left, checkOf, run, opened, openedWith}
+use Rattle.steps.specs.Entries.{EntryCall, entryAnswer, Deed, step, entry, deed, play, callsIn}
+use Rattle.stops.specs.Answer.{Answer, gives, stop, passing, valueOr}
+use Rattle.steps.proofs.ListTheorem.{BoardSettled, OneEnd, FillingsStay, SettlingEnds, ListTheorem}
+use Rattle.steps.specs.Fillings.{KeepsClues, InMasks}
 use Rattle.steps.specs.Passes.{Settled, settle}
 use Rattle.steps.proofs.Chains.{chains-admissible}
 use Rattle.steps.proofs.Check.{clues-givens, admitted, admits}
 use Rattle.steps.proofs.Clues.{keeps-in, in-keeps}
+use Rattle.steps.proofs.Entries.{together-clues, keeps-together, together-keeps, no-entries, keeps-none, entries-stay, entry-leaves}
 use Rattle.steps.proofs.Fresh.{fresh-admissible, total-most}
 use Rattle.steps.proofs.Ported.{nakedPairs-reach, boxLines-reach, xWings-reach}
 use Rattle.steps.proofs.Masks.{total-under}
@@ -60,86 +64,147 @@ call-admissible (wide k) g m ok a = reach-admissible g (pass-reach g k m) a
 call-admissible settlingCall g m ok a = reach-admissible g (settling-from g m ok a .reach) a
 call-admissible chainCall g m ok a = chains-admissible g m a
 
--- ---- lists of calls
+-- ---- one call on a board
 
--- a board of these clues whose masks have a property
-pub record BoardOf (clues : List ℤ) (P : List ℕ → Type 0) (b : Board) : Type 0 where
-  pub same : b .clues ≡ clues
-  pub masks : P (b .masks)
+-- clues and entries that no stop refuses, and a property of givens and masks
+pub record Good (P : List ℕ → List ℕ → Type 0) (b : Board) : Type 0 where
+  pub clues : Clues (b .clues)
+  pub entries : Entries (b .clues) (b .entries)
+  pub masks : P (givens b) (b .masks)
 
-module _ (clues : List ℤ) (ok : Clues clues) where
-  abbrev g : List ℕ
-  g = givensOf clues
+-- a property that the fresh masks have
+abbrev Starts : (List ℕ → List ℕ → Type 0) → Type 0
+Starts P = (g : List ℕ) → P g (fresh g)
 
-  accepted : (b : Board) → BoardOf clues (Admissible g) b → checkOf b ≡ gives tt
-  accepted b r =
-      admitted b (subst Clues (sym (r .same)) ok) (subst (λ (z : List ℤ). Admissible (givensOf z) (b .masks)) (sym (r .same)) (r .masks))
+-- masks that wide instances reach from the fresh ones
+abbrev pub Reached : List ℕ → List ℕ → Type 0
+Reached g m = Reach g (fresh g) m
 
-  -- one call, on a board that is not refused
-  call-board : (P : List ℕ → Type 0) (k : Call) (b : Board) → b .clues ≡ clues → checkOf b ≡ gives tt → P (outcome k g (b .masks) .masks) → BoardOf clues P (left b (answer k b))
-  unfolding answer
-  call-board P k b e t p =
-      subst (λ (w : Answer (Unit {0})). BoardOf clues P (left b (passing w (outcome k (givensOf (b .clues)) (b .masks))))) (sym t)
-      (record { same = e; masks = subst (λ (z : List ℤ). P (outcome k (givensOf z) (b .masks) .masks)) (sym e) p })
+board-givens : (b : Board) → Givens (givens b)
+board-givens b = clues-givens (together (b .clues) (b .entries))
 
-  run-admissible : (ks : List Call) (b : Board) → BoardOf clues (Admissible g) b → BoardOf clues (Admissible g) (run ks b)
-  unfolding run
-  run-admissible [] b r = r
-  run-admissible (k ∷ ks) b r =
-      run-admissible ks (left b (answer k b)) (call-board (Admissible g) k b (r .same) (accepted b r) (call-admissible k g (b .masks) (clues-givens clues) (r .masks)))
+pub reached-admissible : {b : Board} → Good Reached b → Good Admissible b
+reached-admissible {b} r = record { clues = r .clues; entries = r .entries; masks = reach-admissible (givens b) (r .masks) (fresh-admissible (givens b)) }
 
-  -- reached from the fresh masks
-  abbrev pub Reached : Board → Type 0
-  Reached = BoardOf clues (Reach g (fresh g))
+pub admitted-good : (b : Board) → Admitted b → Good Admissible b
+admitted-good b a = let w = admits b a in record { clues = w .0; entries = w .1; masks = w .2 }
 
-  pub reached-admissible : {b : Board} → Reached b → BoardOf clues (Admissible g) b
-  reached-admissible r = record { same = r .same; masks = reach-admissible g (r .masks) (fresh-admissible g) }
+accepted : (b : Board) → Good Admissible b → checkOf b ≡ gives tt
+accepted b r = admitted b (r .clues) (r .entries) (r .masks)
 
-  call-reached : (k : Call) (b : Board) → isChain k ≡ false → Reached b → Reached (left b (answer k b))
-  call-reached k b n r =
-      call-board (Reach g (fresh g)) k b (r .same) (accepted b (reached-admissible r))
-      (⊎-elim (λ p. reach-trans g (r .masks) p) (λ e. reach-eq g start (sym e)) (call-leaves k g (b .masks) n (clues-givens clues) (reached-admissible r .masks)))
+pub opened-good : (P : List ℕ → List ℕ → Type 0) → Starts P → (clues entries : List ℤ) → Clues clues → Entries clues entries → Good P (openedWith clues entries)
+unfolding openedWith
+opened-good P fresh clues entries ok en = record { clues = ok; entries = en; masks = fresh (givensOf (together clues entries)) }
 
-  run-reached : (ks : List Call) (b : Board) → withoutChain ks ≡ true → Reached b → Reached (run ks b)
-  unfolding run
-  run-reached [] b n r = r
-  run-reached (k ∷ ks) b n r =
-      run-reached ks (left b (answer k b)) (both-right (not (isChain k)) (withoutChain ks) n) (call-reached k b (not-true (isChain k) (both-left (not (isChain k)) (withoutChain ks) n)) r)
+-- on a board that is not refused
+call-board : (P : List ℕ → List ℕ → Type 0) (k : Call) (b : Board) → Good Admissible b → P (givens b) (outcome k (givens b) (b .masks) .masks) → Good P (left b (answer k b))
+unfolding answer
+call-board P k b r p =
+    subst (λ (w : Answer (Unit {0})). Good P (left b (passing w (outcome k (givens b) (b .masks))))) (sym (accepted b r)) (record { clues = r .clues; entries = r .entries; masks = p })
 
-  pub ended : (ks : List Call) → withoutChain ks ≡ true → Reached (run ks (opened clues))
-  unfolding opened
-  ended ks n = run-reached ks (opened clues) n (record { same = refl; masks = start })
+call-admits : (k : Call) (b : Board) → Good Admissible b → Good Admissible (left b (answer k b))
+call-admits k b r = call-board Admissible k b r (call-admissible k (givens b) (b .masks) (board-givens b) (r .masks))
 
-  pub never-refused : (ks : List Call) → checkOf (run ks (opened clues)) ≡ gives tt
-  unfolding opened
-  never-refused ks = accepted (run ks (opened clues)) (run-admissible ks (opened clues) (record { same = refl; masks = fresh-admissible g }))
+call-reached : (k : Call) (b : Board) → isChain k ≡ false → Good Reached b → Good Reached (left b (answer k b))
+call-reached k b n r =
+    let a = reached-admissible r in
+    call-board Reached k b a
+    (⊎-elim (λ p. reach-trans (givens b) (r .masks) p) (λ e. reach-eq (givens b) start (sym e)) (call-leaves k (givens b) (b .masks) n (board-givens b) (a .masks)))
+
+-- entering and rubbing out, refused or not
+entry-good : (P : List ℕ → List ℕ → Type 0) → Starts P → (k : EntryCall) (b : Board) → Good P b → Good P (valueOr b (entryAnswer k b))
+entry-good P fresh k b r =
+    entry-leaves (Good P) k b r (λ es e. opened-good P fresh (b .clues) es (r .clues) (entries-stay (b .clues) (b .entries) (r .entries) k es e))
+
+pub deed-admits : (x : Deed) (b : Board) → Good Admissible b → Good Admissible (deed x b)
+unfolding deed
+deed-admits (step k) b r = call-admits k b r
+deed-admits (entry k) b r = entry-good Admissible fresh-admissible k b r
+
+-- ---- lists
+
+play-admits : (xs : List Deed) (b : Board) → Good Admissible b → Good Admissible (play xs b)
+unfolding play
+play-admits [] b r = r
+play-admits (x ∷ xs) b r = play-admits xs (deed x b) (deed-admits x b r)
+
+play-reached : (xs : List Deed) (b : Board) → withoutChain (callsIn xs) ≡ true → Good Reached b → Good Reached (play xs b)
+unfolding play deed
+play-reached [] b n r = r
+play-reached (step k ∷ xs) b n r =
+    play-reached xs (left b (answer k b)) (both-right (not (isChain k)) (withoutChain (callsIn xs)) n) (call-reached k b (not-true (isChain k) (both-left (not (isChain k)) (withoutChain (callsIn xs)) n)) r)
+play-reached (entry k ∷ xs) b n r = play-reached xs (valueOr b (entryAnswer k b)) n (entry-good Reached (λ g. start) k b r)
+
+-- a list of board calls alone
+pub play-run : (ks : List Call) (b : Board) → play (lists.map step ks) b ≡ run ks b
+unfolding play run deed
+play-run [] b = refl
+play-run (k ∷ ks) b = play-run ks (left b (answer k b))
+
+pub calls-alone : (ks : List Call) → callsIn (lists.map step ks) ≡ ks
+calls-alone [] = refl
+calls-alone (k ∷ ks) = ap (λ (l : List Call). k ∷ l) (calls-alone ks)
+
+run-reached : (ks : List Call) (b : Board) → withoutChain ks ≡ true → Good Reached b → Good Reached (run ks b)
+run-reached ks b n r = subst (Good Reached) (play-run ks b) (play-reached (lists.map step ks) b (ap withoutChain (calls-alone ks) ∙ n) r)
+
+-- it leaves clues and entries
+run-fixed : (ks : List Call) (b : Board) → (run ks b .clues ≡ b .clues) × (run ks b .entries ≡ b .entries)
+unfolding run
+run-fixed [] b = (refl, refl)
+run-fixed (k ∷ ks) b =
+    let w = run-fixed ks (left b (answer k b)) in
+    let v = one (answer k b) in
+    (w .0 ∙ v .0, w .1 ∙ v .1)
+  where
+    one : (a : Answer Outcome) → (left b a .clues ≡ b .clues) × (left b a .entries ≡ b .entries)
+    one (gives o) = (refl, refl)
+    one (stop s) = (refl, refl)
+
+-- entering and rubbing out leave a fresh board
+enter-afresh : (clues : List ℤ) (ks : List EntryCall) (b : Board) → b ≡ openedWith clues (b .entries) → play (lists.map entry ks) b ≡ openedWith clues (play (lists.map entry ks) b .entries)
+unfolding play deed openedWith
+enter-afresh clues [] b e = e
+enter-afresh clues (k ∷ ks) b e =
+    enter-afresh clues ks (valueOr b (entryAnswer k b))
+    (entry-leaves (λ (b : Board). b ≡ openedWith clues (b .entries)) k b e (λ es t. ap (λ (l : List ℤ). openedWith l es) (ap (λ (x : Board). x .clues) e)))
 
 -- ---- the theorem
 
-lists-end : (clues : List ℤ) → Clues clues → (ks ls : List Call) → withoutChain ks ≡ true → withoutChain ls ≡ true → ListEnds clues ks ls
-lists-end clues ok ks ls nk nl =
-    record { one = λ s. (λ e. subst BoardSettled e s, λ t. same s t); fillings = λ f n v. (in-keeps clues ok f (verified-correct f n v) (B .masks) (reached-admissible clues ok p .masks), λ k. keeps-in clues ok f (verified-correct f n v) k (B .masks) (p .masks)) }
-  where
-    B : Board
-    B = run ks (opened clues)
+module _ (clues entries : List ℤ) (ok : Clues clues) (en : Entries clues entries) where
+  abbrev O : Board
+  O = openedWith clues entries
 
-    C : Board
-    C = run ls (opened clues)
+  pub played : (xs : List Deed) → withoutChain (callsIn xs) ≡ true → Good Reached (play xs O)
+  played xs n = play-reached xs O n (opened-good Reached (λ g. start) clues entries ok en)
 
-    p : Reached clues ok B
-    p = ended clues ok ks nk
+  never-refused : (xs : List Deed) → checkOf (play xs O) ≡ gives tt
+  never-refused xs = accepted (play xs O) (play-admits xs O (opened-good Admissible fresh-admissible clues entries ok en))
 
-    q : Reached clues ok C
-    q = ended clues ok ls nl
+  fillings-stay : (xs : List Deed) → withoutChain (callsIn xs) ≡ true → FillingsStay (play xs O)
+  fillings-stay xs n f l v =
+      let B = play xs O in
+      let p = played xs n in
+      let t = together-clues (B .clues) (B .entries) (p .clues) (p .entries) in
+      let r = verified-correct f l v in (
+        λ i. together-keeps B f (p .clues) (p .entries) (in-keeps (together (B .clues) (B .entries)) t f r (B .masks) (reached-admissible p .masks) i),
+        λ k. keeps-in (together (B .clues) (B .entries)) t f r (keeps-together B f k) (B .masks) (p .masks),
+      )
 
-    settled : {b : Board} → Reached clues ok b → BoardSettled b → Settled (givensOf clues) (b .masks)
-    settled {b} r s = subst (λ (z : List ℤ). Settled (givensOf z) (b .masks)) (r .same) s
+  lists-end : (ks ls : List Call) → withoutChain ks ≡ true → withoutChain ls ≡ true → OneEnd (run ks O) (run ls O)
+  lists-end ks ls nk nl s = (λ e. subst BoardSettled e s, λ t. same t)
+    where
+      reached : (ks : List Call) → withoutChain ks ≡ true → Good Reached (run ks O)
+      reached ks n = run-reached ks O n (opened-good Reached (λ g. start) clues entries ok en)
 
-    same : BoardSettled B → BoardSettled C → B ≡ C
-    same s t =
-        let e : B .clues ≡ C .clues = p .same ∙ sym (q .same) in
-        let m : B .masks ≡ C .masks = one-end (givensOf clues) (p .masks) (q .masks) (settled p s) (settled q t) in
-        λ i. record { clues = e i; masks = m i }
+      same : BoardSettled (run ls O) → run ks O ≡ run ls O
+      same t =
+          let c : run ks O .clues ≡ run ls O .clues = run-fixed ks O .0 ∙ sym (run-fixed ls O .0) in
+          let e : run ks O .entries ≡ run ls O .entries = run-fixed ks O .1 ∙ sym (run-fixed ls O .1) in
+          let g : givens (run ls O) ≡ givens (run ks O) = sym (λ i. givensOf (together (c i) (e i))) in
+          let q : Reached (givens (run ks O)) (run ls O .masks) = subst (λ (h : List ℕ). Reached h (run ls O .masks)) g (reached ls nl .masks) in
+          let m : run ks O .masks ≡ run ls O .masks = one-end (givens (run ks O)) (reached ks nk .masks) q s (subst (λ (h : List ℕ). Settled h (run ls O .masks)) g t) in
+          λ i. record { clues = c i; entries = e i; masks = m i }
 
 pub settles : (g m : List ℕ) → Givens g → Admissible g m → SettlingEnds g m
 settles g m ok a =
@@ -159,9 +224,34 @@ settles g m ok a =
     }
 
 pub list-theorem : ListTheorem
+unfolding openedWith
 list-theorem =
     record {
       taken = never-refused;
+      fillings = fillings-stay;
       lists = lists-end;
-      settling = λ b a. let w = admits b (a .clues) (a .masks) (a .taken) in settles (givensOf (b .clues)) (b .masks) (clues-givens (b .clues)) (w .1);
+      afresh = λ clues entries ks. enter-afresh clues ks (openedWith clues entries) refl;
+      settling = λ b a. settles (givens b) (b .masks) (board-givens b) (admitted-good b a .masks);
     }
+
+-- Lists of board calls from the fresh board of the clues alone: no entry ever comes up, so what is kept is the clues.
+module _ (clues : List ℤ) (ok : Clues clues) where
+  pub opened-taken : checkOf (opened clues) ≡ gives tt
+  unfolding play
+  opened-taken = never-refused clues noEntries ok (no-entries clues) []
+
+  pub run-fillings : (ks : List Call) → withoutChain ks ≡ true → (f : List ℤ) → length f ≡ 81 → verified f ≡ true → InMasks (run ks (opened clues) .masks) f ↔ KeepsClues clues f
+  unfolding openedWith
+  run-fillings ks n f l v = (
+    λ i. subst (λ (z : List ℤ). KeepsClues z f) (fixed .0) (stay f l v .0 i .clues),
+    λ k. stay f l v .1 (keeps-none B (fixed .1) f (subst (λ (z : List ℤ). KeepsClues z f) (sym (fixed .0)) k)),
+  )
+    where
+      B : Board
+      B = run ks (opened clues)
+
+      fixed : (B .clues ≡ clues) × (B .entries ≡ noEntries)
+      fixed = run-fixed ks (opened clues)
+
+      stay : FillingsStay B
+      stay = subst FillingsStay (play-run ks (opened clues)) (fillings-stay clues noEntries ok (no-entries clues) (lists.map step ks) (ap withoutChain (calls-alone ks) ∙ n))

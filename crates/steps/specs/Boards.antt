@@ -1,4 +1,4 @@
--- A board: 81 clues and 81 masks. "A board is 81 clues (signed 32-bit numbers, 0 = open) and 81 masks."
+-- A board: 81 printed clues, 81 entries and 81 masks. "A board is 81 clues (signed 32-bit numbers, 0 = open) and 81 masks"; an entry is 0 where the cell has none (document 02, F-6).
 -- Everything below the check of a board works on its givens, the fixed digit of each cell, and its masks.
 use mathlib.Core.Path.{_≡_}
 use mathlib.Core.Bool.{Bool, true, false, cond}
@@ -6,14 +6,22 @@ use mathlib.Core.List.{List, [], _∷_, map}
 use Prim.Native.Nat.{ℕ, _+_, _-_, _≤_}
 use lib.Dec.{eqb, leb}
 use lib.IntN.{ℤ, pos, negsuc}
-use lib.ListN.{length, getD}
+use lib.ListN.{length, getD, replicate}
 use Rattle.candidates.specs.Masks.{minus, union, count, placeMask, Sub}
 use Rattle.grid.specs.Cells.{cells, peers}
 use Rattle.steps.specs.Loops.{each}
 
 pub record Board : Type 0 where
   pub clues : List ℤ
+  pub entries : List ℤ
   pub masks : List ℕ
+
+-- the same board with other masks
+abbrev pub withMasks : Board → List ℕ → Board
+withMasks b m = record { clues = b .clues; entries = b .entries; masks = m }
+
+abbrev pub noEntries : List ℤ
+noEntries = replicate 81 (pos 0)
 
 -- the mask of a cell
 abbrev pub at : List ℕ → ℕ → ℕ
@@ -26,8 +34,23 @@ abbrev pub digitOf : ℤ → ℕ
 digitOf (pos n) = cond (leb n 9) n 0
 digitOf (negsuc n) = 0
 
+abbrev pub noDigit : ℤ → Bool
+noDigit z = eqb (digitOf z) 0
+
 unfoldable pub givensOf : List ℤ → List ℕ
 givensOf clues = map (λ c. digitOf (getD clues c (pos 0))) cells
+
+-- a cell with a clue has it, another its entry
+abbrev pub jointOf : ℤ → ℤ → ℤ
+jointOf clue entry = cond (noDigit clue) entry clue
+
+-- "the printed clues and the remaining entries together": one clue grid
+unfoldable pub together : List ℤ → List ℤ → List ℤ
+together clues entries = map (λ c. jointOf (getD clues c (pos 0)) (getD entries c (pos 0))) cells
+
+-- "All board calls and stop 9 treat entries as clues"
+abbrev pub givens : Board → List ℕ
+givens b = givensOf (together (b .clues) (b .entries))
 
 abbrev pub given : List ℕ → ℕ → ℕ
 given g c = getD g c 0

@@ -8,10 +8,10 @@ use lib.Dec.{eqb, leb}
 use lib.IntN.{ℤ, pos, negsuc}
 use lib.ListN.{length, getD}
 use Rattle.stops.specs.Answer.{Answer, gives, stop, passing, stopAt, then}
-use Rattle.stops.specs.declared.Stop.the-variants.{BadClue, BadMask}
+use Rattle.stops.specs.declared.Stop.the-variants.{BadClue, BadEntry, BadMask}
 use Rattle.candidates.specs.Masks.{minus}
 use Rattle.grid.specs.Cells.{cells}
-use Rattle.steps.specs.Boards.{Board, at, givensOf, isOpen, freshAt, fresh}
+use Rattle.steps.specs.Boards.{Board, at, noDigit, givensOf, together, givens, withMasks, noEntries, isOpen, freshAt, fresh}
 use Rattle.steps.specs.Chains.{chains}
 use Rattle.steps.specs.Loops.{first}
 use Rattle.steps.specs.Passes.{Kind, pass, changed, settle, removedBy}
@@ -30,6 +30,15 @@ pub record Clues (clues : List ℤ) : Type 0 where
   pub size : length clues ≡ 81
   pub good : (c : ℕ) → c < 81 → badClue (getD clues c (pos 0)) ≡ false
 
+-- "an entry on a clue cell, or an entry outside 0 to 9 (0 = none)" (document 02, F-6)
+abbrev pub badEntry : ℤ → ℤ → Bool
+badEntry clue entry = badClue entry || not (noDigit entry || noDigit clue)
+
+-- "one set of entries": 81 that stop 8 admits beside the clues
+pub record Entries (clues entries : List ℤ) : Type 0 where
+  pub size : length entries ≡ 81
+  pub good : (c : ℕ) → c < 81 → badEntry (getD clues c (pos 0)) (getD entries c (pos 0)) ≡ false
+
 -- "mask holding what the fresh one lacks, or a clue cell's mask not its digit": x is the mask, f the fresh one
 abbrev pub misfit : ℕ → ℕ → Bool → Bool
 misfit x f isFree = not (eqb (minus x f) 0 && (isFree || eqb x f))
@@ -41,14 +50,20 @@ badMask g m c = misfit (at m c) (freshAt g c) (isOpen g c)
 abbrev pub firstBadClue : List ℤ → Option ℕ
 firstBadClue clues = first (λ c. badClue (getD clues c (pos 0))) cells
 
--- the clues, "then" the masks, each with its first such cell
+abbrev pub firstBadEntry : List ℤ → List ℤ → Option ℕ
+firstBadEntry clues entries = first (λ c. badEntry (getD clues c (pos 0)) (getD entries c (pos 0))) cells
+
+-- the clues, "then" the masks, each with its first such cell; the entries "between 01's 3 and 9"
 unfoldable pub checkOf : Board → Answer (Unit {0})
 checkOf b =
-    then (stopAt BadClue (firstBadClue (b .clues))) λ _. stopAt BadMask (first (badMask (givensOf (b .clues)) (b .masks)) cells)
+    then (stopAt BadClue (firstBadClue (b .clues))) λ _.
+    then (stopAt BadEntry (firstBadEntry (b .clues) (b .entries))) λ _.
+    stopAt BadMask (first (badMask (givens b) (b .masks)) cells)
 
--- "any board that no listed stop refuses": 81 clues and 81 masks, with neither stop 3 nor stop 9
+-- "any board that no listed stop refuses": 81 clues, 81 entries and 81 masks, with none of the stops 3, 8 and 9
 pub record Admitted (b : Board) : Type 0 where
   pub clues : length (b .clues) ≡ 81
+  pub entries : length (b .entries) ≡ 81
   pub masks : length (b .masks) ≡ 81
   pub taken : checkOf b ≡ gives tt
 
@@ -123,11 +138,11 @@ outcome chainCall g m = eliminationOutcome m (chains g m)
 
 -- a call's answer: the stop of the check, or the outcome
 unfoldable pub answer : Call → Board → Answer Outcome
-answer k b = passing (checkOf b) (outcome k (givensOf (b .clues)) (b .masks))
+answer k b = passing (checkOf b) (outcome k (givens b) (b .masks))
 
 -- the board that an answer leaves: "a call that is refused" hands its board on as it was
 abbrev pub left : Board → Answer Outcome → Board
-left b (gives o) = record { clues = b .clues; masks = o .masks }
+left b (gives o) = withMasks b (o .masks)
 left b (stop s) = b
 
 -- "The first call gets the fresh board, each later one the board that the last returned"
@@ -135,5 +150,10 @@ unfoldable pub run : List Call → Board → Board
 run [] b = b
 run (k ∷ ks) b = run ks (left b (answer k b))
 
-unfoldable pub opened : List ℤ → Board
-opened clues = record { clues = clues; masks = fresh (givensOf clues) }
+-- "a fresh board whose clues are the printed clues and the remaining entries together"
+unfoldable pub openedWith : List ℤ → List ℤ → Board
+openedWith clues entries = record { clues = clues; entries = entries; masks = fresh (givensOf (together clues entries)) }
+
+-- the fresh board of a clue grid
+abbrev pub opened : List ℤ → Board
+opened clues = openedWith clues noEntries

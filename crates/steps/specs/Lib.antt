@@ -9,6 +9,7 @@ pub mod Chains
 pub mod Published
 pub mod Wide
 pub mod Calls
+pub mod Entries
 pub mod Fillings
 pub mod Demand2
 pub mod SinglesHold

@@ -2,7 +2,7 @@
 use Prim.Native.Nat.{ℕ}
 use lib.IntN.{ℤ, pos}
 use Rattle.stops.specs.declared.Stop.{Stop}
-use Rattle.stops.specs.declared.Stop.the-variants.{TextLength, OtherByte, BadClue, BadDigit, NoCell, TooFewBytes, RecordBytes, RecordEntry, NotFresh, BadMask, SheetLength, SheetCells, BadPercentage, BadSolution}
+use Rattle.stops.specs.declared.Stop.the-variants.{TextLength, OtherByte, BadClue, BadDigit, NoCell, TooFewBytes, RecordBytes, RecordEntry, NotFresh, BadMask, SheetLength, SheetCells, BadEntry, ClueCell, AlreadyEntered, NotEntered, BadPercentage, BadSolution}
 
 pub record Row : Type 0 where
   pub number : ℕ
@@ -25,6 +25,11 @@ rowOf (NotFresh z) = row 9 z
 rowOf (BadMask z) = row 9 z
 rowOf (SheetLength z) = row 10 z
 rowOf (SheetCells z) = row 11 z
+-- document 02, F-6
+rowOf (BadEntry z) = row 8 z
+rowOf (ClueCell n) = row 12 (pos n)
+rowOf (AlreadyEntered n) = row 13 (pos n)
+rowOf (NotEntered n) = row 13 (pos n)
 -- document 02, F-11: "percentage above 100, with the percentage"; "the solution does not pass the verifier, with detail 0"
 rowOf (BadPercentage n) = row 17 (pos n)
 rowOf BadSolution = row 18 (pos 0)

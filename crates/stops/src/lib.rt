@@ -29,6 +29,14 @@ pub enum Stop {
     SheetLength(i64),
     // How many cells a sheet has, which is not 81.
     SheetCells(i64),
+    // The first cell with an entry on a clue, or an entry outside 0 to 9.
+    BadEntry(i64),
+    // A cell with a clue, in which a digit was to be entered or rubbed out.
+    ClueCell(u32),
+    // A cell that is already entered.
+    AlreadyEntered(u32),
+    // A cell that is not entered, whose entry was to be rubbed out.
+    NotEntered(u32),
     // A percentage above 100.
     BadPercentage(u32),
     // A solution that does not pass the verifier; nothing stands beside it.
@@ -70,6 +78,10 @@ pub fn number(stop: Stop) -> u8
         Stop::BadMask(_) => 9,
         Stop::SheetLength(_) => 10,
         Stop::SheetCells(_) => 11,
+        Stop::BadEntry(_) => 8,
+        Stop::ClueCell(_) => 12,
+        Stop::AlreadyEntered(_) => 13,
+        Stop::NotEntered(_) => 13,
         Stop::BadPercentage(_) => 17,
         Stop::BadSolution => 18,
     }
@@ -92,6 +104,10 @@ pub fn detail(stop: Stop) -> i64
         Stop::BadMask(cell) => cell,
         Stop::SheetLength(length) => length,
         Stop::SheetCells(count) => count,
+        Stop::BadEntry(cell) => cell,
+        Stop::ClueCell(cell) => cell as i64,
+        Stop::AlreadyEntered(cell) => cell as i64,
+        Stop::NotEntered(cell) => cell as i64,
         Stop::BadPercentage(percentage) => percentage as i64,
         Stop::BadSolution => 0,
     }

@@ -13,7 +13,7 @@ ghost use Rattle.techniques.specs.Techniques.{Finds};
 ghost use Rattle.techniques.specs.code.Searches.{searchCall, reportsFound};
 use board::Board;
 use board::check;
-use board::clues::givens_of;
+use board::entries::givens_of;
 use board::fresh::fresh_masks;
 use cells::changed;
 use singles::Reports;
@@ -50,18 +50,27 @@ fn report(search: Search, board: Board) -> Reported
     ensures { λ r. ⌜ Finds (searchCall search) (boardOf board) r ⌝ }
 {
     let clues = board.clues;
+    let entries = board.entries;
     let masks = board.masks;
-    match check(&clues, &masks) {
+    match check(&clues, &entries, &masks) {
         Check::Refused(stop) => Reported {
             answer: Progress::Refused(stop),
-            board: Board { clues, masks },
+            board: Board {
+                clues,
+                entries,
+                masks,
+            },
             reports: Reports::new(),
         },
         Check::Passed => {
-            let reports = find(search, &givens_of(&clues), &masks);
+            let reports = find(search, &givens_of(&clues, &entries), &masks);
             Reported {
                 answer: Progress::Made(0 < reports.count),
-                board: Board { clues, masks },
+                board: Board {
+                    clues,
+                    entries,
+                    masks,
+                },
                 reports,
             }
         }
@@ -106,24 +115,30 @@ pub fn apply_advanced_techniques(board: Board) -> Reported
     ensures { λ r. ⌜ Finds advancedCall (boardOf board) r ⌝ }
 {
     let clues = board.clues;
+    let entries = board.entries;
     let before = board.masks;
-    match check(&clues, &before) {
+    match check(&clues, &entries, &before) {
         Check::Refused(stop) => Reported {
             answer: Progress::Refused(stop),
             board: Board {
                 clues,
+                entries,
                 masks: before,
             },
             reports: Reports::new(),
         },
         Check::Passed => {
-            let givens = givens_of(&clues);
+            let givens = givens_of(&clues, &entries);
             let reports = singles::singles(&givens, &before);
             let made = advances(reports.count, &givens, before);
             let masks = renewed(made, &givens, before);
             Reported {
                 answer: Progress::Made(made),
-                board: Board { clues, masks },
+                board: Board {
+                    clues,
+                    entries,
+                    masks,
+                },
                 reports,
             }
         }

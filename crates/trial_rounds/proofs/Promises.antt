@@ -21,9 +21,15 @@ use Rattle.grid.specs.Cells.{cells}
 use Rattle.grid.specs.Fillings.{numberAt, Digit, Correct, verified}
 use Rattle.grid.proofs.Fillings.{verified-correct}
 use Rattle.grid.proofs.Lists.{at-upTo, range-length, map-same}
-use Rattle.steps.specs.Calls.{Clues, badClue, settlingCall}
-use Rattle.steps.specs.Fillings.{KeepsClues}
-use Rattle.board.specs.Boards.{noClues}
+use Rattle.steps.specs.Boards.{noEntries}
+use Rattle.steps.specs.Boards as S
+use Rattle.steps.specs.Calls.{Call, Clues, badClue, settlingCall, withoutChain, opened, run}
+use Rattle.steps.specs.Fillings.{KeepsClues, InMasks}
+use Rattle.steps.proofs.Entries.{no-entries}
+use Rattle.steps.proofs.Lists.{play-run, run-fillings}
+use Rattle.board.specs.Boards.{boardOf, noClues}
+use Rattle.board.specs.declared.Board.{Board}
+use Rattle.calls.specs.Replays.{callsOf}
 use Rattle.calls.proofs.Demand3.{demand3}
 use Rattle.trial_rounds.specs.Rounds.{stateAfter, nextState, isKept, clueOf, clueAt, roundClues, roundOf, percentageCheck, solutionCheck, Makes}
 use Rattle.trial_rounds.specs.Promises.{KeepsSolution, TrialRounds}
@@ -87,10 +93,16 @@ promised clues solution n v ok keeps =
       passes = v;
       correct = verified-correct solution n v;
       keeps = keeps;
-      settling = λ B at. demand3 .lists clues ok (settlingCall ∷ []) (settlingCall ∷ []) refl refl B B at at .fillings solution n v .1 keeps;
-      lists = λ ks w B at. demand3 .lists clues ok ks ks w w B B at at .fillings solution n v .1 keeps;
-      replayed = λ ns w r e. demand3 .replayed clues ok ns ns w w r r e e .fillings solution n v .1 keeps;
+      settling = λ B at. calls-keep (settlingCall ∷ []) refl B (at ∙ play-run (settlingCall ∷ []) (opened clues));
+      lists = λ xs w B at entered.
+          demand3 .fillings clues noEntries ok (no-entries clues) xs w B at solution n v .1
+          (record { clues = subst (λ (l : List ℤ). KeepsClues l solution) (sym (demand3 .printed clues noEntries xs B at)) keeps; entries = entered });
+      replayed = λ ns w r e. calls-keep (callsOf ns) (w .without) (r .board) (demand3 .replays clues ok ns (w .steps) r e .1 ∙ play-run (callsOf ns) (opened clues));
     }
+  where
+    -- calls alone, from the fresh board of the clues
+    calls-keep : (ks : List Call) → withoutChain ks ≡ true → (B : Board) → boardOf B ≡ run ks (opened clues) → InMasks (B .masks) solution
+    calls-keep ks w B at = subst (λ (b : S.Board). InMasks (b .masks) solution) (sym at) (run-fillings clues ok ks w solution n v .1 keeps)
 
 made : (start percentage : ℕ) (solution : List ℤ) → length solution ≡ 81 → (r : TrialRound) → Makes start percentage solution r → r .answer ≡ Passed → KeepsSolution (r .clues) solution
 made start percentage solution n r e passed =

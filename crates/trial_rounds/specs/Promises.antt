@@ -8,7 +8,9 @@ use lib.ListN.{length}
 use Rattle.stops.specs.Answer.{gives}
 use Rattle.stops.specs.declared.Check.the-variants.{Passed}
 use Rattle.grid.specs.Fillings.{Correct, verified}
-use Rattle.steps.specs.Calls.{Call, Clues, settlingCall, withoutChain}
+use Rattle.steps.specs.Boards.{noEntries}
+use Rattle.steps.specs.Calls.{Clues, settlingCall, withoutChain}
+use Rattle.steps.specs.Entries.{Deed, step, callsIn}
 use Rattle.steps.specs.Fillings.{KeepsClues, InMasks}
 use Rattle.board.specs.Boards.{noClues}
 use Rattle.board.specs.declared.Board.{Board}
@@ -27,9 +29,9 @@ pub record KeepsSolution (clues solution : List ℤ) : Type 0 where
   pub correct : Correct solution
   pub keeps : KeepsClues clues solution
   -- "settling keeps that solution in the masks"
-  pub settling : (B : Board) → After clues (settlingCall ∷ []) B → InMasks (B .masks) solution
-  -- and so does every list of calls that demand 3's half on fillings covers, one by one or by `replay`
-  pub lists : (ks : List Call) → withoutChain ks ≡ true → (B : Board) → After clues ks B → InMasks (B .masks) solution
+  pub settling : (B : Board) → After clues noEntries (step settlingCall ∷ []) B → InMasks (B .masks) solution
+  -- and so does every list of calls that demand 3's half on fillings covers, one by one or by `replay`, where the entries that it leaves are digits of the solution
+  pub lists : (xs : List Deed) → withoutChain (callsIn xs) ≡ true → (B : Board) → After clues noEntries xs B → KeepsClues (B .entries) solution → InMasks (B .masks) solution
   pub replayed : (ns : List ℕ) → StepsWithoutChain ns → (r : Replayed) → Replays clues ns r → InMasks (r .board .masks) solution
 
 pub record TrialRounds : Type 0 where

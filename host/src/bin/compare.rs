@@ -2,7 +2,7 @@
 //!
 //!     compare --seed N --seconds S [--lists N] [--records N]
 //!
-//! Runs until the seconds have passed (or, with --lists, until so many lists of ported calls were compared). With --records so many records
+//! Runs until the seconds have passed (or, with --lists, until so many lists with ported calls were compared). With --records so many records
 //! are compared and nothing else. The status is 0 where no difference was found; the last line says what was compared and how often. A
 //! difference is printed with its smallest case.
 
@@ -17,9 +17,9 @@ use sudoku_host::record_cases as records;
 use sudoku_host::round_cases as rounds;
 use sudoku_host::sheet_cases as sheets;
 use sudoku_host::shrink::{shrunk, Smaller};
-use sudoku_host::sides::{Engine, Original, Plain, Side, PORTED, STEPS};
+use sudoku_host::sides::{steps, Call, Engine, Original, Plain, Side, PORTED, STEPS};
 use sudoku_host::text_cases as texts;
-use sudoku_host::{counted, digits, grids, plain, read, set, single_candidate, verify, SetAnswer, SetCall, Stop};
+use sudoku_host::{abi, counted, digits, grids, plain, read, set, single_candidate, verify, SetAnswer, SetCall, Stop, ABI};
 
 struct Options {
     seed: u64,
@@ -35,10 +35,13 @@ struct Counts {
     texts: u64,
     lists: u64,
     calls: u64,
+    entry_calls: u64,
     boards: u64,
     damaged: u64,
     runs: u64,
     pairs: u64,
+    fillings: u64,
+    entries: u64,
     records: u64,
     bytes: u64,
     written: u64,
@@ -50,9 +53,12 @@ struct Counts {
 
 impl std::fmt::Display for Counts {
     fn fmt(&self, out: &mut std::fmt::Formatter) -> std::fmt::Result {
-        let Counts { sets, grids, texts, lists, calls, boards, damaged, runs, pairs, records, bytes, written, sheets, canonical, cards, rounds } = self;
-        write!(out, "{sets} set calls, {grids} filled grids, {texts} texts, {lists} lists of {calls} ported calls, ")?;
+        let Counts { sets, grids, texts, lists, calls, entry_calls, boards, damaged, runs, pairs, fillings, entries, .. } = self;
+        let Counts { records, bytes, written, sheets, canonical, cards, rounds, .. } = self;
+        write!(out, "{sets} set calls, {grids} filled grids, {texts} texts, ")?;
+        write!(out, "{lists} lists of {calls} ported calls and {entry_calls} enterings and rubbings out, ")?;
         write!(out, "{boards} boards through the wide passes, {damaged} damaged boards, {runs} runs of lists, {pairs} pairs of lists settled, ")?;
+        write!(out, "{fillings} lists with enterings held to a filling, {entries} pairs of lists that leave the same entries, ")?;
         write!(out, "{records} boards written as records and read back, {bytes} damaged and random records read, ")?;
         write!(out, "{written} texts written, {sheets} sheets read, {canonical} canonical sheets written, {cards} cards, {rounds} trial rounds")
     }
@@ -81,6 +87,10 @@ fn usage() -> ! {
 
 fn main() {
     let options = options();
+    if abi() != ABI {
+        eprintln!("compare: the archive's signatures have the number {}, these {ABI}: build it anew", abi());
+        std::process::exit(2);
+    }
     let mut counts = Counts::default();
     match run(&options, &mut counts) {
         Ok(()) => println!("compare: seed {}: no difference in {counts}", options.seed),
@@ -117,12 +127,16 @@ fn a_round(round: u64, random: &mut Random, counts: &mut Counts) -> Result<(), S
     some_grids(random, counts)?;
     some_texts(random, counts)?;
     a_sheet(&sheets::sheet(random), counts)?;
-    a_list(&cases::ported_case(random), counts)?;
+    a_list(&cases::ported_with_entries(random), counts)?;
     a_damaged_board(random, counts)?;
     match round % 4 {
         0 | 2 => a_wide_board(random, counts)?,
         1 => two_lists(random, counts)?,
         _ => a_run(random, counts)?,
+    }
+    match round % 2 {
+        0 => two_lists_of_entry_calls(random, counts)?,
+        _ => a_filling(random, counts)?,
     }
     match round % 4 {
         0 => a_written_text(random, counts).and_then(|()| some_sheets(random, counts))?,
@@ -257,18 +271,20 @@ fn some_texts(random: &mut Random, counts: &mut Counts) -> Result<(), String> {
 fn published(counts: &mut Counts) -> Result<(), String> {
     for text in grids::PUBLISHED {
         for step in PORTED {
-            a_list(&Case::fresh(grids::of_text(text), vec![step, 1, 2, 3, 4, 5, step]), counts)?;
+            a_list(&Case::fresh(grids::of_text(text), steps(&[step, 1, 2, 3, 4, 5, step])), counts)?;
         }
     }
     Ok(())
 }
 
-/// A list of ported calls on all three sides.
+/// A list of ported calls, enterings and rubbings out on all three sides.
 fn a_list(case: &Case, counts: &mut Counts) -> Result<(), String> {
+    let entry_calls = case.calls.iter().filter(|call| call.is_entry_call()).count();
     counts.lists += 1;
-    counts.calls += case.steps.len() as u64;
+    counts.calls += (case.calls.len() - entry_calls) as u64;
+    counts.entry_calls += entry_calls as u64;
     sound(case, "fresh masks", &cases::fresh_differs)?;
-    sound(case, "accessors", &cases::accessors_differ)?;
+    sound(case, "accessors", &cases::accessors_differ::<Engine, Plain>)?;
     sound(case, "engine and original", &cases::differ::<Engine, Original>)?;
     sound(case, "original and plain", &cases::differ::<Original, Plain>)
 }
@@ -279,15 +295,14 @@ fn a_wide_board(random: &mut Random, counts: &mut Counts) -> Result<(), String> 
     sound(&cases::wide_case(random), "engine and plain", &cases::differ::<Engine, Plain>)
 }
 
-/// A board that may be refused: the stop and its cell; and a number that is no step's.
+/// A board that may be refused, by a step, an entering or a rubbing out: the stop and its cell; and a number that is no step's.
 fn a_damaged_board(random: &mut Random, counts: &mut Counts) -> Result<(), String> {
     let case = cases::damaged_case(random);
     counts.damaged += 1;
     sound(&case, "engine and plain", &cases::differ::<Engine, Plain>)?;
-    sound(&case, "accessors", &cases::accessors_differ)?;
+    sound(&case, "accessors", &cases::accessors_differ::<Engine, Plain>)?;
     let number = random.within(STEPS.len(), 255) as u8;
-    let (clues, masks) = case.board();
-    let ours = Engine::start(&clues, &masks).step(number);
+    let ours = Engine::start(&case.board()).call(Call::Step(number));
     same(ours == Err(Stop { number: -1, detail: number as i64 }), || format!("step {number}: engine {ours:?}\n{case}"))
 }
 
@@ -300,6 +315,20 @@ fn two_lists(random: &mut Random, counts: &mut Counts) -> Result<(), String> {
     let (case, filling) = cases::sound_case(random);
     counts.pairs += 1;
     sound(&case, "demand 3 on the engine", &|case| cases::unsound::<Engine>(case, filling.as_ref()))
+}
+
+/// A list that enters and rubs out between the other calls, and a filling that it must keep while it fits.
+fn a_filling(random: &mut Random, counts: &mut Counts) -> Result<(), String> {
+    let (case, filling) = cases::filling_case(random);
+    counts.fillings += 1;
+    sound(&case, "demand 3 on the engine", &|case| cases::filling_lost::<Engine>(case, &filling))
+}
+
+fn two_lists_of_entry_calls(random: &mut Random, counts: &mut Counts) -> Result<(), String> {
+    let case = cases::entries_case(random);
+    counts.entries += 1;
+    sound(&case, "engine and plain", &cases::differ::<Engine, Plain>)?;
+    sound(&case, "entries on the engine", &cases::entries_differ::<Engine>)
 }
 
 // ---- what is written, and read from it

@@ -13,8 +13,8 @@ use sudoku_host::cases::ported_case;
 use sudoku_host::grids;
 use sudoku_host::oracle::{self, SudokuSolver};
 use sudoku_host::random::Random;
-use sudoku_host::sides::{Original, Side, CHAIN};
-use sudoku_host::Masks;
+use sudoku_host::sides::{Call, Original, Side, CHAIN};
+use sudoku_host::{Board, Masks};
 
 const LINE: usize = 94;
 const STEPS: usize = 11;
@@ -41,11 +41,16 @@ fn cases() -> String {
     let published = grids::PUBLISHED.iter().map(|grid| line(grid, &[0, 1, 2, 3, 4, 5, 6, CHAIN, 1, 2, 5]));
     let random = (0..64).map(|at| {
         let case = ported_case(&mut Random::of_case(20261115, at));
-        line(&text(&case.clues), &case.steps[..case.steps.len().min(STEPS)])
+        let steps: Vec<u8> = case.calls.iter().take(STEPS).filter_map(number).collect();
+        line(&text(&case.clues), &steps)
     });
     let grid = grids::PUBLISHED[0];
     let refused = [0, 40, 80].into_iter().flat_map(|at| ["x", "/", ":", "-"].map(|other| line(&(grid[..at].to_string() + other + &grid[at + 1..]), &[])));
     published.chain(random).chain(refused).collect()
+}
+
+fn number(call: &Call) -> Option<u8> {
+    if let Call::Step(number) = call { Some(*number) } else { None }
 }
 
 fn text(clues: &[i32; 81]) -> String {
@@ -74,9 +79,9 @@ fn answer(line: &[u8]) {
 fn opened(clues: &[i32; 81], steps: &[u8]) {
     let masks = oracle::fresh(clues);
     println!("open {} {}", oracle::opened(clues).clue_count(), checksum(&masks));
-    let mut side = Original::start(clues, &masks);
+    let mut side = Original::start(&Board::without_entries(clues, &masks));
     for step in steps.iter().filter(|&&byte| byte >= b'0').map(|byte| byte - b'0') {
-        let outcome = side.step(step).expect("a step");
+        let outcome = side.call(Call::Step(step)).expect("a step");
         print!("{step} {} {}", outcome.flag as u8, checksum(&outcome.masks));
         outcome.reports.iter().for_each(|(cell, digit)| print!(" {cell} {digit}"));
         println!();

@@ -3,8 +3,8 @@
 //!     measure SIDE CALL ROUNDS
 //!
 //! SIDE is original, plain or engine; CALL a step number, 255 for no step, or one of `verify`, `repeat` (the verifier where the second cell
-//! repeats the first), `read`, `open`, `count`, `sheet`, `canonical` (a canonical sheet written), `record`, `card` and `setN`
-//! (0 insert, 1 remove, 2 contains, 3 len, 4 single_candidate). A round is 64 boards. What a call costs is the difference of two runs,
+//! repeats the first), `read`, `open`, `count`, `enter`, `rub_out`, `sheet`, `canonical` (a canonical sheet written), `record`, `card` and
+//! `setN` (0 insert, 1 remove, 2 contains, 3 len, 4 single_candidate). A round is 64 boards. What a call costs is the difference of two runs,
 //! divided by the difference of their calls; for a step also less what making the board costs, which 255 has alone:
 //!
 //!     valgrind --tool=callgrind --callgrind-out-file=/dev/null target/release/measure original 1 100
@@ -14,8 +14,9 @@ use std::hint::black_box;
 use sudoku_host::oracle::{self, SudokuCandidateSet, SudokuSolver};
 use sudoku_host::random::Random;
 use sudoku_host::sheet_cases::{ruled, BOXED};
-use sudoku_host::sides::{Original, Plain, Side};
-use sudoku_host::{card, clue_count, grids, open, plain, read, read_record, read_sheet, records, set, step, verify, write_record, write_sheet, Clues, Masks, SetCall};
+use sudoku_host::sides::{Call, Original, Plain, Side};
+use sudoku_host::{card, clue_count, enter, grids, open, plain, read, read_record, read_sheet, records, rub_out, set, step, verify, write_record, write_sheet};
+use sudoku_host::{Board, Clues, SetCall, NO_ENTRIES};
 
 const BOARDS: usize = 64;
 
@@ -30,6 +31,8 @@ fn main() {
         (_, "read") => reading(side, &mut random, rounds),
         (_, "open") => opening(side, &mut random, rounds),
         (_, "count") => counting(side, &mut random, rounds),
+        (_, "enter") => entering(side, &mut random, rounds),
+        (_, "rub_out") => rubbing_out(side, &mut random, rounds),
         ("plain" | "engine", "sheet") => pasting(side, &mut random, rounds),
         ("plain" | "engine", "canonical") => canonical(side, &mut random, rounds),
         ("plain" | "engine", "record") => recording(side, &mut random, rounds),
@@ -43,7 +46,7 @@ fn main() {
 }
 
 fn usage() -> ! {
-    eprintln!("measure original|plain|engine STEP|verify|repeat|read|open|count|sheet|canonical|record|card|setN ROUNDS");
+    eprintln!("measure original|plain|engine STEP|verify|repeat|read|open|count|enter|rub_out|sheet|canonical|record|card|setN ROUNDS");
     std::process::exit(2)
 }
 
@@ -51,26 +54,26 @@ fn number(step: &str) -> u8 {
     step.parse().unwrap_or_else(|_| usage())
 }
 
-/// Puzzles and the boards on the way through them.
-fn boards(random: &mut Random) -> Vec<(Clues, Masks)> {
+/// Puzzles and the boards on the way through them, without entries.
+fn boards(random: &mut Random) -> Vec<Board> {
     let mixed = (0..BOARDS).map(|_| {
         let filling = grids::filling(random);
         let clues = grids::blanked(random, &filling, 20, 45);
-        let mut masks = plain::fresh(&clues);
+        let mut board = plain::afresh(&clues, &NO_ENTRIES);
         for step in [1, 2, 3].into_iter().take(random.below(4)) {
-            masks = plain::step(step, &clues, &masks).unwrap().masks;
+            board.masks = plain::step(step, &board).unwrap().masks;
         }
-        (clues, masks)
+        board
     });
     mixed.collect()
 }
 
 fn stepping<S: Side>(random: &mut Random, step: u8, rounds: usize) {
-    for (clues, masks) in boards(random) {
+    for board in boards(random) {
         for _ in 0..rounds {
-            let mut side = S::start(&clues, &masks);
+            let mut side = S::start(&board);
             if step != 255 {
-                black_box(side.step(black_box(step))).ok();
+                black_box(side.call(Call::Step(black_box(step)))).ok();
             }
             black_box(&side as *const S);
         }
@@ -80,13 +83,14 @@ fn stepping<S: Side>(random: &mut Random, step: u8, rounds: usize) {
 /// The export alone, its board check included.
 fn engine_stepping(random: &mut Random, number: u8, rounds: usize) {
     let mut reports = [0; 648];
-    for (clues, masks) in boards(random) {
+    for mut board in boards(random) {
+        let before = board.masks;
         for _ in 0..rounds {
-            let mut after = masks;
+            board.masks = before;
             if number != 255 {
-                black_box(step(black_box(number), &clues, &mut after, &mut reports)).ok();
+                black_box(step(black_box(number), &mut board, &mut reports)).ok();
             }
-            black_box((&after, &reports));
+            black_box((&board.masks, &reports));
         }
     }
 }
@@ -125,7 +129,7 @@ fn reading(side: &str, random: &mut Random, rounds: usize) {
 /// `new`: the original also makes its rows of sets.
 fn opening(side: &str, random: &mut Random, rounds: usize) {
     let mut masks = [0; 81];
-    for (clues, _) in boards(random) {
+    for Board { clues, .. } in boards(random) {
         for _ in 0..rounds {
             match side {
                 "original" => drop(black_box(oracle::opened(black_box(&clues)))),
@@ -138,21 +142,62 @@ fn opening(side: &str, random: &mut Random, rounds: usize) {
 
 /// `clue_count`, for the engine with its board check.
 fn counting(side: &str, random: &mut Random, rounds: usize) {
-    for (clues, masks) in boards(random) {
-        let solver = oracle::with_masks(&clues, &masks);
+    for board in boards(random) {
+        let solver = oracle::with_masks(&board.clues, &board.masks);
         for _ in 0..rounds {
             match side {
-                "engine" => drop(black_box(clue_count(black_box(&clues), &masks))),
+                "engine" => drop(black_box(clue_count(black_box(&board)))),
                 _ => drop(black_box(black_box(&solver).clue_count())),
             }
         }
     }
 }
 
+/// A digit in the first open cell; for the original a solver of the clues with it.
+fn entering(side: &str, random: &mut Random, rounds: usize) {
+    for board in boards(random) {
+        let (cell, digit) = first_entry(&board);
+        for _ in 0..rounds {
+            let mut after = board;
+            match side {
+                "original" => {
+                    after.clues[cell] = digit;
+                    drop(black_box(oracle::opened(black_box(&after.clues))));
+                }
+                "engine" => drop(black_box(enter(cell as u32, black_box(digit), &mut after))),
+                _ => drop(black_box(plain::enter(black_box(&board), cell, digit))),
+            }
+            black_box(&after);
+        }
+    }
+}
+
+/// That entry rubbed out; for the original a solver of the clues without it.
+fn rubbing_out(side: &str, random: &mut Random, rounds: usize) {
+    for board in boards(random) {
+        let (cell, digit) = first_entry(&board);
+        let entered = plain::enter(&board, cell, digit).unwrap();
+        for _ in 0..rounds {
+            let mut after = entered;
+            match side {
+                "original" => drop(black_box(oracle::opened(black_box(&after.clues)))),
+                "engine" => drop(black_box(rub_out(black_box(cell as u32), &mut after))),
+                _ => drop(black_box(plain::rub_out(black_box(&entered), cell))),
+            }
+            black_box(&after);
+        }
+    }
+}
+
+fn first_entry(board: &Board) -> (usize, i32) {
+    let cell = board.clues.iter().position(|&clue| clue == 0).expect("an open cell");
+    (cell, board.masks[cell].trailing_zeros() as i32 % 9 + 1)
+}
+
 /// A sheet as a program prints it, with rulings; the original has none.
 fn pasting(side: &str, random: &mut Random, rounds: usize) {
     let mut clues = [0; 81];
-    for (grid, _) in boards(random) {
+    for Board { clues: grid, .. } in boards(random) {
         let sheet = ruled(grid.map(|clue| clue.to_string()).concat().as_bytes(), &BOXED);
         for _ in 0..rounds {
             match side {
@@ -165,7 +210,7 @@ fn pasting(side: &str, random: &mut Random, rounds: usize) {
 
 fn canonical(side: &str, random: &mut Random, rounds: usize) {
     let mut bytes = [0; 90];
-    for (clues, _) in boards(random) {
+    for Board { clues, .. } in boards(random) {
         for _ in 0..rounds {
             match side {
                 "engine" => drop(black_box(write_sheet(black_box(&clues), &mut bytes))),
@@ -179,13 +224,13 @@ fn canonical(side: &str, random: &mut Random, rounds: usize) {
 fn recording(side: &str, random: &mut Random, rounds: usize) {
     let mut bytes = [0; 2919];
     let (mut clues_read, mut masks_read) = ([0; 81], [0; 81]);
-    for (clues, masks) in boards(random) {
+    for board in boards(random) {
         for _ in 0..rounds {
             if side == "engine" {
-                let length = write_record(black_box(&clues), &masks, &mut bytes).unwrap() as usize;
+                let length = write_record(black_box(&board), &mut bytes).unwrap() as usize;
                 black_box(read_record(black_box(&bytes[..length]), &mut clues_read, &mut masks_read)).ok();
             } else {
-                let length = records::write(black_box(&clues), &masks, &mut bytes).unwrap();
+                let length = records::write(black_box(&board), &mut bytes).unwrap();
                 black_box(records::read(black_box(&bytes[..length]))).ok();
             }
         }
@@ -195,7 +240,7 @@ fn recording(side: &str, random: &mut Random, rounds: usize) {
 /// The card of a text; the original has none.
 fn carding(side: &str, random: &mut Random, rounds: usize) {
     let mut bytes = [0; 256];
-    for (clues, _) in boards(random) {
+    for Board { clues, .. } in boards(random) {
         let text = clues.map(|clue| clue.to_string()).concat();
         for _ in 0..rounds {
             match side {

@@ -1,6 +1,7 @@
 -- `board::check` meets its contract. Assumes nothing.
 use mathlib.Core.Path.{_∙_}
 use borrow.Author.Needs.{needs}
+use Rattle.board.specs.Boards.{handed}
 use Rattle.board.proofs.Checks.{checks}
 use Rattle.board.proofs.check.Statement.{statement}
 use Rattle.board.proofs.check.Tie as tie
@@ -19,7 +20,7 @@ returns c =
     let f = c .before .before .before in
     let g = f .before .before in
     let a = g .before .args in
-    c .check-beside .ensures ∙ checks (a .clues .now) (a .masks .now) (g .givens-of .ensures) (f .fresh-masks .ensures)
+    c .check-beside .ensures ∙ checks (handed (a .clues .now) (a .entries .now) (a .masks .now)) (g .givens-of .ensures) (f .fresh-masks .ensures)
 
 pub check-spec : {M : Type 1} → statement M
 check-spec =

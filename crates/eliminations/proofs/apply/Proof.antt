@@ -1,14 +1,14 @@
 -- A board that the check refuses is handed on; else the flag says whether the masks changed.
-use mathlib.Core.Path.{_≡_, refl, sym, ap, _∙_}
+use mathlib.Core.Path.{_≡_, refl, ap, _∙_}
 use mathlib.Core.List.{List}
 use Prim.Native.Nat.{ℕ}
 use borrow.Author.Needs.{needs}
 use Rattle.stops.specs.Answer.{gives, map}
 use Rattle.stops.proofs.Answers.{told}
-use Rattle.steps.specs.Boards.{givensOf}
+use Rattle.steps.specs.Boards.{givens, withMasks}
 use Rattle.steps.specs.Calls.{Outcome, outcome, left}
 use Rattle.steps.specs.Passes.{changed}
-use Rattle.board.specs.Boards.{boardOf, handed}
+use Rattle.board.specs.Boards.{boardOf}
 use Rattle.board.proofs.Answered.{answers}
 use Rattle.eliminations.specs.code.Calls.{callOf}
 use Rattle.eliminations.specs.declared.Elimination.{Elimination}
@@ -51,7 +51,7 @@ changed-requires c κs = search needs
 returns : tie.Need-returns
 returns c =
     let k = c .before .before .before in
-    let a = k .before .before .before .before .before .before .args in
+    let a = k .before .before .before .before .before .before .before .before .args in
     let b = boardOf (a .board) in
     let e = answers (callOf (a .elimination)) b (told (k .check .ensures) (c .before .stop .given .1)) in
     record { flag = ap (map (λ (o : Outcome). o .flag)) e; board = ap (left b) e }
@@ -59,17 +59,17 @@ returns c =
 returns-2 : tie.Need-returns-2
 returns-2 c =
     let m = c .before in
-    let givens = m .before .before .before in
-    let t = givens .before .before in
+    let given = m .before .before .before in
+    let t = given .before .before .before in
     let k = t .before .before in
-    let a = k .before .before .before .before .before .before .args in
+    let a = k .before .before .before .before .before .before .before .before .args in
     let b = boardOf (a .board) in
     let x = a .elimination in
-    let masks = m .eliminate .ensures ∙ ap (λ (g : List ℕ). outcome (callOf x) g (b .masks) .masks) (givens .givens-of .ensures) in
+    let masks = m .eliminate .ensures ∙ ap (λ (g : List ℕ). outcome (callOf x) g (b .masks) .masks) (given .givens-of .ensures) in
     let e = answers (callOf x) b (told (k .check .ensures) (t .enum-told .given .1)) in
     record {
-      flag = ap gives (c .changed .ensures ∙ ap (changed (b .masks)) masks ∙ flagged x (givensOf (b .clues)) (b .masks)) ∙ ap (map (λ (o : Outcome). o .flag)) e;
-      board = ap (handed (b .clues)) masks ∙ ap (left b) e;
+      flag = ap gives (c .changed .ensures ∙ ap (changed (b .masks)) masks ∙ flagged x (givens b) (b .masks)) ∙ ap (map (λ (o : Outcome). o .flag)) e;
+      board = ap (withMasks b) masks ∙ ap (left b) e;
     }
 
 pub apply-spec : {M : Type 1} → statement M

@@ -21,7 +21,7 @@ returns : tie.Need-returns
 returns c =
     let o = c .before .before .before in
     let f = o .before .before in
-    let a = f .before .before .before .args in
+    let a = f .before .before .before .before .args in
     let e = f .get-candidates .ensures in
     (o .of-check .ensures ∙ ap (λ (k : Answer (Unit {0})). coded (map noNumber k) 0) (e .0), handed-out (a .masks .now) noMasks (a .candidates .now) (e .0) (e .1) (c .put-masks .ensures))
 

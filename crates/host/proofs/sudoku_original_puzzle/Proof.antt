@@ -21,7 +21,7 @@ returns : tie.Need-returns
 returns c =
     let o = c .before .before .before in
     let f = o .before .before in
-    let a = f .before .before .before .args in
+    let a = f .before .before .before .before .args in
     let e = f .original-puzzle .ensures in
     (o .of-check .ensures ∙ ap (λ (k : Answer (Unit {0})). coded (map noNumber k) 0) (e .0), handed-out (a .clues .now) noClues (a .puzzle .now) (e .0) (e .1) (c .put-clues .ensures))
 

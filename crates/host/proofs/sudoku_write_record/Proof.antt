@@ -18,8 +18,8 @@ write-record-requires c κs = search needs
 of-writing-requires : tie.Need-of-writing-requires
 of-writing-requires c κs =
     let w = c .before .before in
-    let a = w .before .before .before .before .before .args in
-    subst (λ (x : Answer ℕ). Fitting (map pos x)) (sym (w .write-record .ensures .0)) (record-fits (handed (a .clues .now) (a .masks .now)) (length (a .bytes .now)))
+    let a = w .before .before .before .before .before .before .args in
+    subst (λ (x : Answer ℕ). Fitting (map pos x)) (sym (w .write-record .ensures .0)) (record-fits (handed (a .clues .now) (a .entries .now) (a .masks .now)) (length (a .bytes .now)))
 
 same-length : tie.Need-same-length
 same-length c = search needs

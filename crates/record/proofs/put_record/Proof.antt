@@ -3,6 +3,7 @@ use mathlib.Core.Path.{_≡_, sym, ap, _∙_}
 use mathlib.Core.List.{List}
 use Prim.Native.Nat.{ℕ}
 use lib.ListN.{length, length-append}
+use Rattle.steps.specs.Boards.{noEntries}
 use Rattle.board.specs.Boards.{handed}
 use Rattle.record.specs.declared.sections.Section.the-variants.{Clues, Removed}
 use Rattle.record.specs.Records.{recordOf}
@@ -43,7 +44,7 @@ returns c =
     let f = q .before .before in
     let g = f .before .before in
     let a = g .before .args in
-    let b = handed (a .clues .now) (a .masks .now) in
+    let b = handed (a .clues .now) noEntries (a .masks .now) in
     let first = sectionBytes Clues (q .clue-sets .result) in
     let second = sectionBytes Removed (k .lacking-sets .result) in
     let e = record-is b (g .givens-of .ensures) (f .fresh-masks .ensures) (q .clue-sets .ensures) (k .lacking-sets .ensures) in

@@ -7,8 +7,8 @@ use Rattle.stops.specs.Answer.{Answer}
 use Rattle.stops.proofs.Answers.{told}
 use Rattle.board.specs.Boards.{boardOf}
 use Rattle.record.specs.Records.{recordOf, writeIn, writeOf, written}
-use Rattle.record.specs.Sections.{leading}
-use Rattle.record.proofs.Writing.{record-leads, write-checked}
+use Rattle.record.specs.Sections.{leading, stored}
+use Rattle.record.proofs.Writing.{record-bare, record-leads, write-checked}
 use borrow.Author.Needs.{needs}
 use native.Mathlib.Omega.{arith}
 use Rattle.record.proofs.write_record.Statement.{statement}
@@ -32,7 +32,7 @@ copy-out-requires c κs = search needs
 returns : tie.Need-returns
 returns c =
     let k = c .before .before .before in
-    let a = k .before .before .before .before .before .before .args in
+    let a = k .before .before .before .before .before .before .before .before .args in
     let b = boardOf (a .board) in
     let e = write-checked b (length (a .out .now)) (told (k .check .ensures) (c .before .stop .given .1)) in
     (e, ap (λ (w : Answer ℕ). written w (recordOf b) (a .out .now)) e)
@@ -46,14 +46,15 @@ returns-2 c =
     let p = o .before .before .before in
     let t = p .before .before .before .before in
     let k = t .before .before in
-    let a = k .before .before .before .before .before .before .args in
+    let a = k .before .before .before .before .before .before .before .before .args in
     let b = boardOf (a .board) in
+    let q = record-bare b in
     let zeros = replicate {A = ℕ} 2919 0 in
-    let n = p .put-record .ensures .1 in
+    let n = p .put-record .ensures .1 ∙ ap length q in
     let e =
     ap (λ (m : ℕ). writeIn m (length (a .out .now))) n
     ∙ write-checked b (length (a .out .now)) (told (k .check .ensures) (t .enum-told .given .1)) in
-    let r = record-leads b zeros (omega (arith, length-replicate {A = ℕ} 2919 0)) n (p .put-record .ensures .0) in (
+    let r = record-leads b zeros (omega (arith, length-replicate {A = ℕ} 2919 0)) n (p .put-record .ensures .0 ∙ ap (λ (x : List ℕ). stored zeros 0 x) q) in (
       o .copy-out .ensures .0 ∙ e,
       o .copy-out .ensures .1 ∙ ap (λ (w : Answer ℕ). written w (leading (p .put-record .result) (p .put-record .last .1 .1 .0)) (a .out .now)) e
           ∙ ap (λ (x : List ℕ). written (writeOf b (length (a .out .now))) x (a .out .now)) r,

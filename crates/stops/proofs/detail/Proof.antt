@@ -2,9 +2,6 @@
 use mathlib.Core.Path.{_≡_, sym, ap, _∙_, refl}
 use native.Mathlib.Omega.{arith}
 use lib.IntN.{ℤ}
-use mir.Facts.{toZ-ofZ, toZ-pos}
-use mir.Syntax.{w32, w64}
-use mir.Val.{toZ, ofZ}
 use borrow.Author.Needs.{needs}
 use Rattle.stops.specs.Stops.{rowOf}
 use Rattle.stops.specs.declared.Stop.{Stop}
@@ -61,8 +58,29 @@ enum-known-stop-12 c = search needs
 enum-known-stop-13 : tie.Need-enum-known-stop-13
 enum-known-stop-13 c = search needs
 
+enum-known-stop-14 : tie.Need-enum-known-stop-14
+enum-known-stop-14 c = search needs
+
 cast-result-3 : tie.Need-cast-result-3
 cast-result-3 c = search needs
+
+enum-known-stop-15 : tie.Need-enum-known-stop-15
+enum-known-stop-15 c = search needs
+
+cast-result-4 : tie.Need-cast-result-4
+cast-result-4 c = search needs
+
+enum-known-stop-16 : tie.Need-enum-known-stop-16
+enum-known-stop-16 c = search needs
+
+cast-result-5 : tie.Need-cast-result-5
+cast-result-5 c = search needs
+
+enum-known-stop-17 : tie.Need-enum-known-stop-17
+enum-known-stop-17 c = search needs
+
+cast-result-6 : tie.Need-cast-result-6
+cast-result-6 c = search needs
 
 enum-told : tie.Need-enum-told
 enum-told c = search needs
@@ -104,10 +122,22 @@ returns-12 : tie.Need-returns-12
 returns-12 c = beside (c .before .stop12 .given .1) (search needs) refl
 
 returns-13 : tie.Need-returns-13
-returns-13 c = beside (c .before .stop13 .given .1) (small (omega (arith, c .known-told13 .given .0 .1))) refl
+returns-13 c = beside (c .before .stop13 .given .1) (search needs) refl
 
 returns-14 : tie.Need-returns-14
-returns-14 c = beside (c .enum-told .given .1) refl refl
+returns-14 c = beside (c .before .stop14 .given .1) (small (omega (arith, c .known-told14 .given .0 .1))) refl
+
+returns-15 : tie.Need-returns-15
+returns-15 c = beside (c .before .stop15 .given .1) (small (omega (arith, c .known-told15 .given .0 .1))) refl
+
+returns-16 : tie.Need-returns-16
+returns-16 c = beside (c .before .stop16 .given .1) (small (omega (arith, c .known-told16 .given .0 .1))) refl
+
+returns-17 : tie.Need-returns-17
+returns-17 c = beside (c .before .stop17 .given .1) (small (omega (arith, c .known-told17 .given .0 .1))) refl
+
+returns-18 : tie.Need-returns-18
+returns-18 c = beside (c .enum-told .given .1) refl refl
 
 pub detail-spec : {M : Type 1} → statement M
 detail-spec =
@@ -128,7 +158,14 @@ detail-spec =
     enum-known-stop-11
     enum-known-stop-12
     enum-known-stop-13
+    enum-known-stop-14
     cast-result-3
+    enum-known-stop-15
+    cast-result-4
+    enum-known-stop-16
+    cast-result-5
+    enum-known-stop-17
+    cast-result-6
     enum-told
     returns
     returns-2
@@ -143,4 +180,8 @@ detail-spec =
     returns-11
     returns-12
     returns-13
-    returns-14)
+    returns-14
+    returns-15
+    returns-16
+    returns-17
+    returns-18)

@@ -1,11 +1,11 @@
 -- `techniques::apply_advanced_techniques` meets its contract. Assumes nothing.
-use mathlib.Core.Path.{_≡_, refl, sym, ap, ap₂, _∙_}
+use mathlib.Core.Path.{_≡_, ap, ap₂, _∙_}
 use mathlib.Core.Bool.{Bool, cond, _||_}
 use mathlib.Core.List.{List, [], _++_}
 use Prim.Native.Nat.{ℕ}
 use borrow.Author.Needs.{needs}
 use lib.Dec.{ltb}
-use Rattle.steps.specs.Boards.{givensOf}
+use Rattle.steps.specs.Boards.{givens, withMasks}
 use Rattle.board.specs.Boards.{boardOf}
 use Rattle.techniques.specs.Reports.{reportsOf}
 use Rattle.techniques.specs.declared.singles.Reports.{Reports}
@@ -18,7 +18,6 @@ use Rattle.steps.specs.Singles.{nakedSingles, hiddenSingles}
 use Rattle.stops.specs.Answer.{Answer, gives, map, valueOr}
 use Rattle.stops.proofs.Answers.{told}
 use Rattle.steps.specs.Calls.{outcome, Outcome, left}
-use Rattle.board.specs.Boards.{handed}
 use Rattle.board.proofs.Answered.{answers}
 use Rattle.techniques.proofs.apply_advanced_techniques.Statement.{statement}
 use Rattle.techniques.proofs.apply_advanced_techniques.Tie as tie
@@ -50,7 +49,7 @@ renewed-requires c κs = search needs
 returns : tie.Need-returns
 returns c =
     let k = c .before .before .before .before in
-    let b = boardOf (k .before .before .before .before .before .args .board) in
+    let b = boardOf (k .before .before .before .before .before .before .before .args .board) in
     let e = answers advancedCall b (told (k .check .ensures) (c .before .before .stop .given .1)) in
     record { flag = ap (map (λ (o : Outcome). o .flag)) e; board = ap (left b) e; reports = c .new .ensures ∙ ap (λ (a : Answer Outcome). reportsOf (valueOr [] (map (λ (o : Outcome). o .reports) a))) e }
 
@@ -59,13 +58,13 @@ unfolding outcome
 returns-2 c =
     let made = c .before .before in
     let found = made .before .before in
-    let givens = found .before .before .before in
-    let t = givens .before .before in
+    let given = found .before .before .before in
+    let t = given .before .before .before in
     let k = t .before .before in
-    let b = boardOf (k .before .before .before .before .before .args .board) in
-    let g = givensOf (b .clues) in
+    let b = boardOf (k .before .before .before .before .before .before .before .args .board) in
+    let g = givens b in
     let m = b .masks in
-    let same = givens .givens-of .ensures in
+    let same = given .givens-of .ensures in
     let list = nakedSingles g m ++ hiddenSingles g m in
     let rs : found .singles .result ≡ reportsOf list =
     found .singles .ensures ∙ ap (λ (g : List ℕ). reportsOf (nakedSingles g m ++ hiddenSingles g m)) same in
@@ -77,7 +76,7 @@ returns-2 c =
     let e = answers advancedCall b (told (k .check .ensures) (t .enum-told .given .1)) in
     record {
       flag = ap gives flag ∙ ap (map (λ (o : Outcome). o .flag)) e;
-      board = ap (handed (b .clues)) masks ∙ ap (left b) e;
+      board = ap (withMasks b) masks ∙ ap (left b) e;
       reports = rs ∙ ap (λ (a : Answer Outcome). reportsOf (valueOr [] (map (λ (o : Outcome). o .reports) a))) e;
     }
 

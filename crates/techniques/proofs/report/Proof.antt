@@ -4,7 +4,7 @@ use mathlib.Core.List.{List, []}
 use Prim.Native.Nat.{ℕ}
 use borrow.Author.Needs.{needs}
 use lib.Dec.{ltb}
-use Rattle.steps.specs.Boards.{givensOf}
+use Rattle.steps.specs.Boards.{givens}
 use Rattle.board.specs.Boards.{boardOf}
 use Rattle.techniques.specs.Reports.{reportsOf}
 use Rattle.techniques.specs.declared.singles.Reports.{Reports}
@@ -40,7 +40,7 @@ find-requires c κs = search needs
 returns : tie.Need-returns
 returns c =
     let k = c .before .before .before .before in
-    let p = k .before .before .before .before .before .args in
+    let p = k .before .before .before .before .before .before .before .args in
     let b = boardOf (p .board) in
     let e = answers (searchCall (p .search)) b (told (k .check .ensures) (c .before .before .stop .given .1)) in
     record { flag = ap (map (λ (o : Outcome). o .flag)) e; board = ap (left b) e; reports = c .new .ensures ∙ ap (λ (a : Answer Outcome). reportsOf (valueOr [] (map (λ (o : Outcome). o .reports) a))) e }
@@ -53,15 +53,15 @@ finds search.Hidden g m = refl
 returns-2 : tie.Need-returns-2
 returns-2 c =
     let f = c .before in
-    let givens = f .before .before .before in
-    let t = givens .before .before in
+    let given = f .before .before .before in
+    let t = given .before .before .before in
     let k = t .before .before in
-    let p = k .before .before .before .before .before .args in
+    let p = k .before .before .before .before .before .before .before .args in
     let b = boardOf (p .board) in
-    let g = givensOf (b .clues) in
+    let g = givens b in
     let list = reportsFound (p .search) g (b .masks) in
     let rs : f .find .result ≡ reportsOf list =
-    f .find .ensures ∙ ap (λ (g : List ℕ). reportsOf (reportsFound (p .search) g (b .masks))) (givens .givens-of .ensures) in
+    f .find .ensures ∙ ap (λ (g : List ℕ). reportsOf (reportsFound (p .search) g (b .masks))) (given .givens-of .ensures) in
     let o = finds (p .search) g (b .masks) in
     let e = answers (searchCall (p .search)) b (told (k .check .ensures) (t .enum-told .given .1)) in
     record {

@@ -22,14 +22,14 @@ mask-of-requires c κs = search needs
 returns : tie.Need-returns
 returns c =
     let k = c .before .before .before in
-    let s = k .before .before .before .before .before .args in
+    let s = k .before .before .before .before .before .before .before .args in
     ap (λ (a : Answer (Unit {0})). then a (λ _. cellMask (s .self .masks) (s .cell))) (told (k .check .ensures) (c .before .stop .given .1))
 
 returns-2 : tie.Need-returns-2
 returns-2 c =
     let e = c .before .before in
     let k = e .before .before in
-    let s = k .before .before .before .before .before .args in
+    let s = k .before .before .before .before .before .before .before .args in
     c .mask-of .ensures
     ∙ ap (λ (a : Answer (Unit {0})). then a (λ _. cellMask (s .self .masks) (s .cell))) (told (k .check .ensures) (e .enum-told .given .1))
 

@@ -24,14 +24,14 @@ count-clues-requires c κs = search needs
 returns : tie.Need-returns
 returns c =
     let k = c .before .before .before in
-    let n = clueCount (givensOf (k .before .before .before .before .before .args .self .clues)) cells in
+    let n = clueCount (givensOf (k .before .before .before .before .before .before .before .args .self .clues)) cells in
     ap (λ (a : Answer (Unit {0})). passing a n) (told (k .check .ensures) (c .before .stop .given .1))
 
 returns-2 : tie.Need-returns-2
 returns-2 c =
     let e = c .before .before in
     let k = e .before .before in
-    let n = clueCount (givensOf (k .before .before .before .before .before .args .self .clues)) cells in
+    let n = clueCount (givensOf (k .before .before .before .before .before .before .before .args .self .clues)) cells in
     ap gives (c .count-clues .ensures)
     ∙ ap (λ (a : Answer (Unit {0})). passing a n) (told (k .check .ensures) (e .enum-told .given .1))
 

@@ -19,13 +19,13 @@ enum-told-2 c = search needs
 returns : tie.Need-returns
 returns c =
     let k = c .before .before in
-    let m = k .before .before .before .before .before .args .self .masks in
+    let m = k .before .before .before .before .before .before .before .args .self .masks in
     (k .check .ensures, ap (λ (a : Answer (Unit {0})). valueOr noMasks (passing a m)) (told (k .check .ensures) (c .enum-told2 .given .1)))
 
 returns-2 : tie.Need-returns-2
 returns-2 c =
     let k = c .before .before in
-    let m = k .before .before .before .before .before .args .self .masks in
+    let m = k .before .before .before .before .before .before .before .args .self .masks in
     (k .check .ensures, ap (λ (a : Answer (Unit {0})). valueOr noMasks (passing a m)) (told (k .check .ensures) (c .enum-told .given .1)))
 
 pub get-candidates-spec : {M : Type 1} → statement M

@@ -41,10 +41,10 @@ module _ (n : ℕ) (b : S.Board) (r : Stepped) (hands : HandsBack r b (stepAnswe
       ap₂ (λ (q : Reports) (f : Option (Answer Bool)). partsKept f (reportBytes q) lent) (hands .reports) (hands .flag)
       ∙ parts-bytes (stepAnswer n b) lent
 
-  fit : length (b .clues) ≡ 81 → length (b .masks) ≡ 81 → SFits w64 (pos (r .reports .count)) × SFits w64 (pos (r .sweeps)) × SFits w64 (pos (r .removed))
+  fit : length (b .clues) ≡ 81 → length (b .entries) ≡ 81 → length (b .masks) ≡ 81 → SFits w64 (pos (r .reports .count)) × SFits w64 (pos (r .sweeps)) × SFits w64 (pos (r .removed))
   unfolding reportsOf o
-  fit clues masks =
-      let f = step-fits b clues masks n in (
+  fit clues entries masks =
+      let f = step-fits b clues entries masks n in (
         subst (λ (q : Reports). SFits w64 (pos (q .count))) (sym (hands .reports)) (f .reports),
         subst (λ (k : ℕ). SFits w64 (pos k)) (sym (hands .sweeps)) (f .sweeps),
         subst (λ (k : ℕ). SFits w64 (pos k)) (sym (hands .removed)) (f .removed),
@@ -57,7 +57,7 @@ of-stepping-requires : tie.Need-of-stepping-requires
 of-stepping-requires c κs =
     let d = c .before .before in
     let a = d .before .args in
-    fit (a .number) (handed (a .clues) (a .masks)) (d .step .result) (d .step .ensures) (omega arith) (omega arith)
+    fit (a .number) (handed (a .clues) (a .entries) (a .masks)) (d .step .result) (d .step .ensures) (omega arith) (omega arith) (omega arith)
 
 put-reports-requires : tie.Need-put-reports-requires
 put-reports-requires c κs = search needs
@@ -68,7 +68,7 @@ returns c =
     let o = w .before .before in
     let d = o .before .before .before in
     let a = d .before .args in
-    let b = handed (a .clues) (a .masks) in
+    let b = handed (a .clues) (a .entries) (a .masks) in
     let r = d .step .result in
     let hands = d .step .ensures in (
       ap (λ (b : S.Board). b .masks) (hands .board),

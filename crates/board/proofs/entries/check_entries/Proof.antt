@@ -1,0 +1,93 @@
+-- `board::entries::check_entries` meets its contract. Assumes nothing.
+use mathlib.Core.Path.{_≡_, refl, ap₂, _∙_}
+use Prim.Native.Nat.{_-_}
+use native.Mathlib.Omega.{arith}
+use borrow.Author.Needs.{needs}
+use lib.IntN.{pos}
+use lib.ListN.{getD}
+use mir.Facts.{toZ-ofZ}
+use mir.Syntax.{w32}
+use Rattle.grid.specs.Cells.{cells}
+use Rattle.grid.specs.Lists.{range}
+use Rattle.stops.specs.declared.Stop.the-variants.{BadEntry}
+use Rattle.stops.proofs.Answers.{found-stop, none-found}
+use Rattle.steps.specs.Calls.{badEntry, firstBadEntry}
+use Rattle.steps.specs.Loops.{first}
+use Rattle.steps.proofs.Searches.{found, passed, ended}
+use Rattle.board.proofs.entries.check_entries.Statement.{statement}
+use Rattle.board.proofs.entries.check_entries.Tie as tie
+
+abbrev Inv-loop : tie.InvT-loop
+Inv-loop clues entries cell₀ cell = first (λ c. badEntry (getD clues c (pos 0)) (getD entries c (pos 0))) (range (81 - cell) cell) ≡ firstBadEntry clues entries
+
+abbrev μ-loop : tie.MeasureT-loop
+μ-loop clues entries cell₀ cell = 81 - cell
+
+loop-holds : tie.Need-loop-holds Inv-loop μ-loop
+unfolding cells
+loop-holds c = refl
+
+mul-is-bad-entry : tie.Need-mul-is-bad-entry Inv-loop μ-loop
+mul-is-bad-entry c = omega arith
+
+element-copy-out-is-bad-entry : tie.Need-element-copy-out-is-bad-entry Inv-loop μ-loop
+element-copy-out-is-bad-entry c = omega arith
+
+mul-is-bad-entry-2 : tie.Need-mul-is-bad-entry-2 Inv-loop μ-loop
+mul-is-bad-entry-2 c = omega arith
+
+element-copy-out-is-bad-entry-2 : tie.Need-element-copy-out-is-bad-entry-2 Inv-loop μ-loop
+element-copy-out-is-bad-entry-2 c = omega arith
+
+is-bad-entry-requires : tie.Need-is-bad-entry-requires Inv-loop μ-loop
+is-bad-entry-requires c κs = search needs
+
+cast-t14 : tie.Need-cast-t14 Inv-loop μ-loop
+cast-t14 c = search needs
+
+test : (c : tie.After-is-bad-entry Inv-loop μ-loop)
+    → c .is-bad-entry .result
+    ≡ badEntry (getD (c .before .before .before .before .before .args .clues .now) (c .before .before .before .before .loop .cell) (pos 0)) (getD (c .before .before .before .before .before .args .entries .now) (c .before .before .before .before .loop .cell) (pos 0))
+test c =
+    let l = c .before .before .before .before in
+    c .is-bad-entry .ensures
+    ∙ ap₂ badEntry (toZ-ofZ {w = w32} {z = getD (l .before .args .clues .now) (l .loop .cell) (pos 0)} (record { sfits = c .before .before .is-bad-entry-arg .given }))
+    (toZ-ofZ {w = w32} {z = getD (l .before .args .entries .now) (l .loop .cell) (pos 0)} (record { sfits = c .before .is-bad-entry-arg2 .given }))
+
+returns : tie.Need-returns Inv-loop μ-loop
+returns c =
+    let l = c .before .before .before .before .before .loop in
+    found-stop BadEntry (omega arith) (found _ 81 (l .cell) (l .inv) (omega arith) (test (c .before)) (c .if1 .taken))
+
+add-cell : tie.Need-add-cell Inv-loop μ-loop
+add-cell c = omega arith
+
+loop-less : tie.Need-loop-less Inv-loop μ-loop
+loop-less c = omega arith
+
+loop-again : tie.Need-loop-again Inv-loop μ-loop
+loop-again c =
+    let l = c .before .before .before .before .before .loop in
+    passed _ 81 (l .cell) (l .inv) (omega arith) (test (c .before)) (c .if1 .left)
+
+returns-2 : tie.Need-returns-2 Inv-loop μ-loop
+returns-2 c = none-found BadEntry (ended _ 81 (c .before .loop .cell) (c .before .loop .inv) (c .loop-test .left))
+
+pub check-entries-spec : {M : Type 1} → statement M
+check-entries-spec =
+    tie.close
+    (tie.spec
+    Inv-loop
+    μ-loop
+    loop-holds
+    mul-is-bad-entry
+    element-copy-out-is-bad-entry
+    mul-is-bad-entry-2
+    element-copy-out-is-bad-entry-2
+    is-bad-entry-requires
+    cast-t14
+    returns
+    add-cell
+    loop-less
+    loop-again
+    returns-2)

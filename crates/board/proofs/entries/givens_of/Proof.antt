@@ -1,0 +1,85 @@
+-- `board::entries::givens_of` meets its contract. Assumes nothing.
+use mathlib.Core.Path.{_≡_, refl, sym, ap, ap₂, _∙_}
+use mathlib.Core.List.{List, map}
+use Prim.Native.Nat.{_-_}
+use native.Mathlib.Omega.{arith}
+use borrow.Author.Needs.{needs}
+use lib.IntN.{ℤ, pos}
+use lib.ListN.{getD, replicate}
+use mir.Facts.{toZ-ofZ}
+use mir.Syntax.{w32}
+use Rattle.grid.specs.Cells.{cells}
+use Rattle.grid.proofs.Cells.{map-cells}
+use Rattle.grid.proofs.Fills.{filled, fill-start, fill-on, fill-end}
+use Rattle.steps.specs.Boards.{digitOf, givensOf, jointOf, together}
+use Rattle.steps.proofs.Entries.{together-at}
+use Rattle.board.proofs.entries.givens_of.Statement.{statement}
+use Rattle.board.proofs.entries.givens_of.Tie as tie
+
+-- the digit of each cell at once
+joint-givens : (clues entries : List ℤ) → map (λ c. digitOf (jointOf (getD clues c (pos 0)) (getD entries c (pos 0)))) cells ≡ givensOf (together clues entries)
+unfolding givensOf
+joint-givens clues entries = map-cells _ _ (λ c h. ap digitOf (sym (together-at clues entries c h)))
+
+abbrev Inv-loop : tie.InvT-loop
+Inv-loop clues entries givens₀ cell₀ givens cell = filled (λ c. digitOf (jointOf (getD clues c (pos 0)) (getD entries c (pos 0)))) 81 cell givens ≡ givensOf (together clues entries)
+
+abbrev μ-loop : tie.MeasureT-loop
+μ-loop clues entries givens₀ cell₀ givens cell = 81 - cell
+
+loop-holds : tie.Need-loop-holds Inv-loop μ-loop
+unfolding cells
+loop-holds c = fill-start _ 81 (replicate 81 0) refl ∙ joint-givens _ _
+
+mul-joint-digit : tie.Need-mul-joint-digit Inv-loop μ-loop
+mul-joint-digit c = omega arith
+
+element-copy-out-joint-digit : tie.Need-element-copy-out-joint-digit Inv-loop μ-loop
+element-copy-out-joint-digit c = omega arith
+
+mul-joint-digit-2 : tie.Need-mul-joint-digit-2 Inv-loop μ-loop
+mul-joint-digit-2 c = omega arith
+
+element-copy-out-joint-digit-2 : tie.Need-element-copy-out-joint-digit-2 Inv-loop μ-loop
+element-copy-out-joint-digit-2 c = omega arith
+
+joint-digit-requires : tie.Need-joint-digit-requires Inv-loop μ-loop
+joint-digit-requires c κs = search needs
+
+array-write-givens : tie.Need-array-write-givens Inv-loop μ-loop
+array-write-givens c = omega arith
+
+add-cell : tie.Need-add-cell Inv-loop μ-loop
+add-cell c = omega arith
+
+loop-less : tie.Need-loop-less Inv-loop μ-loop
+loop-less c = omega arith
+
+loop-again : tie.Need-loop-again Inv-loop μ-loop
+loop-again c =
+    let l = c .before .before .before .before in
+    fill-on _ 81 (l .loop .cell) (l .loop .givens) (l .loop .inv) (omega arith)
+    (c .joint-digit .ensures
+    ∙ ap₂ (λ (k e : ℤ). digitOf (jointOf k e)) (toZ-ofZ {w = w32} {z = getD (l .before .args .clues .now) (l .loop .cell) (pos 0)} (record { sfits = c .before .before .joint-digit-arg .given }))
+    (toZ-ofZ {w = w32} {z = getD (l .before .args .entries .now) (l .loop .cell) (pos 0)} (record { sfits = c .before .joint-digit-arg2 .given })))
+
+returns : tie.Need-returns Inv-loop μ-loop
+returns c = fill-end _ 81 (c .before .loop .cell) (c .before .loop .givens) (c .before .loop .inv) (c .loop-test .left)
+
+pub givens-of-spec : {M : Type 1} → statement M
+givens-of-spec =
+    tie.close
+    (tie.spec
+    Inv-loop
+    μ-loop
+    loop-holds
+    mul-joint-digit
+    element-copy-out-joint-digit
+    mul-joint-digit-2
+    element-copy-out-joint-digit-2
+    joint-digit-requires
+    array-write-givens
+    add-cell
+    loop-less
+    loop-again
+    returns)
