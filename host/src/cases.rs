@@ -144,15 +144,20 @@ pub fn damaged_case(random: &mut Random) -> Case {
     case
 }
 
-/// A list for `run` from the fresh board, now and then with bytes that are no steps, or with numbers that are no clues.
+/// A list for `run` from a fresh board, with or without entries; now and then with bytes that are no steps, or with numbers that are no
+/// clues or no entries.
 pub fn run_case(random: &mut Random) -> Case {
-    let mut case = Case::fresh(grids::clues(random), list(random, &STEPS, 12));
+    let fresh = Case::fresh(grids::clues(random), list(random, &STEPS, 12));
+    let mut case = with_entries(random, fresh, None);
     if random.percent(20) {
         let at = random.within(0, case.calls.len());
         case.calls.insert(at, Call::Step(random.within(STEPS.len(), 255) as u8));
     }
     if random.percent(10) {
         case.numbers.push((random.below(81), *random.pick(&[-1, 10, i32::MIN, i32::MAX])));
+    }
+    if random.percent(10) {
+        case.entered.push((random.below(81), *random.pick(&[1, 5, 9, -1, 10, i32::MIN, i32::MAX])));
     }
     case
 }
@@ -366,25 +371,28 @@ fn first_unlike(asked: &[(bool, &'static str)]) -> Option<&'static str> {
     asked.iter().find(|(alike, _)| !alike).map(|&(_, what)| what)
 }
 
-/// A list of steps run at once against the steps one after the other, from the fresh board.
-pub fn run_differs(case: &Case) -> Option<String> {
-    let clues = case.board().clues;
+/// What runs a list at once.
+pub type Runner = fn(&[u8], &Clues, &Entries, &mut Masks) -> Result<(), Stop>;
+
+/// A list of steps run at once against the steps one after the other, from the fresh board of clues and entries.
+pub fn run_differs(run: Runner, case: &Case) -> Option<String> {
+    let Board { clues, entries, .. } = case.board();
     let numbers: Vec<u8> = case.calls.iter().filter_map(|call| if let Call::Step(number) = call { Some(*number) } else { None }).collect();
     let mut ours = LENT.1;
-    let answer = crate::run(&numbers, &clues, &mut ours);
-    let (expected, masks) = stepped(&numbers, &clues);
+    let answer = run(&numbers, &clues, &entries, &mut ours);
+    let (expected, masks) = stepped(&numbers, &clues, &entries);
     (answer != expected || ours != masks).then(|| format!("run {answer:?}, one by one {expected:?}: {}", apart(&ours, &masks)))
 }
 
-fn stepped(numbers: &[u8], clues: &Clues) -> (Result<(), Stop>, Masks) {
-    let opened = match plain::open(clues) {
-        Ok(masks) => masks,
+fn stepped(numbers: &[u8], clues: &Clues, entries: &Entries) -> (Result<(), Stop>, Masks) {
+    let opened = match plain::open_with(clues, entries) {
+        Ok(board) => board,
         Err(stop) => return (Err(stop), LENT.1),
     };
     if let Some(index) = numbers.iter().position(|step| !STEPS.contains(step)) {
         return (Err(Stop { number: 20, detail: index as i64 }), LENT.1);
     }
-    let mut side = Engine::start(&Board::without_entries(clues, &opened));
+    let mut side = Engine::start(&opened);
     for &number in numbers {
         if let Err(stop) = side.call(Call::Step(number)) {
             return (Err(stop), side.board().masks);
@@ -455,8 +463,8 @@ pub fn entries_differ<S: Side>(case: &Case) -> Option<String> {
     }
 }
 
-/// The board after a list of steps, and what settling makes of it.
-fn settled<S: Side>(case: &Case, calls: &[Call], filling: Option<&Clues>) -> Result<Masks, String> {
+/// The board after a list of steps, settled.
+fn settled<S: Side>(case: &Case, calls: &[Call], filling: Option<&Clues>) -> Result<Board, String> {
     let mut side = S::start(&case.board());
     played(&mut side, calls, filling)?;
     let before = plain::candidates(&side.board().masks);
@@ -465,13 +473,14 @@ fn settled<S: Side>(case: &Case, calls: &[Call], filling: Option<&Clues>) -> Res
     if left + outcome.removed != before || outcome.sweeps > outcome.removed + 1 {
         return Err(format!("settling counts: before {before}, left {left}, removed {}, sweeps {}", outcome.removed, outcome.sweeps));
     }
+    let board = side.board();
     if let Some(filling) = filling {
-        keeps(filling, &side.board(), &outcome, Call::Step(SETTLING))?;
+        keeps(filling, &board, &outcome, Call::Step(SETTLING))?;
     }
     if let Some(step) = WIDE.iter().find(|&&step| side.call(Call::Step(step)).map(|after| after.masks) != Ok(outcome.masks)) {
         return Err(format!("step {step} changes what settling left"));
     }
-    Ok(outcome.masks)
+    Ok(board)
 }
 
 /// The settling half, on lists that neither enter nor rub out, and the filling half with it.
@@ -479,7 +488,7 @@ pub fn unsound<S: Side>(case: &Case, filling: Option<&Clues>) -> Option<String> 
     let both = (settled::<S>(case, &case.calls, filling), settled::<S>(case, &case.others, filling));
     match both {
         (Err(fault), _) | (_, Err(fault)) => Some(fault),
-        (Ok(one), Ok(two)) if one != two => Some(format!("two lists settle apart: {}", apart(&one, &two))),
+        (Ok(one), Ok(two)) if one != two => Some(format!("two lists settle apart: {}", boards_apart(&one, &two))),
         _ => None,
     }
 }

@@ -40,7 +40,7 @@ impl Board {
 }
 
 /// The number of the signatures below, which is raised with each change of one; `abi` says what the archive has.
-pub const ABI: u32 = 1;
+pub const ABI: u32 = 2;
 
 extern "C" {
     fn sudoku_abi() -> u32;
@@ -55,7 +55,7 @@ extern "C" {
     fn sudoku_enter(cell: u32, digit: i32, clues: *const Clues, entries: *mut Entries, masks: *mut Masks, answer: *mut Answer);
     fn sudoku_rub_out(cell: u32, clues: *const Clues, entries: *mut Entries, masks: *mut Masks, answer: *mut Answer);
     fn sudoku_step(step: u8, clues: *const Clues, entries: *const Entries, masks: *mut Masks, reports: *mut ReportBytes, answer: *mut Answer);
-    fn sudoku_run(steps: *const u8, length: usize, clues: *const Clues, masks: *mut Masks, answer: *mut Answer);
+    fn sudoku_run(steps: *const u8, length: usize, clues: *const Clues, entries: *const Entries, masks: *mut Masks, answer: *mut Answer);
     fn sudoku_write_text(clues: *const Clues, text: *mut u8, length: usize, answer: *mut Answer);
     fn sudoku_read_sheet(sheet: *const u8, length: usize, clues: *mut Clues, answer: *mut Answer);
     fn sudoku_write_sheet(clues: *const Clues, sheet: *mut u8, length: usize, answer: *mut Answer);
@@ -223,9 +223,9 @@ pub fn step(step: u8, Board { clues, entries, masks }: &mut Board, reports: &mut
     answered(|answer| unsafe { sudoku_step(step, clues, entries, masks, reports, answer) })
 }
 
-/// The masks after a list of steps from the fresh board of the clues.
-pub fn run(steps: &[u8], clues: &Clues, masks: &mut Masks) -> Result<(), Stop> {
-    answered(|answer| unsafe { sudoku_run(steps.as_ptr(), steps.len(), clues, masks, answer) }).map(drop)
+/// The masks after a list of steps from the fresh board of clues and entries.
+pub fn run(steps: &[u8], clues: &Clues, entries: &Entries, masks: &mut Masks) -> Result<(), Stop> {
+    answered(|answer| unsafe { sudoku_run(steps.as_ptr(), steps.len(), clues, entries, masks, answer) }).map(drop)
 }
 
 /// The text of the clues in the first 81 lent bytes, and how many were written.

@@ -173,6 +173,12 @@ pub fn open(clues: &Clues) -> Result<Masks, Stop> {
     bad_clue(clues).map_or_else(|| Ok(fresh(clues)), Err)
 }
 
+/// "the fresh board of one clue grid with one set of entries" (document 02, F-7): their stops are 3, then 8.
+pub fn open_with(clues: &Clues, entries: &Entries) -> Result<Board, Stop> {
+    let board = Board { clues: *clues, entries: *entries, masks: [0; 81] };
+    bad_clue(clues).or_else(|| bad_entry(&board)).map_or_else(|| Ok(afresh(clues, entries)), Err)
+}
+
 // ---- entries (document 02, F-6)
 
 /// After the board's own stops "the order is 5, 4 (entering only), 12, 13".

@@ -1,6 +1,6 @@
 //! The comparison has teeth: each misreading of document 01 or 02 below is found within some thousand cases, and made small.
 
-use sudoku_host::cases::{accessors_differ, damaged_case, differ, ported_case, ported_with_entries, Case};
+use sudoku_host::cases::{accessors_differ, damaged_case, differ, ported_case, ported_with_entries, run_case, run_differs, Case, Runner};
 use sudoku_host::plain::{self, bit, block, col, row, see, unit, Outcome};
 use sudoku_host::random::Random;
 use sudoku_host::record_cases::{board_case, damaged, read_differs, record, written_differs, Record};
@@ -8,7 +8,7 @@ use sudoku_host::sheet_cases::{sheet, sheet_differs};
 use sudoku_host::shrink::shrunk;
 use sudoku_host::sides::{Accessors, Asked, Call, Engine, Original, Plain, Records, Side, CHAIN};
 use sudoku_host::text_cases::Input;
-use sudoku_host::{counted, Board, Clues, Masks, Stop};
+use sudoku_host::{counted, run, Board, Clues, Masks, Stop, NO_ENTRIES};
 
 /// The plain implementation with one step misread, on boards without entries.
 struct Misread<const WHICH: usize>(Board);
@@ -312,6 +312,14 @@ fn entering_that_keeps_removals() {
 fn clue_cell_refused_before_the_digit() {
     let smallest = found_with_entries::<Engine, TWELVE_BEFORE_FOUR>(ported_with_entries);
     assert_eq!((counted(&smallest.clues), smallest.calls.len()), (1, 1));
+}
+
+/// Document 02, F-7: a list starts from the fresh board of clues and entries.
+#[test]
+fn lists_run_without_the_entries() {
+    let forgets: Runner = |steps, clues, _, masks| run(steps, clues, &NO_ENTRIES, masks);
+    let smallest = smallest_case(run_case, &|case| run_differs(forgets, case));
+    assert_eq!((counted(&smallest.board().entries), smallest.calls.len()), (1, 0));
 }
 
 struct CountsEntries;

@@ -6,7 +6,7 @@ use sudoku_host::plain::{self, fresh, Outcome};
 use sudoku_host::random::Random;
 use sudoku_host::sheet_cases::{ruled, Style, BOXED};
 use sudoku_host::sides::{Accessors, Call, Engine, Original, Plain, Records, Side};
-use sudoku_host::{Board, Clues, Masks, Stop, ABI, NO_ENTRIES};
+use sudoku_host::{run, Board, Clues, Entries, Masks, Stop, ABI, NO_ENTRIES};
 
 const OPEN: Clues = [0; 81];
 
@@ -380,6 +380,28 @@ fn lists_that_leave_the_same_entries() {
     let two = played(&fresh, &[Call::Enter(80, 1), Call::RubOut(80), Call::Enter(80, 9), Call::Enter(40, 9)]);
     assert_eq!(one, two);
     assert_eq!(one, plain::afresh(&p8(), &one.entries));
+}
+
+/// Document 02, F-7: a list starts from "the fresh board of one clue grid with one set of entries". Its stops are 3, then 8, then the list's own.
+#[test]
+fn lists_run_from_clues_and_entries() {
+    let mut entries = NO_ENTRIES;
+    entries[80] = 1;
+    let mut masks = [7; 81];
+    assert_eq!(run(&[2, 4], &p10(), &entries, &mut masks), Ok(()));
+    assert_eq!(masks, played(&fresh_board(&p10()), &[Call::Enter(80, 1), Call::Step(2), Call::Step(4)]).masks);
+    let mut refused = |clues: &Clues, entries: &Entries, number, detail| {
+        masks = [7; 81];
+        assert_eq!((run(&[2, 15], clues, entries, &mut masks), masks), (stop(number, detail), [7; 81]));
+    };
+    refused(&p10(), &entries, 20, 1);
+    entries[20] = 9;
+    refused(&p10(), &entries, 8, 20);
+    entries[20] = 10;
+    refused(&OPEN, &entries, 8, 20);
+    let mut clues = OPEN;
+    clues[80] = -1;
+    refused(&clues, &entries, 3, 80);
 }
 
 /// Each call has the board's stops, whatever else is wrong.

@@ -1,5 +1,5 @@
 -- The check of a handed board as the code makes it: a mask beside the fresh one, and the first cells of stops 3, 8 and 9. Assumes nothing.
-use mathlib.Core.Path.{_≡_, sym, ap, _∙_}
+use mathlib.Core.Path.{_≡_, sym, ap, ap₂, _∙_}
 use mathlib.Core.Bool.{true, false, not, and-true, and-false, or-true}
 use mathlib.Core.List.{List}
 use mathlib.Core.Option.{Option}
@@ -14,10 +14,10 @@ use Rattle.candidates.specs.Masks.{minus}
 use Rattle.candidates.proofs.Order.{sub-refl, minus-of-sub}
 use Rattle.grid.specs.Cells.{cells}
 use Rattle.steps.specs.Boards.{Board, at, givens, given, fresh}
-use Rattle.steps.specs.Calls.{Clues, badClue, badMask, firstBadClue, firstBadEntry, checkOf, opened}
+use Rattle.steps.specs.Calls.{Clues, Entries, badClue, badEntry, badMask, firstBadClue, firstBadEntry, checkOf, opened, openedWith}
 use Rattle.steps.specs.Loops.{first}
 use Rattle.steps.proofs.Fresh.{fresh-at}
-use Rattle.board.specs.Boards.{openOf}
+use Rattle.board.specs.Boards.{openOf, openWithOf}
 use Rattle.board.specs.code.Checks.{misfitOf, firstMisfit}
 use Rattle.steps.proofs.Searches.{first-cells, cells-none}
 
@@ -52,3 +52,10 @@ checks b {g} {f} p q =
 pub clues-open : (clues : List ℤ) → Clues clues → openOf clues ≡ gives (opened clues)
 unfolding openOf
 clues-open clues ok = ap (λ (x : Option ℕ). passing (stopAt BadClue x) (opened clues)) (cells-none (λ c. badClue (getD clues c (pos 0))) (ok .good))
+
+pub entries-open : (clues entries : List ℤ) → Clues clues → Entries clues entries → openWithOf clues entries ≡ gives (openedWith clues entries)
+unfolding openWithOf
+entries-open clues entries ok en =
+    ap₂ (λ (x y : Option ℕ). then (stopAt BadClue x) (λ _. passing (stopAt BadEntry y) (openedWith clues entries)))
+    (cells-none (λ c. badClue (getD clues c (pos 0))) (ok .good))
+    (cells-none (λ c. badEntry (getD clues c (pos 0)) (getD entries c (pos 0))) (en .good))

@@ -10,17 +10,13 @@ use Rattle.steps.specs.Entries.{EntryCall, entriesAfter, entryAnswer}
 use Rattle.board.specs.Boards.{boardOf}
 use Rattle.board.specs.Entering.{Enters}
 use Rattle.board.specs.declared.entries.Pencilled.{Pencilled}
+use Rattle.board.proofs.Answered.{beside}
 
 -- two checks, and what is made where both pass
 both-pass : {A B : Type 0} (f : A → B) (v : A) (first second : Answer (Unit {0})) → passing (then first (λ _. second)) (f v) ≡ then first (λ _. map f (passing second v))
 both-pass f v (stop s) second = refl
 both-pass f v (gives u) (stop s) = refl
 both-pass f v (gives u) (gives w) = refl
-
--- a value that stands beside its answer
-beside : {A : Type 0} (old new : A) (a : Answer (Unit {0})) → passing a (valueOr old (passing a new)) ≡ passing a new
-beside old new (gives u) = refl
-beside old new (stop s) = refl
 
 pub enters : (k : EntryCall) (b : S.Board) (es : List ℤ) (r : Pencilled) (first second answer : Check) → checkAnswer first ≡ checkOf b → passing (checkAnswer second) es ≡ entriesAfter k (b .clues) (b .entries)
     → checkAnswer answer ≡ then (checkAnswer first) (λ _. checkAnswer second) → r .answer ≡ answer → boardOf (r .board) ≡ valueOr b (passing (checkAnswer answer) (openedWith (b .clues) es)) → Enters k b r

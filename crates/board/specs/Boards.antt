@@ -5,8 +5,8 @@ use Prim.Native.Nat.{ℕ, suc}
 use lib.Dec.{eqb, ltb}
 use lib.IntN.{ℤ, pos}
 use lib.ListN.{replicate}
-use Rattle.stops.specs.Answer.{Answer, gives, stop, passing, stopAt}
-use Rattle.stops.specs.declared.Stop.the-variants.{BadClue, NoCell}
+use Rattle.stops.specs.Answer.{Answer, gives, stop, passing, stopAt, then}
+use Rattle.stops.specs.declared.Stop.the-variants.{BadClue, BadEntry, NoCell}
 use Rattle.candidates.specs.Masks.{lowNine, count}
 use Rattle.candidates.specs.Sets.{onlyOf, digitOr0}
 use Rattle.grid.specs.Cells.{cells}
@@ -14,7 +14,7 @@ use Rattle.grid.specs.Fillings.{verified}
 use Rattle.grid.specs.Lists.{all}
 use Rattle.steps.specs.Boards as S
 use Rattle.steps.specs.Boards.{at, isOpen, noEntries}
-use Rattle.steps.specs.Calls.{firstBadClue, opened}
+use Rattle.steps.specs.Calls.{firstBadClue, firstBadEntry, opened, openedWith}
 use Rattle.board.specs.declared.Board.{Board}
 use Rattle.board.specs.declared.Verdict.{Verdict}
 use Rattle.board.specs.declared.Verdict.the-variants.{Dead, Finished, Open}
@@ -40,6 +40,12 @@ noBoard = handed noClues noEntries noMasks
 -- the opener: "first clue outside 0 to 9", else clues and fresh masks
 unfoldable pub openOf : List ℤ → Answer S.Board
 openOf clues = passing (stopAt BadClue (firstBadClue clues)) (opened clues)
+
+-- the fresh board of clues and entries: a bad clue, then a bad entry, each with its first cell
+unfoldable pub openWithOf : List ℤ → List ℤ → Answer S.Board
+openWithOf clues entries =
+    then (stopAt BadClue (firstBadClue clues)) λ _.
+    passing (stopAt BadEntry (firstBadEntry clues entries)) (openedWith clues entries)
 
 -- how many cells have a clue: "`clue_count` and `original_puzzle` give the printed clues alone" (document 02, F-6)
 unfoldable pub clueCount : List ℕ → List ℕ → ℕ

@@ -6,9 +6,9 @@ ghost use Rattle.stops.specs.Answer.{checkAnswer, passing, stopAt, then, valueO
 ghost use Rattle.stops.specs.declared.Stop.the-variants.{BadClue, BadEntry, BadMask};
 ghost use Rattle.grid.specs.Cells.{cells};
 ghost use Rattle.steps.specs.Boards.{givensOf};
-ghost use Rattle.steps.specs.Calls.{answer, checkOf, firstBadClue, firstBadEntry, left, updateCandidates};
+ghost use Rattle.steps.specs.Calls.{answer, checkOf, firstBadClue, firstBadEntry, left, openedWith, updateCandidates};
 ghost use Rattle.board.specs.Answers.{cellMaskAnswer, countingAnswer, verdictAnswer};
-ghost use Rattle.board.specs.Boards.{boardOf, cellMask, clueCount, handed, noBoard, noClues, noMasks, openOf, verdictOf};
+ghost use Rattle.board.specs.Boards.{boardOf, cellMask, clueCount, handed, noBoard, noClues, noMasks, openOf, openWithOf, verdictOf};
 ghost use Rattle.board.specs.code.Checks.{firstMisfit, misfitOf};
 use candidates::masks;
 use stops::Check;
@@ -149,6 +149,22 @@ pub fn count_clues(clues: &[i32; 81]) -> usize
     count
 }
 
+// The board worked out afresh where the check passed; zeros beside a refusal.
+fn open_after(answer: Check, clues: [i32; 81], entries: [i32; 81]) -> Opened
+    ensures { λ r. ⌜ (r .answer ≡ answer) × (boardOf (r .board) ≡ valueOr noBoard (passing (checkAnswer answer) (openedWith clues entries))) ⌝ }
+{
+    let Check::Passed = answer else {
+        return Opened {
+            answer,
+            board: Board::zeros(),
+        };
+    };
+    Opened {
+        answer,
+        board: entries::fresh_board(clues, entries),
+    }
+}
+
 // The mask of a cell; stop 5 above cell 80.
 fn mask_of(masks: &[u16; 81], cell: u32) -> CellMask
     ensures { λ r. ⌜ cellMaskAnswer r ≡ cellMask (now (masks .entry)) cell ⌝ }
@@ -175,17 +191,18 @@ impl Board {
     pub fn new(clues: [i32; 81]) -> Opened
         ensures { λ r. ⌜ (passing (checkAnswer (r .answer)) (boardOf (r .board)) ≡ openOf clues) × (boardOf (r .board) ≡ valueOr noBoard (openOf clues)) ⌝ }
     {
-        let answer = clues::check_clues(&clues);
-        let Check::Passed = answer else {
-            return Opened {
-                answer,
-                board: Board::zeros(),
-            };
-        };
-        Opened {
-            answer,
-            board: entries::fresh_board(clues, [0; 81]),
-        }
+        open_after(clues::check_clues(&clues), clues, [0; 81])
+    }
+
+    // Clues, entries and fresh masks: stop 3, then stop 8.
+    pub fn with_entries(clues: [i32; 81], entries: [i32; 81]) -> Opened
+        ensures { λ r. ⌜ (passing (checkAnswer (r .answer)) (boardOf (r .board)) ≡ openWithOf clues entries) × (boardOf (r .board) ≡ valueOr noBoard (openWithOf clues entries)) ⌝ }
+    {
+        let answer = stops::then(
+            clues::check_clues(&clues),
+            entries::check_entries(&clues, &entries),
+        );
+        open_after(answer, clues, entries)
     }
 
     // Fresh masks again.

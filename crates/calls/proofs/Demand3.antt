@@ -1,5 +1,6 @@
 -- Demand 3 of what the calls hand back, from the theorem about lists of calls and about settling (steps/proofs/Lists). Assumes nothing.
 use mathlib.Core.Path.{_≡_, refl, sym, ap, _∙_, subst}
+use mathlib.Core.Logic.{_↔_}
 use mathlib.Core.Bool.{Bool, true}
 use mathlib.Core.List as lists
 use mathlib.Core.List.{List, [], _∷_, _++_}
@@ -10,18 +11,19 @@ use Rattle.stops.specs.Answer.{Answer, gives, stop, passing, valueOr, map, prog
 use Rattle.stops.specs.declared.Progress.{Progress}
 use Rattle.stops.specs.declared.Progress.the-variants as progress
 use Rattle.steps.specs.Boards as S
-use Rattle.steps.specs.Boards.{noEntries, total}
-use Rattle.steps.specs.Calls.{Clues, Entries, Call, withoutChain, wide, settlingCall, checkOf, Admitted, Outcome, outcome, answer, left, opened, openedWith, run}
+use Rattle.steps.specs.Boards.{noEntries, sameBoard, total}
+use Rattle.steps.specs.Calls.{Clues, Entries, Call, withoutChain, wide, settlingCall, checkOf, Admitted, Outcome, outcome, answer, left, openedWith, run}
 use Rattle.steps.specs.Entries.{EntryCall, entryAnswer, Deed, step, entry, deed, play, callsIn}
 use Rattle.steps.specs.Passes.{Kind, sweep, settle, removedBy}
-use Rattle.steps.proofs.Entries.{no-entries, entry-leaves}
+use Rattle.steps.proofs.Entries.{entry-leaves}
+use Rattle.steps.proofs.EqualBoards.{equal-boards}
 use Rattle.steps.proofs.ListTheorem as steps
 use Rattle.steps.proofs.Lists.{play-run, calls-alone, list-theorem}
-use Rattle.board.specs.Boards.{boardOf, noBoard, openOf}
+use Rattle.board.specs.Boards.{boardOf, noBoard, openOf, openWithOf}
 use Rattle.board.specs.Entering.{Enters}
 use Rattle.board.specs.declared.Board.{Board}
 use Rattle.board.specs.declared.entries.Pencilled.{Pencilled}
-use Rattle.board.proofs.Checks.{clues-open}
+use Rattle.board.proofs.Checks.{clues-open, entries-open}
 use Rattle.eliminations.specs.Eliminations.{Eliminates}
 use Rattle.eliminations.specs.declared.Eliminated.{Eliminated}
 use Rattle.passes.specs.declared.Counts.{Counts}
@@ -67,6 +69,10 @@ opens : (clues : List ℤ) → Clues clues → (b : Board) → boardOf b ≡ val
 unfolding play
 opens clues ok b e = e ∙ ap (valueOr noBoard) (clues-open clues ok)
 
+opens-with : (clues entries : List ℤ) → Clues clues → Entries clues entries → (b : Board) → boardOf b ≡ valueOr noBoard (openWithOf clues entries) → After clues entries [] b
+unfolding play
+opens-with clues entries ok en b e = e ∙ ap (valueOr noBoard) (entries-open clues entries ok en)
+
 calls : (clues entries : List ℤ) (xs : List Deed) (b : Board) → After clues entries xs b → (k : Call) (c : Board) → boardOf c ≡ left (boardOf b) (answer k (boardOf b)) → After clues entries (xs ++ step k ∷ []) c
 unfolding deed
 calls clues entries xs b at k c e = e ∙ ap (λ (b : S.Board). left b (answer k b)) at ∙ sym (play-snoc xs (step k) (openedWith clues entries))
@@ -75,11 +81,11 @@ enters : (clues entries : List ℤ) (xs : List Deed) (b : Board) → After clues
 unfolding deed
 enters clues entries xs b at k r e = e .board ∙ ap (λ (b : S.Board). valueOr b (entryAnswer k b)) at ∙ sym (play-snoc xs (entry k) (openedWith clues entries))
 
-replays : (clues : List ℤ) → Clues clues → (ns : List ℕ) → firstNoStep ns ≡ none → (r : Replayed) → Replays clues ns r
-    → (r .answer ≡ replaying.Done) × After clues noEntries (lists.map step (callsOf ns)) (r .board)
-replays clues ok ns steps r e =
-    let is : replayOf clues ns ≡ gives (ran (run (callsOf ns) (opened clues))) = sym (run-replayed clues ns (sym (clues-open clues ok)) (sym steps)) in
-    (done (r .answer) (boardOf (r .board)) _ (e .answer ∙ is), e .board ∙ ap reached is ∙ sym (play-run (callsOf ns) (opened clues)))
+replays : (clues entries : List ℤ) → Clues clues → Entries clues entries → (ns : List ℕ) → firstNoStep ns ≡ none → (r : Replayed) → Replays clues entries ns r
+    → (r .answer ≡ replaying.Done) × After clues entries (lists.map step (callsOf ns)) (r .board)
+replays clues entries ok en ns steps r e =
+    let is : replayOf clues entries ns ≡ gives (ran (run (callsOf ns) (openedWith clues entries))) = sym (run-replayed clues entries ns (sym (entries-open clues entries ok en)) (sym steps)) in
+    (done (r .answer) (boardOf (r .board)) _ (e .answer ∙ is), e .board ∙ ap reached is ∙ sym (play-run (callsOf ns) (openedWith clues entries)))
 
 step-clues : (b : S.Board) (a : Answer Outcome) → left b a .clues ≡ b .clues
 step-clues b (gives o) = refl
@@ -109,14 +115,16 @@ lists-end clues entries ok en ks ls nk nl B C at bt s =
     let one = list-theorem .lists clues entries ok en ks ls nk nl (subst steps.BoardSettled p s) in
     (λ e. subst IsSettled e s, λ t. same B C (p ∙ one .1 (subst steps.BoardSettled q t) ∙ sym q))
 
-replayed : (clues : List ℤ) → Clues clues → (ns ms : List ℕ) → StepsWithoutChain ns → StepsWithoutChain ms → (B C : Replayed) → Replays clues ns B → Replays clues ms C
+equal : (B C : Board) → (sameBoard (boardOf B) (boardOf C) ≡ true) ↔ (B ≡ C)
+equal B C = let t = equal-boards .test (boardOf B) (boardOf C) in (λ s. same B C (t .0 s), λ e. t .1 (ap boardOf e))
+
+replayed : (clues entries : List ℤ) → Clues clues → Entries clues entries → (ns ms : List ℕ) → StepsWithoutChain ns → StepsWithoutChain ms → (B C : Replayed) → Replays clues entries ns B → Replays clues entries ms C
     → OneEnd (B .board) (C .board) × FillingsStay (B .board)
-replayed clues ok ns ms n m B C p q =
-    let first = replays clues ok ns (n .steps) B p .1 in
-    let second = replays clues ok ms (m .steps) C q .1 in
-    let none = no-entries clues in (
-      lists-end clues noEntries ok none (callsOf ns) (callsOf ms) (n .without) (m .without) (B .board) (C .board) first second,
-      fillings clues noEntries ok none (lists.map step (callsOf ns)) (ap withoutChain (calls-alone (callsOf ns)) ∙ n .without) (B .board) first,
+replayed clues entries ok en ns ms n m B C p q =
+    let first = replays clues entries ok en ns (n .steps) B p .1 in
+    let second = replays clues entries ok en ms (m .steps) C q .1 in (
+      lists-end clues entries ok en (callsOf ns) (callsOf ms) (n .without) (m .without) (B .board) (C .board) first second,
+      fillings clues entries ok en (lists.map step (callsOf ns)) (ap withoutChain (calls-alone (callsOf ns)) ∙ n .without) (B .board) first,
     )
 
 entered : (clues entries : List ℤ) (ks ls : List EntryCall) (B C : Board) → After clues entries (lists.map entry ks) B → After clues entries (lists.map entry ls) C → Afresh clues B C
@@ -169,6 +177,7 @@ pub demand3 : Demand3
 demand3 =
     record {
       opens = opens;
+      opensWith = opens-with;
       calls = calls;
       enters = enters;
       replays = replays;
@@ -176,6 +185,7 @@ demand3 =
       taken = taken;
       fillings = fillings;
       lists = lists-end;
+      equal = equal;
       replayed = replayed;
       below = λ ns h. record { steps = all-steps ns h; without = unchained-calls ns h };
       entered = entered;

@@ -10,7 +10,7 @@ use lib.Seq.{drop-cons}
 use Rattle.stops.specs.Answer.{Answer, map}
 use Rattle.steps.specs.Boards as S
 use Rattle.steps.specs.Calls.{Call, answer, run}
-use Rattle.board.specs.Boards.{boardOf, openOf}
+use Rattle.board.specs.Boards.{boardOf, openWithOf}
 use Rattle.calls.specs.Replays.{Run, callsOf, consCall, firstNoStep, runOr, replayOf, replayingAnswer, reached, Replays}
 use Rattle.calls.specs.StepNumbers.{stepCall, stepAnswer, stepLeft}
 use Rattle.calls.specs.declared.Replayed.{Replayed}
@@ -32,10 +32,10 @@ module _ (ns : List ℕ) (i : ℕ) where
   unfolding run callsOf
   run-end h b = ap (λ (l : List ℕ). run (callsOf l) b) (drop-of-length-le ns h)
 
-module _ (clues : List ℤ) (ns : List ℕ) where
-  pub replays : {r : Replayed} (a : Answer Run) → a ≡ replayOf clues ns → replayingAnswer (r .answer) (boardOf (r .board)) ≡ a → boardOf (r .board) ≡ reached a → Replays clues ns r
+module _ (clues entries : List ℤ) (ns : List ℕ) where
+  pub replays : {r : Replayed} (a : Answer Run) → a ≡ replayOf clues entries ns → replayingAnswer (r .answer) (boardOf (r .board)) ≡ a → boardOf (r .board) ≡ reached a → Replays clues entries ns r
   replays a is answer board = record { answer = answer ∙ is; board = board ∙ ap reached is }
 
-  pub run-replayed : {a : Answer S.Board} → a ≡ openOf clues → {o : Option ℕ} → o ≡ firstNoStep ns → map (runOr o (callsOf ns)) a ≡ replayOf clues ns
+  pub run-replayed : {a : Answer S.Board} → a ≡ openWithOf clues entries → {o : Option ℕ} → o ≡ firstNoStep ns → map (runOr o (callsOf ns)) a ≡ replayOf clues entries ns
   unfolding replayOf
   run-replayed {a} e same = ap (λ (o : Option ℕ). map (runOr o (callsOf ns)) a) same ∙ ap (map (runOr (firstNoStep ns) (callsOf ns))) e

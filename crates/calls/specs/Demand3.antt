@@ -10,12 +10,12 @@ use lib.ListN.{length, getD}
 use Rattle.stops.specs.Answer.{gives, valueOr}
 use Rattle.stops.specs.declared.Progress.the-variants as progress
 use Rattle.grid.specs.Fillings.{verified}
-use Rattle.steps.specs.Boards.{givens, noEntries, total}
+use Rattle.steps.specs.Boards.{givens, noEntries, sameBoard, total}
 use Rattle.steps.specs.Calls.{Clues, Entries, Call, withoutChain, wide, checkOf, Admitted, answer, left, openedWith}
 use Rattle.steps.specs.Entries.{EntryCall, Deed, step, entry, play, callsIn}
 use Rattle.steps.specs.Fillings.{Keeps, InMasks}
 use Rattle.steps.specs.Passes.{Kind, pass, sweep, swept, changed, Settled}
-use Rattle.board.specs.Boards.{boardOf, noBoard, openOf}
+use Rattle.board.specs.Boards.{boardOf, noBoard, openOf, openWithOf}
 use Rattle.board.specs.Entering.{Enters}
 use Rattle.board.specs.declared.Board.{Board}
 use Rattle.board.specs.declared.entries.Pencilled.{Pencilled}
@@ -85,23 +85,26 @@ pub record SettlingDone (b : Board) (r : SettledBoard) (n x : ℕ) : Type 0 wher
   pub most : n ≤ 730
 
 pub record Demand3 : Type 0 where
-  -- Which boards are those after a list: the one that `Board::new` opens after none; what a call hands back after one call more, where the equation is its contract's; likewise what `enter` and `rub_out` hand back; what `replay` hands back.
+  -- Which boards are those after a list: the one that `Board::new` or `Board::with_entries` opens after none; what a call hands back after one call more, where the equation is its contract's; likewise what `enter` and `rub_out` hand back; what `replay` hands back.
   pub opens : (clues : List ℤ) → Clues clues → (b : Board) → boardOf b ≡ valueOr noBoard (openOf clues) → After clues noEntries [] b
+  pub opensWith : (clues entries : List ℤ) → Clues clues → Entries clues entries → (b : Board) → boardOf b ≡ valueOr noBoard (openWithOf clues entries) → After clues entries [] b
   pub calls : (clues entries : List ℤ) (xs : List Deed) (b : Board) → After clues entries xs b → (k : Call) (c : Board) → boardOf c ≡ left (boardOf b) (answer k (boardOf b)) → After clues entries (xs ++ step k ∷ []) c
   pub enters : (clues entries : List ℤ) (xs : List Deed) (b : Board) → After clues entries xs b → (k : EntryCall) (r : Pencilled) → Enters k (boardOf b) r → After clues entries (xs ++ entry k ∷ []) (r .board)
-  pub replays : (clues : List ℤ) → Clues clues → (ns : List ℕ) → firstNoStep ns ≡ none → (r : Replayed) → Replays clues ns r
-      → (r .answer ≡ replaying.Done) × After clues noEntries (map step (callsOf ns)) (r .board)
+  pub replays : (clues entries : List ℤ) → Clues clues → Entries clues entries → (ns : List ℕ) → firstNoStep ns ≡ none → (r : Replayed) → Replays clues entries ns r
+      → (r .answer ≡ replaying.Done) × After clues entries (map step (callsOf ns)) (r .board)
   -- the clues are the grid's
   pub printed : (clues entries : List ℤ) (xs : List Deed) (B : Board) → After clues entries xs B → B .clues ≡ clues
   -- "on these boards stops 3 and 9 never occur", nor does 8, the chain pass among the calls or not
   pub taken : (clues entries : List ℤ) → Clues clues → Entries clues entries → (xs : List Deed) (b : Board) → After clues entries xs b → checkOf (boardOf b) ≡ gives tt
   -- "any clue grid of 0 to 9 and" any "lists of document 01's board calls without the chain pass", entering and rubbing out among them
   pub fillings : (clues entries : List ℤ) → Clues clues → Entries clues entries → (xs : List Deed) → withoutChain (callsIn xs) ≡ true → (B : Board) → After clues entries xs B → FillingsStay B
-  -- "Settled boards are compared only where neither list enters or rubs out."
+  -- "The settling promise starts both lists from the fresh board of one clue grid with one set of entries, and neither list enters or rubs out." (document 02, F-7)
   pub lists : (clues entries : List ℤ) → Clues clues → Entries clues entries → (ks ls : List Call) → withoutChain ks ≡ true → withoutChain ls ≡ true → (B C : Board)
       → After clues entries (map step ks) B → After clues entries (map step ls) C → OneEnd B C
+  -- where "two boards are equal exactly if they have the same clues, the same entries and the same masks"
+  pub equal : (B C : Board) → (sameBoard (boardOf B) (boardOf C) ≡ true) ↔ (B ≡ C)
   -- and so of any two values that `replay` hands back; step numbers below 15 other than 13 are those of the calls without the chain pass
-  pub replayed : (clues : List ℤ) → Clues clues → (ns ms : List ℕ) → StepsWithoutChain ns → StepsWithoutChain ms → (B C : Replayed) → Replays clues ns B → Replays clues ms C
+  pub replayed : (clues entries : List ℤ) → Clues clues → Entries clues entries → (ns ms : List ℕ) → StepsWithoutChain ns → StepsWithoutChain ms → (B C : Replayed) → Replays clues entries ns B → Replays clues entries ms C
       → OneEnd (B .board) (C .board) × FillingsStay (B .board)
   pub below : (ns : List ℕ) → ((i : ℕ) → i < length ns → (getD ns i 0 < 15) × (getD ns i 0 ≢ 13)) → StepsWithoutChain ns
   pub entered : (clues entries : List ℤ) (ks ls : List EntryCall) (B C : Board) → After clues entries (map entry ks) B → After clues entries (map entry ls) C → Afresh clues B C

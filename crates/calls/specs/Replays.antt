@@ -1,4 +1,4 @@
--- Lists of step numbers, run from the fresh board of 81 clues.
+-- Lists of step numbers, run from "the fresh board of one clue grid with one set of entries" (document 02, F-7).
 use mathlib.Core.Path.{_≡_}
 use mathlib.Core.Bool.{not}
 use mathlib.Core.List.{List, [], _∷_}
@@ -10,7 +10,7 @@ use Rattle.stops.specs.Answer.{Answer, gives, stop, map}
 use Rattle.steps.specs.Boards as S
 use Rattle.steps.specs.Calls.{Call, run}
 use Rattle.steps.specs.Loops.{first, upTo}
-use Rattle.board.specs.Boards.{boardOf, noBoard, openOf}
+use Rattle.board.specs.Boards.{boardOf, noBoard, openWithOf}
 use Rattle.calls.specs.StepNumbers.{stepCall, isStep}
 use Rattle.calls.specs.declared.Replayed.{Replayed}
 use Rattle.calls.specs.declared.Replaying.{Replaying}
@@ -38,9 +38,9 @@ abbrev pub runOr : Option ℕ → List Call → S.Board → Run
 runOr none ks b = ran (run ks b)
 runOr (some i) ks b = noStep i
 
--- the opener's stop comes first
-unfoldable pub replayOf : List ℤ → List ℕ → Answer Run
-replayOf clues ns = map (runOr (firstNoStep ns) (callsOf ns)) (openOf clues)
+-- the stops of clues and entries come first
+unfoldable pub replayOf : List ℤ → List ℤ → List ℕ → Answer Run
+replayOf clues entries ns = map (runOr (firstNoStep ns) (callsOf ns)) (openWithOf clues entries)
 
 abbrev pub replayingAnswer : Replaying → S.Board → Answer Run
 replayingAnswer replaying.Done b = gives (ran b)
@@ -54,6 +54,6 @@ reached (gives (noStep i)) = noBoard
 reached (stop s) = noBoard
 
 -- what `replay` hands back
-pub record Replays (clues : List ℤ) (ns : List ℕ) (r : Replayed) : Type 0 where
-  pub answer : replayingAnswer (r .answer) (boardOf (r .board)) ≡ replayOf clues ns
-  pub board : boardOf (r .board) ≡ reached (replayOf clues ns)
+pub record Replays (clues entries : List ℤ) (ns : List ℕ) (r : Replayed) : Type 0 where
+  pub answer : replayingAnswer (r .answer) (boardOf (r .board)) ≡ replayOf clues entries ns
+  pub board : boardOf (r .board) ≡ reached (replayOf clues entries ns)

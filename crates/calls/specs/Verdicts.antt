@@ -17,4 +17,4 @@ use Rattle.calls.specs.declared.Replayed.{Replayed}
 -- After any list without the chain pass: a finished board has the puzzle's one solution, and where a board is dead the puzzle has none. Of the puzzle are the clues, and the entries then on the board.
 pub record VerdictMeans : Type 0 where
   pub lists : (clues entries : List ℤ) → Clues clues → Entries clues entries → (xs : List Deed) → withoutChain (callsIn xs) ≡ true → (B : Board) → After clues entries xs B → VerdictSays (Keeps (boardOf B)) (B .masks)
-  pub replayed : (clues : List ℤ) → Clues clues → (ns : List ℕ) → StepsWithoutChain ns → (r : Replayed) → Replays clues ns r → VerdictSays (Keeps (boardOf (r .board))) (r .board .masks)
+  pub replayed : (clues entries : List ℤ) → Clues clues → Entries clues entries → (ns : List ℕ) → StepsWithoutChain ns → (r : Replayed) → Replays clues entries ns r → VerdictSays (Keeps (boardOf (r .board))) (r .board .masks)

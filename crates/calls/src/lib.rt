@@ -1,4 +1,4 @@
-// The board calls by their step numbers, and lists of them run from the fresh board of 81 clues.
+// The board calls by their step numbers, and lists of them run from the fresh board of clues and entries.
 ghost use Rattle.board.specs.Boards.{boardOf};
 ghost use Rattle.calls.specs.Replays.{Replays};
 ghost use Rattle.calls.specs.StepNumbers.{HandsBack, stepAnswer};
@@ -64,11 +64,11 @@ pub struct Replayed {
     pub board: Board,
 }
 
-// The steps of a list, one after the other, from the fresh board of the clues. Nothing is run where a clue or a byte is refused.
-pub fn replay(clues: [i32; 81], steps: &[u8]) -> Replayed
-    ensures { λ r. ⌜ Replays clues (now (steps .entry)) r ⌝ }
+// The steps of a list, one after the other, from the fresh board of clues and entries. Nothing is run where a clue, an entry or a byte is refused.
+pub fn replay(clues: [i32; 81], entries: [i32; 81], steps: &[u8]) -> Replayed
+    ensures { λ r. ⌜ Replays clues entries (now (steps .entry)) r ⌝ }
 {
-    let opened = Board::new(clues);
+    let opened = Board::with_entries(clues, entries);
     let opening = opened.answer;
     let board = opened.board;
     match opening {

@@ -8,7 +8,7 @@ use Rattle.cases.proofs.P10.{p10-holds}
 use Rattle.cases.proofs.P11.{p11-holds}
 use Rattle.cases.proofs.Full.{full-holds}
 use Rattle.cases.proofs.Claimed.{claimed-holds}
-use Rattle.cases.proofs.Entered.{entries-hold}
+use Rattle.cases.proofs.Entered.{entries-hold, equal-holds}
 
 pub cases : Cases
 cases =
@@ -27,4 +27,5 @@ cases =
       full = full-holds;
       claiming = claimed-holds;
       entries = entries-hold;
+      equal = equal-holds;
     }

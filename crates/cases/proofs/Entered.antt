@@ -1,5 +1,6 @@
--- Entering and rubbing out on P5 and P10 (document 02, F-6). Assumes nothing.
-use mathlib.Core.Path.{_≡_, refl, ap, _∙_, subst}
+-- Entering and rubbing out on P5 and P10 (document 02, F-6), and equality of boards (F-7). Assumes nothing.
+use mathlib.Core.Path.{_≡_, refl, sym, ap, _∙_, subst}
+use mathlib.Core.Bool.{false, true≢false}
 use mathlib.Core.List.{List, [], _∷_}
 use lib.Count.{ones}
 use lib.IntN.{ℤ, pos}
@@ -10,7 +11,7 @@ use Rattle.candidates.specs.Masks.{firstPlace, gather}
 use Rattle.grid.specs.Cells.{cells, peers}
 use Rattle.grid.specs.Fillings.{verified}
 use Rattle.grid.specs.Units.{unit, units}
-use Rattle.steps.specs.Boards.{Board, givensOf, together, givens, withMasks, noEntries, fresh, taken, total}
+use Rattle.steps.specs.Boards.{Board, givensOf, together, givens, withMasks, noEntries, fresh, taken, total, sameBoard}
 use Rattle.steps.specs.Calls.{Clues, Entries, nakedSinglesCall, boxLineCall, outcome, answer, left, checkOf, opened, openedWith}
 use Rattle.steps.specs.Entries.{EntryCall, enter, rubOut, entriesAfter, entryAnswer, step, entry, deed, play}
 use Rattle.steps.specs.Loops.{each, for, first}
@@ -18,13 +19,14 @@ use Rattle.steps.specs.Passes.{removedBy}
 use Rattle.steps.specs.Ported.{boxLines, boxLineAt, spots}
 use Rattle.steps.specs.Singles.{nakedSingles}
 use Rattle.steps.proofs.Check.{clues-by}
-use Rattle.steps.proofs.Entries.{no-entries, entries-stay}
+use Rattle.steps.proofs.Entries.{no-entries, entries-stay, opened-masks}
+use Rattle.steps.proofs.EqualBoards.{equal-boards}
 use Rattle.steps.proofs.Lists.{opened-taken, list-theorem}
 use Rattle.board.specs.Boards.{clueCount, onlyDigits, verdictOf}
 use Rattle.board.specs.declared.Verdict.the-variants.{Dead}
 use Rattle.record.specs.Records.{clueSets, lacking, recordOf}
 use Rattle.record.specs.Sections.{candidates, sectionBytes}
-use Rattle.cases.specs.Cases.{withEntry, onEntry, freshMasks, CaseEntries}
+use Rattle.cases.specs.Cases.{withEntry, onEntry, freshMasks, CaseEntries, CaseEqual}
 use Rattle.cases.proofs.P2to6.{p5-clues}
 use Rattle.cases.specs.Grids.{gridOf, gridA, p1, p5, p10, p11}
 
@@ -150,4 +152,20 @@ entries-hold =
       again = again;
       nothing = on-p5 (rubOut 0) refl;
       row13 = (refl, refl);
+    }
+
+-- ---- two boards with the same clues and masks
+
+one-entry : sameBoard (opened p5) (withEntry p5 0 (pos 1)) ≡ false
+unfolding sameBoard openedWith together p5 gridA gridOf for givensOf fresh taken each cells peers
+one-entry = refl
+
+pub equal-holds : CaseEqual
+unfolding openedWith
+equal-holds =
+    record {
+      clues = refl;
+      masks = opened-masks p5 ∙ sym masks;
+      told = one-entry;
+      differ = λ e. true≢false (sym (equal-boards .test (opened p5) (withEntry p5 0 (pos 1)) .1 e) ∙ one-entry);
     }

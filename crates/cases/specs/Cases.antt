@@ -12,7 +12,7 @@ use Rattle.stops.specs.declared.Stop.the-variants.{TextLength, OtherByte, BadCl
 use Rattle.candidates.specs.Masks.{has}
 use Rattle.grid.specs.Cells.{cells}
 use Rattle.grid.specs.Fillings.{verified}
-use Rattle.steps.specs.Boards.{Board, at, givensOf, givens, noEntries, fresh}
+use Rattle.steps.specs.Boards.{Board, at, givensOf, givens, noEntries, fresh, sameBoard}
 use Rattle.steps.specs.Calls.{Call, Outcome, nakedPairsCall, boxLineCall, xWingCall, nakedSinglesCall, hiddenSinglesCall, advancedCall, wide, settlingCall, chainCall, outcome, checkOf, opened, openedWith}
 use Rattle.steps.specs.Entries.{enter, rubOut, entryAnswer, step, entry, play}
 use Rattle.steps.specs.Passes.{Kind, Claiming, removedBy}
@@ -184,6 +184,13 @@ pub record CaseEntries : Type 0 where
   pub nothing : entryAnswer (rubOut 0) (opened p5) ≡ stop (NotEntered 0)
   pub row13 : (rowOf (AlreadyEntered 0) ≡ record { number = 13; detail = pos 0 }) × (rowOf (NotEntered 0) ≡ record { number = 13; detail = pos 0 })
 
+-- Document 02, F-7: "P5's fresh board and the same with 1 entered in cell 0 have the same clues and masks", and are not equal.
+pub record CaseEqual : Type 0 where
+  pub clues : opened p5 .clues ≡ withEntry p5 0 (pos 1) .clues
+  pub masks : opened p5 .masks ≡ withEntry p5 0 (pos 1) .masks
+  pub told : sameBoard (opened p5) (withEntry p5 0 (pos 1)) ≡ false
+  pub differ : opened p5 ≢ withEntry p5 0 (pos 1)
+
 -- The cases as a group.
 pub record Cases : Type 0 where
   pub one : Case1
@@ -200,3 +207,4 @@ pub record Cases : Type 0 where
   pub full : CaseFull
   pub claiming : CaseClaiming
   pub entries : CaseEntries
+  pub equal : CaseEqual

@@ -18,7 +18,7 @@ use Rattle.steps.specs.Boards.{Board}
 use Rattle.steps.specs.Calls.{checkOf, firstBadClue}
 use Rattle.steps.specs.Loops.{first}
 use Rattle.steps.proofs.Loops.{first-by}
-use Rattle.board.specs.Boards.{clueCount, openOf}
+use Rattle.board.specs.Boards.{clueCount, openWithOf}
 use Rattle.board.proofs.Answered.{clues-few}
 use Rattle.text.specs.Texts as T
 use Rattle.text.specs.Texts.{parseOf}
@@ -76,9 +76,9 @@ card-fits input = go (parseOf (textIn input))
 
 -- ---- a list of steps
 
-pub replay-fits : (clues : List ℤ) (steps : List ℕ) → length steps < 2 ^ 63 → RunFits (replayOf clues steps)
+pub replay-fits : (clues entries : List ℤ) (steps : List ℕ) → length steps < 2 ^ 63 → RunFits (replayOf clues entries steps)
 unfolding replayOf firstNoStep
-replay-fits clues steps below = go (openOf clues) (firstNoStep steps) (first-by _ Below _ tt (λ i l. omega (arith, mem-range (length steps) 0 i l)))
+replay-fits clues entries steps below = go (openWithOf clues entries) (firstNoStep steps) (first-by _ Below _ tt (λ i l. omega (arith, mem-range (length steps) 0 i l)))
   where
     Below : Option ℕ → Type 0
     Below none = Unit {0}

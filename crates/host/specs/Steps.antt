@@ -53,7 +53,7 @@ outcomeBytes o = reportBytes (reportsOf (o .reports))
 abbrev pub stepReports : ℕ → Board → List ℕ → List ℕ
 stepReports n b lent = outcomeOr lent outcomeBytes (stepAnswer n b)
 
--- ---- a list of steps from the fresh board
+-- ---- a list of steps from the fresh board of clues and entries
 
 -- 20, which is no stop of the paper, with the index of the first number that is no step's
 abbrev pub ranCode : Answer Run → List ℤ
@@ -66,8 +66,8 @@ ranMasks (gives (ran b)) lent = b .masks
 ranMasks (gives (noStep i)) lent = lent
 ranMasks (stop s) lent = lent
 
-abbrev pub runCode : List ℤ → List ℕ → List ℤ
-runCode clues steps = ranCode (replayOf clues steps)
+abbrev pub runCode : List ℤ → List ℤ → List ℕ → List ℤ
+runCode clues entries steps = ranCode (replayOf clues entries steps)
 
-abbrev pub runMasks : List ℤ → List ℕ → List ℕ → List ℕ
-runMasks clues steps lent = ranMasks (replayOf clues steps) lent
+abbrev pub runMasks : List ℤ → List ℤ → List ℕ → List ℕ → List ℕ
+runMasks clues entries steps lent = ranMasks (replayOf clues entries steps) lent

@@ -26,7 +26,7 @@ mod step_calls;
 pub extern "C" fn sudoku_abi() -> u32
     ensures { λ r. ⌜ r ≡ abiNumber ⌝ }
 {
-    1
+    2
 }
 
 // Whether 81 numbers are a correct filling.
@@ -228,17 +228,18 @@ pub extern "C" fn sudoku_rub_out(
     arrays::put_pencilled(done, entries, masks, answer);
 }
 
-// A list of steps from the fresh board of the clues.
+// A list of steps from the fresh board of clues and entries.
 #[no_mangle]
 pub extern "C" fn sudoku_run(
     steps: &[u8],
     clues: &[i32; 81],
+    entries: &[i32; 81],
     masks: &mut [u16; 81],
     answer: &mut [i64; 4],
 )
-    ensures { λ _. ⌜ (now (answer .exit) ≡ runCode (now (clues .entry)) (now (steps .entry))) × (now (masks .exit) ≡ runMasks (now (clues .entry)) (now (steps .entry)) (now (masks .entry))) ⌝ }
+    ensures { λ _. ⌜ (now (answer .exit) ≡ runCode (now (clues .entry)) (now (entries .entry)) (now (steps .entry))) × (now (masks .exit) ≡ runMasks (now (clues .entry)) (now (entries .entry)) (now (steps .entry)) (now (masks .entry))) ⌝ }
 {
-    let done = calls::replay(*clues, steps);
+    let done = calls::replay(*clues, *entries, steps);
     let replaying = done.answer;
     let board = done.board;
     *answer = step_calls::of_replaying(replaying, board);

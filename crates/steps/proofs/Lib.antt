@@ -2,6 +2,7 @@ pub mod Loops
 pub mod Turns
 pub mod Searches
 pub mod Masks
+pub mod EqualBoards
 pub mod Steps
 pub mod Taking
 pub mod Reach

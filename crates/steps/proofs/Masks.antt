@@ -14,7 +14,7 @@ use lib.Seq.{ext-getD}
 use Rattle.candidates.specs.Masks.{Sub, count}
 use Rattle.candidates.proofs.Counts.{count-sub, count-proper}
 use Rattle.candidates.proofs.Order.{sub-refl, sub-trans, sub-antisym}
-use Rattle.steps.specs.Boards.{at, Under, total, sameMasks}
+use Rattle.steps.specs.Boards.{at, Under, total, sameBy, sameMasks}
 
 pub under-refl : (m : List ℕ) → Under m m
 under-refl m = record { at = λ c. sub-refl (at m c) }
@@ -55,24 +55,31 @@ total-less (x ∷ xs) (y ∷ ys) l p d = go (ℕ-discrete x y) (λ h. total-less
     go (yes e) ih = omega (arith, ap count e, ih (λ q. d (cc)))
     go (no e) ih = omega (arith, count-proper (head-under p) e, total-under xs ys (omega arith) (tail-under p))
 
--- ---- the test of equal masks
+-- ---- the tests of equal lists
+
+module _ {A : Type 0} (same : A → A → Bool) where
+  pub list-refl : ((x : A) → same x x ≡ true) → (xs : List A) → sameBy same xs xs ≡ true
+  list-refl one [] = refl
+  list-refl one (x ∷ xs) = rw (one x) (list-refl one xs)
+
+  pub list-eq : ((x y : A) → same x y ≡ true → x ≡ y) → (xs ys : List A) → sameBy same xs ys ≡ true → xs ≡ ys
+  list-eq one [] [] t = refl
+  list-eq one [] (y ∷ ys) t = absurd (true≢false (sym t))
+  list-eq one (x ∷ xs) [] t = absurd (true≢false (sym t))
+  list-eq one (x ∷ xs) (y ∷ ys) t = go (same x y) refl t (list-eq one xs ys)
+    where
+      go : (b : Bool) → same x y ≡ b → cond (same x y) (sameBy same xs ys) false ≡ true → (sameBy same xs ys ≡ true → xs ≡ ys) → x ∷ xs ≡ y ∷ ys
+      go true e t ih =
+          let p : x ≡ y = one x y e in
+          let q : xs ≡ ys = ih (rw e at t) in
+          cc
+      go false e t ih = absurd (true≢false (sym (rw e at t)))
 
 pub same-refl : (m : List ℕ) → sameMasks m m ≡ true
-same-refl [] = refl
-same-refl (x ∷ xs) = rw (eq-eqb x x refl) (same-refl xs)
+same-refl = list-refl eqb (λ x. eq-eqb x x refl)
 
 pub same-eq : (m n : List ℕ) → sameMasks m n ≡ true → m ≡ n
-same-eq [] [] t = refl
-same-eq [] (y ∷ ys) t = absurd (true≢false (sym t))
-same-eq (x ∷ xs) [] t = absurd (true≢false (sym t))
-same-eq (x ∷ xs) (y ∷ ys) t = go (eqb x y) refl t (same-eq xs ys)
-  where
-    go : (b : Bool) → eqb x y ≡ b → cond (eqb x y) (sameMasks xs ys) false ≡ true → (sameMasks xs ys ≡ true → xs ≡ ys) → x ∷ xs ≡ y ∷ ys
-    go true e t ih =
-        let p : x ≡ y = eqb-true x y e in
-        let q : xs ≡ ys = ih (rw e at t) in
-        cc
-    go false e t ih = absurd (true≢false (sym (rw e at t)))
+same-eq = list-eq eqb eqb-true
 
 pub differ : (m n : List ℕ) → sameMasks m n ≡ false → m ≢ n
 differ m n t e = true≢false (sym (same-refl m) ∙ ap (sameMasks m) e ∙ t)

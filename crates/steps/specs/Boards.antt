@@ -1,7 +1,8 @@
 -- A board: 81 printed clues, 81 entries and 81 masks. "A board is 81 clues (signed 32-bit numbers, 0 = open) and 81 masks"; an entry is 0 where the cell has none (document 02, F-6).
 -- Everything below the check of a board works on its givens, the fixed digit of each cell, and its masks.
 use mathlib.Core.Path.{_≡_}
-use mathlib.Core.Bool.{Bool, true, false, cond}
+use mathlib.Core.Logic.{_↔_}
+use mathlib.Core.Bool.{Bool, true, false, cond, _&&_}
 use mathlib.Core.List.{List, [], _∷_, map}
 use Prim.Native.Nat.{ℕ, _+_, _-_, _≤_}
 use lib.Dec.{eqb, leb}
@@ -9,6 +10,7 @@ use lib.IntN.{ℤ, pos, negsuc}
 use lib.ListN.{length, getD, replicate}
 use Rattle.candidates.specs.Masks.{minus, union, count, placeMask, Sub}
 use Rattle.grid.specs.Cells.{cells, peers}
+use Rattle.grid.specs.Fillings.{sameNumber}
 use Rattle.steps.specs.Loops.{each}
 
 pub record Board : Type 0 where
@@ -97,8 +99,23 @@ unfoldable pub total : List ℕ → ℕ
 total [] = 0
 total (x ∷ xs) = count x + total xs
 
+-- ---- equal boards
+
+-- two lists member by member, by a test of two members
+abbrev pub sameBy : {A : Type 0} → (A → A → Bool) → List A → List A → Bool
+sameBy t [] [] = true
+sameBy t [] (y ∷ ys) = false
+sameBy t (x ∷ xs) [] = false
+sameBy t (x ∷ xs) (y ∷ ys) = cond (t x y) (sameBy t xs ys) false
+
 abbrev pub sameMasks : List ℕ → List ℕ → Bool
-sameMasks [] [] = true
-sameMasks [] (y ∷ ys) = false
-sameMasks (x ∷ xs) [] = false
-sameMasks (x ∷ xs) (y ∷ ys) = cond (eqb x y) (sameMasks xs ys) false
+sameMasks = sameBy eqb
+
+-- "two boards are equal exactly if they have the same clues, the same entries and the same masks" (document 02, F-7)
+unfoldable pub sameBoard : Board → Board → Bool
+sameBoard b c = sameBy sameNumber (b .clues) (c .clues) && sameBy sameNumber (b .entries) (c .entries) && sameMasks (b .masks) (c .masks)
+
+-- The test says so of the boards that are one, and of no others.
+pub record EqualBoards : Type 0 where
+  pub test : (b c : Board) → (sameBoard b c ≡ true) ↔ (b ≡ c)
+  pub parts : (b c : Board) → (b ≡ c) ↔ ((b .clues ≡ c .clues) × (b .entries ≡ c .entries) × (b .masks ≡ c .masks))

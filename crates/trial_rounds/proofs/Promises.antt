@@ -97,7 +97,7 @@ promised clues solution n v ok keeps =
       lists = λ xs w B at entered.
           demand3 .fillings clues noEntries ok (no-entries clues) xs w B at solution n v .1
           (record { clues = subst (λ (l : List ℤ). KeepsClues l solution) (sym (demand3 .printed clues noEntries xs B at)) keeps; entries = entered });
-      replayed = λ ns w r e. calls-keep (callsOf ns) (w .without) (r .board) (demand3 .replays clues ok ns (w .steps) r e .1 ∙ play-run (callsOf ns) (opened clues));
+      replayed = λ ns w r e. calls-keep (callsOf ns) (w .without) (r .board) (demand3 .replays clues noEntries ok (no-entries clues) ns (w .steps) r e .1 ∙ play-run (callsOf ns) (opened clues));
     }
   where
     -- calls alone, from the fresh board of the clues

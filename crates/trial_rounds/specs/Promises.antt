@@ -32,7 +32,7 @@ pub record KeepsSolution (clues solution : List ℤ) : Type 0 where
   pub settling : (B : Board) → After clues noEntries (step settlingCall ∷ []) B → InMasks (B .masks) solution
   -- and so does every list of calls that demand 3's half on fillings covers, one by one or by `replay`, where the entries that it leaves are digits of the solution
   pub lists : (xs : List Deed) → withoutChain (callsIn xs) ≡ true → (B : Board) → After clues noEntries xs B → KeepsClues (B .entries) solution → InMasks (B .masks) solution
-  pub replayed : (ns : List ℕ) → StepsWithoutChain ns → (r : Replayed) → Replays clues ns r → InMasks (r .board .masks) solution
+  pub replayed : (ns : List ℕ) → StepsWithoutChain ns → (r : Replayed) → Replays clues noEntries ns r → InMasks (r .board .masks) solution
 
 pub record TrialRounds : Type 0 where
   -- every round of every solution, an array of 81 numbers

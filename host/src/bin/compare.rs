@@ -308,7 +308,7 @@ fn a_damaged_board(random: &mut Random, counts: &mut Counts) -> Result<(), Strin
 
 fn a_run(random: &mut Random, counts: &mut Counts) -> Result<(), String> {
     counts.runs += 1;
-    sound(&cases::run_case(random), "a list at once and one by one", &cases::run_differs)
+    sound(&cases::run_case(random), "a list at once and one by one", &|case| cases::run_differs(sudoku_host::run, case))
 }
 
 fn two_lists(random: &mut Random, counts: &mut Counts) -> Result<(), String> {

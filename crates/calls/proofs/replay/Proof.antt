@@ -12,8 +12,8 @@ use Rattle.calls.proofs.Runs.{replays, run-replayed}
 use Rattle.calls.proofs.replay.Statement.{statement}
 use Rattle.calls.proofs.replay.Tie as tie
 
-new-requires : tie.Need-new-requires
-new-requires c κs = search needs
+with-entries-requires : tie.Need-with-entries-requires
+with-entries-requires c κs = search needs
 
 enum-known-opening : tie.Need-enum-known-opening
 enum-known-opening c = search needs
@@ -41,11 +41,11 @@ run-requires c κs = search needs
 
 returns : tie.Need-returns
 returns c =
-    let new = c .before .before .before .before .before in
-    let a = new .before .before .args in
-    let b = boardOf (new .new .result .board) in
-    replays (a .clues) (a .steps .now) _
-    (run-replayed (a .clues) (a .steps .now) (ap (λ (k : Check). passing (checkAnswer k) b) (sym (c .before .before .opening .given .1)) ∙ new .new .ensures .0) refl)
+    let opened = c .before .before .before .before .before in
+    let a = opened .before .before .args in
+    let b = boardOf (opened .with-entries .result .board) in
+    replays (a .clues) (a .entries) (a .steps .now) _
+    (run-replayed (a .clues) (a .entries) (a .steps .now) (ap (λ (k : Check). passing (checkAnswer k) b) (sym (c .before .before .opening .given .1)) ∙ opened .with-entries .ensures .0) refl)
     (ap (λ (o : Replaying). replayingAnswer o (boardOf (c .refused .result .board))) (c .refused .ensures .0))
     (c .refused .ensures .1)
 
@@ -53,11 +53,11 @@ returns-2 : tie.Need-returns-2
 returns-2 c =
     let found = c .before .before .before .before in
     let told = found .before in
-    let new = told .before .before .before in
-    let a = new .before .before .args in
-    let b = boardOf (new .new .result .board) in
-    replays (a .clues) (a .steps .now) _
-    (run-replayed (a .clues) (a .steps .now) (ap (λ (k : Check). passing (checkAnswer k) b) (sym (told .enum-told .given .1)) ∙ new .new .ensures .0)
+    let opened = told .before .before .before in
+    let a = opened .before .before .args in
+    let b = boardOf (opened .with-entries .result .board) in
+    replays (a .clues) (a .entries) (a .steps .now) _
+    (run-replayed (a .clues) (a .entries) (a .steps .now) (ap (λ (k : Check). passing (checkAnswer k) b) (sym (told .enum-told .given .1)) ∙ opened .with-entries .ensures .0)
     (ap foundCell (sym (c .before .before .index .given .1)) ∙ found .first-no-step .ensures))
     (ap (λ (o : Replaying). replayingAnswer o (boardOf (c .refused2 .result .board))) (c .refused2 .ensures .0))
     (c .refused2 .ensures .1)
@@ -66,11 +66,11 @@ returns-3 : tie.Need-returns-3
 returns-3 c =
     let found = c .before .before .before in
     let told = found .before in
-    let new = told .before .before .before in
-    let a = new .before .before .args in
-    let b = boardOf (new .new .result .board) in
-    replays (a .clues) (a .steps .now) _
-    (run-replayed (a .clues) (a .steps .now) (ap (λ (k : Check). passing (checkAnswer k) b) (sym (told .enum-told .given .1)) ∙ new .new .ensures .0)
+    let opened = told .before .before .before in
+    let a = opened .before .before .args in
+    let b = boardOf (opened .with-entries .result .board) in
+    replays (a .clues) (a .entries) (a .steps .now) _
+    (run-replayed (a .clues) (a .entries) (a .steps .now) (ap (λ (k : Check). passing (checkAnswer k) b) (sym (told .enum-told .given .1)) ∙ opened .with-entries .ensures .0)
     (ap foundCell (sym (c .before .enum-told2 .given .1)) ∙ found .first-no-step .ensures))
     (ap (λ (x : S.Board). gives (ran x)) (c .run .ensures))
     (c .run .ensures)
@@ -79,7 +79,7 @@ pub replay-spec : {M : Type 1} → statement M
 replay-spec =
     tie.close
     (tie.spec
-    new-requires
+    with-entries-requires
     enum-known-opening
     refused-requires
     enum-told

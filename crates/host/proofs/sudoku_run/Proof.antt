@@ -16,8 +16,8 @@ replay-requires c κs = search needs
 of-replaying-requires : tie.Need-of-replaying-requires
 of-replaying-requires c κs =
     let r = c .before in
-    let a = r .before .before .before .args in
-    subst RunFits (sym (r .replay .ensures .answer)) (replay-fits (a .clues .now) (a .steps .now) (omega arith))
+    let a = r .before .before .before .before .args in
+    subst RunFits (sym (r .replay .ensures .answer)) (replay-fits (a .clues .now) (a .entries .now) (a .steps .now) (omega arith))
 
 put-run-requires : tie.Need-put-run-requires
 put-run-requires c κs = search needs
@@ -27,7 +27,7 @@ returns c =
     let o = c .before .before in
     let r = o .before .before in
     let e = r .replay .ensures .answer in
-    (o .of-replaying .ensures ∙ ap ranCode e, c .put-run .ensures ∙ ap (λ (a : Answer Run). ranMasks a (r .before .before .before .args .masks .now)) e)
+    (o .of-replaying .ensures ∙ ap ranCode e, c .put-run .ensures ∙ ap (λ (a : Answer Run). ranMasks a (r .before .before .before .before .args .masks .now)) e)
 
 pub sudoku-run-spec : {M : Type 1} → statement M
 sudoku-run-spec =
