@@ -35,6 +35,7 @@ ORDER = [
     ("steps/specs/Published", "the published descriptions of the ported steps"),
     ("steps/specs/Demand2", "demand 2: the ported calls are these"),
     ("steps/specs/Wide", "module 8 in plain words, and the promise that the steps are these"),
+    ("steps/specs/XChains", "document 02, F-9: X-chains in words, their search, and the promise that it finds just these"),
     ("steps/specs/SinglesHold", "beyond the demands: what a reported single means"),
     ("board/specs/Answers", "what the board's enums answer"),
     ("board/specs/Boards", "opener, accessors, verdict"),

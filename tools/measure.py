@@ -20,6 +20,7 @@ STEPS = {
     "5": "hidden singles",
     "6": "apply_advanced_techniques",
     "13": "chain pass",
+    "15": "X-chain pass",
     "7": "Lone",
     "8": "Place",
     "9": "Pair",
@@ -40,7 +41,7 @@ OTHERS = {
     "card": "card",
 }
 # what the original has not
-ENGINE_ALONE = {"7", "8", "9", "10", "14", "11", "12", "sheet", "canonical", "record", "card"}
+ENGINE_ALONE = {"7", "8", "9", "10", "14", "11", "12", "15", "sheet", "canonical", "record", "card"}
 BOARDS = 64
 FEW, MANY = 1, 5
 

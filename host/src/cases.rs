@@ -3,7 +3,7 @@
 
 use crate::plain::{self, Outcome};
 use crate::random::Random;
-use crate::sides::{steps, Accessors, Asked, Call, Engine, Side, CHAIN, LENT, PORTED, SETTLING, SOUND, STEPS, WIDE};
+use crate::sides::{steps, Accessors, Asked, Call, Engine, Side, CHAIN, KEEPING, LENT, PORTED, SETTLING, SOUND, STEPS, WIDE, X_CHAIN};
 use crate::{grids, oracle, Board, Clues, Entries, Masks, Stop, NO_ENTRIES};
 
 #[derive(Clone, PartialEq)]
@@ -111,11 +111,11 @@ pub fn ported_with_entries(random: &mut Random) -> Case {
     with_entry_calls(random, case, None)
 }
 
-/// A board, most often one that no list reaches, and the wide passes and settling in some order.
+/// A board, most often one that no list reaches, and the wide passes, settling and the X-chain pass in some order.
 pub fn wide_case(random: &mut Random) -> Case {
     let clues = grids::clues(random);
     let kept = kept(random);
-    let mut numbers = WIDE.to_vec();
+    let mut numbers = [&WIDE[..], &[X_CHAIN]].concat();
     random.shuffle(&mut numbers);
     let case = with_entries(random, Case { kept, ..Case::fresh(clues, steps(&numbers)) }, None);
     if random.percent(50) { with_entry_calls(random, case, None) } else { case }
@@ -162,7 +162,7 @@ pub fn run_case(random: &mut Random) -> Case {
     case
 }
 
-/// Two lists from one fresh board, with or without entries on it; none has the chain pass, and none enters or rubs out.
+/// Two lists from one fresh board, with or without entries on it; none has a chain pass, and none enters or rubs out.
 pub fn sound_case(random: &mut Random) -> (Case, Option<Clues>) {
     let filling = grids::filling(random);
     let (clues, answer) = match random.below(4) {
@@ -174,11 +174,11 @@ pub fn sound_case(random: &mut Random) -> (Case, Option<Clues>) {
     (with_entries(random, Case { others, ..Case::fresh(clues, calls) }, answer.as_ref()), answer)
 }
 
-/// A list from the fresh board that also enters and rubs out, mostly a filling's digits; it has not the chain pass.
+/// A list from the fresh board that also enters and rubs out, mostly a filling's digits; it has not the ported chain pass.
 pub fn filling_case(random: &mut Random) -> (Case, Clues) {
     let filling = grids::filling(random);
     let clues = grids::blanked(random, &filling, 5, 60);
-    let calls = list(random, &SOUND, 8);
+    let calls = list(random, &KEEPING, 8);
     (with_entry_calls(random, Case::fresh(clues, calls), Some(&filling)), filling)
 }
 

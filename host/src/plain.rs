@@ -374,6 +374,36 @@ impl Joint {
     }
 }
 
+// ---- the X-chain pass (document 02, F-9)
+
+impl Joint {
+    /// "Digits run rising. For each digit the links .. are taken from the masks at its start."
+    fn x_chains(&mut self) {
+        for digit in 1..=9 {
+            let ends = self.x_chain_ends(digit);
+            let sees_both = |cell: usize| ends.iter().any(|&(one, other)| see(cell, one) && see(cell, other));
+            for cell in (0..CELLS).filter(|&cell| sees_both(cell)) {
+                self.lose(cell, bit(digit));
+            }
+        }
+    }
+
+    /// The two ends of every chain: "4 or 6 different open cells, its links in turn strong and weak, strong at both ends", so two or three
+    /// strong links, each one joined to the next by a weak one.
+    fn x_chain_ends(&self, digit: i32) -> Vec<(usize, usize)> {
+        let pairs = (0..27).map(|number| self.open_holders(&unit(number), digit)).filter(|held| held.len() == 2);
+        let strong: Vec<[usize; 2]> = pairs.flat_map(|held| [[held[0], held[1]], [held[1], held[0]]]).collect();
+        let joined = |from: &[usize], to: &[usize; 2]| see(from[from.len() - 1], to[0]) && !from.contains(&to[0]) && !from.contains(&to[1]);
+        let longer = |chains: &[Vec<usize>]| -> Vec<Vec<usize>> {
+            let one = |chain: &Vec<usize>| strong.iter().filter(|next| joined(chain, next)).map(|next| [&chain[..], &next[..]].concat()).collect::<Vec<_>>();
+            chains.iter().flat_map(one).collect()
+        };
+        let four = longer(&strong.iter().map(|link| link.to_vec()).collect::<Vec<_>>());
+        let six = longer(&four);
+        four.iter().chain(&six).map(|chain| (chain[0], chain[chain.len() - 1])).collect()
+    }
+}
+
 // ---- the wide passes and settling
 
 impl Joint {
@@ -519,7 +549,7 @@ impl Joint {
 // ---- the calls by number
 
 /// 0 update_candidates, 1 naked pairs, 2 box-line, 3 X-wing, 4 naked singles, 5 hidden singles, 6 apply_advanced_techniques,
-/// 7 Lone, 8 Place, 9 Pair, 10 Pointing, 11 Cross, 12 settling, 13 the chain pass, 14 Claiming.
+/// 7 Lone, 8 Place, 9 Pair, 10 Pointing, 11 Cross, 12 settling, 13 the chain pass, 14 Claiming, 15 the X-chain pass.
 pub fn step(number: u8, board: &Board) -> Result<Outcome, Stop> {
     let mut board = checked(board)?;
     let before = board.masks;
@@ -539,6 +569,7 @@ pub fn step(number: u8, board: &Board) -> Result<Outcome, Stop> {
         12 => Ok(settling(&mut board)),
         13 => Ok(removing(&mut board, Joint::chain_pass)),
         14 => Ok(removing(&mut board, Joint::claiming)),
+        15 => Ok(removing(&mut board, Joint::x_chains)),
         _ => Err(Stop { number: -1, detail: number as i64 }),
     }
 }

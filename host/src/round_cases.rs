@@ -3,7 +3,7 @@
 use crate::cases::{self, Case};
 use crate::random::Random;
 use crate::shrink::{changed, Smaller};
-use crate::sides::{Call, Engine, LENT, SOUND};
+use crate::sides::{Call, Engine, KEEPING, LENT, SETTLING};
 use crate::{grids, plain, Clues};
 
 #[derive(Clone)]
@@ -33,7 +33,7 @@ pub fn round(random: &mut Random) -> Round {
         _ => random.within(0, 101) as u32,
     };
     let solution = if random.percent(80) { grids::filling(random) } else { grids::filled(random) };
-    Round { start, percentage, solution, calls: cases::list(random, &SOUND, 6) }
+    Round { start, percentage, solution, calls: cases::list(random, &KEEPING, 6) }
 }
 
 impl Smaller for Round {
@@ -64,5 +64,6 @@ pub fn solution_lost(round: &Round) -> Option<String> {
     if let Some(cell) = (0..81).find(|&cell| clues[cell] != 0 && clues[cell] != round.solution[cell]) {
         return Some(format!("the clue of cell {cell} is not the solution's digit"));
     }
-    cases::unsound::<Engine>(&Case::fresh(clues, round.calls.clone()), Some(&round.solution))
+    let calls = round.calls.iter().copied().chain([Call::Step(SETTLING)]).collect();
+    cases::filling_lost::<Engine>(&Case::fresh(clues, calls), &round.solution)
 }

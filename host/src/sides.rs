@@ -8,13 +8,16 @@ use crate::{records, Board, Clues, Masks, Stop};
 pub const PORTED: [u8; 8] = [0, 1, 2, 3, 4, 5, 6, CHAIN];
 /// The wide passes and settling.
 pub const WIDE: [u8; 7] = [7, 8, 9, 10, CLAIMING, 11, SETTLING];
-/// All calls but the chain pass.
+/// All calls but the two chain passes.
 pub const SOUND: [u8; 14] = [0, 1, 2, 3, 4, 5, 6, 7, 8, 9, 10, 11, SETTLING, CLAIMING];
+/// All calls but the ported chain pass: they cost no filling.
+pub const KEEPING: [u8; 15] = [0, 1, 2, 3, 4, 5, 6, 7, 8, 9, 10, 11, SETTLING, CLAIMING, X_CHAIN];
 /// Every step number, rising from 0.
-pub const STEPS: [u8; 15] = [0, 1, 2, 3, 4, 5, 6, 7, 8, 9, 10, 11, SETTLING, CHAIN, CLAIMING];
+pub const STEPS: [u8; 16] = [0, 1, 2, 3, 4, 5, 6, 7, 8, 9, 10, 11, SETTLING, CHAIN, CLAIMING, X_CHAIN];
 pub const SETTLING: u8 = 12;
 pub const CHAIN: u8 = 13;
 pub const CLAIMING: u8 = 14;
+pub const X_CHAIN: u8 = 15;
 
 /// What lent bytes hold before, and those behind them, which no call may write.
 pub const LENT_BYTE: u8 = 0xA5;

@@ -10,7 +10,7 @@ use Rattle.stops.specs.Answer.{Answer, gives, stop, valueOr, passing, progressA
 use Rattle.stops.proofs.Answers.{map-map}
 use Rattle.steps.specs.Boards as S
 use Rattle.steps.specs.Boards.{givens}
-use Rattle.steps.specs.Calls.{Call, updateCandidates, nakedPairsCall, boxLineCall, xWingCall, nakedSinglesCall, hiddenSinglesCall, advancedCall, wide, settlingCall, chainCall, Outcome, checkOf, outcome, answer, left}
+use Rattle.steps.specs.Calls.{Call, updateCandidates, nakedPairsCall, boxLineCall, xWingCall, nakedSinglesCall, hiddenSinglesCall, advancedCall, wide, settlingCall, chainCall, xChainCall, Outcome, checkOf, outcome, answer, left}
 use Rattle.steps.specs.Passes.{Kind}
 use Rattle.board.specs.Boards.{boardOf}
 use Rattle.techniques.specs.Reports.{reportsOf}
@@ -33,7 +33,7 @@ module _ (b : S.Board) where
   step-is k j e is = ap (Option·map (λ (k : Call). answer k b)) (sym (ap (λ (i : ℕ). getD (map some stepCalls) i none) e ∙ is))
 
   -- a number past all of them
-  pub no-step-is : {n : ℕ} → 15 ≤ n → none ≡ stepAnswer n b
+  pub no-step-is : {n : ℕ} → 16 ≤ n → none ≡ stepAnswer n b
   unfolding stepAnswer stepCall
   no-step-is past = ap (Option·map (λ (k : Call). answer k b)) (sym (List·getD-eq-default (map some stepCalls) none past))
 
@@ -150,6 +150,10 @@ quiet-x-wing g m = (refl, refl, refl)
 pub quiet-chain : Quiet chainCall
 unfolding outcome
 quiet-chain g m = (refl, refl, refl)
+
+pub quiet-x-chain : Quiet xChainCall
+unfolding outcome
+quiet-x-chain g m = (refl, refl, refl)
 
 pub quiet-wide : (k : Kind) → Quiet (wide k)
 unfolding outcome

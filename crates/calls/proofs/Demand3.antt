@@ -12,7 +12,7 @@ use Rattle.stops.specs.declared.Progress.{Progress}
 use Rattle.stops.specs.declared.Progress.the-variants as progress
 use Rattle.steps.specs.Boards as S
 use Rattle.steps.specs.Boards.{noEntries, sameBoard, total}
-use Rattle.steps.specs.Calls.{Clues, Entries, Call, withoutChain, wide, settlingCall, checkOf, Admitted, Outcome, outcome, answer, left, openedWith, run}
+use Rattle.steps.specs.Calls.{Clues, Entries, Call, isPorted, isChain, withoutPorted, withoutChain, wide, settlingCall, checkOf, Admitted, Outcome, outcome, answer, left, openedWith, run}
 use Rattle.steps.specs.Entries.{EntryCall, entryAnswer, Deed, step, entry, deed, play, callsIn}
 use Rattle.steps.specs.Passes.{Kind, sweep, settle, removedBy}
 use Rattle.steps.proofs.Entries.{entry-leaves}
@@ -31,12 +31,12 @@ use Rattle.passes.specs.Settlings.{settlingAnswer, countsOf, Settles}
 use Rattle.passes.specs.declared.SettledBoard.{SettledBoard}
 use Rattle.passes.specs.declared.Settling as code
 use Rattle.passes.specs.declared.Settling.the-variants as by
-use Rattle.calls.specs.Demand3.{After, StepsWithoutChain, givensIn, IsSettled, OneEnd, FillingsStay, Afresh, PassDone, SettlingDone, Demand3}
+use Rattle.calls.specs.Demand3.{After, StepsWithoutPorted, StepsWithoutChain, givensIn, IsSettled, OneEnd, FillingsStay, Afresh, PassDone, SettlingDone, Demand3}
 use Rattle.calls.specs.Replays.{ran, reached, firstNoStep, callsOf, replayOf, replayingAnswer, Replays}
 use Rattle.calls.specs.declared.Replayed.{Replayed}
 use Rattle.calls.specs.declared.Replaying.{Replaying}
 use Rattle.calls.specs.declared.Replaying.the-variants as replaying
-use Rattle.calls.proofs.Numbers.{all-steps, unchained-calls}
+use Rattle.calls.proofs.Numbers.{all-steps, ported-calls, chain-calls}
 use Rattle.calls.proofs.Runs.{run-replayed}
 
 -- ---- an answer of the code that is no stop
@@ -104,7 +104,7 @@ printed clues entries xs B at = ap (λ (b : S.Board). b .clues) at ∙ play-clue
 taken : (clues entries : List ℤ) → Clues clues → Entries clues entries → (xs : List Deed) (b : Board) → After clues entries xs b → checkOf (boardOf b) ≡ gives tt
 taken clues entries ok en xs b at = ap checkOf at ∙ list-theorem .taken clues entries ok en xs
 
-fillings : (clues entries : List ℤ) → Clues clues → Entries clues entries → (xs : List Deed) → withoutChain (callsIn xs) ≡ true → (B : Board) → After clues entries xs B → FillingsStay B
+fillings : (clues entries : List ℤ) → Clues clues → Entries clues entries → (xs : List Deed) → withoutPorted (callsIn xs) ≡ true → (B : Board) → After clues entries xs B → FillingsStay B
 fillings clues entries ok en xs n B at = subst steps.FillingsStay (sym at) (list-theorem .fillings clues entries ok en xs n)
 
 lists-end : (clues entries : List ℤ) → Clues clues → Entries clues entries → (ks ls : List Call) → withoutChain ks ≡ true → withoutChain ls ≡ true → (B C : Board)
@@ -118,14 +118,14 @@ lists-end clues entries ok en ks ls nk nl B C at bt s =
 equal : (B C : Board) → (sameBoard (boardOf B) (boardOf C) ≡ true) ↔ (B ≡ C)
 equal B C = let t = equal-boards .test (boardOf B) (boardOf C) in (λ s. same B C (t .0 s), λ e. t .1 (ap boardOf e))
 
-replayed : (clues entries : List ℤ) → Clues clues → Entries clues entries → (ns ms : List ℕ) → StepsWithoutChain ns → StepsWithoutChain ms → (B C : Replayed) → Replays clues entries ns B → Replays clues entries ms C
-    → OneEnd (B .board) (C .board) × FillingsStay (B .board)
-replayed clues entries ok en ns ms n m B C p q =
-    let first = replays clues entries ok en ns (n .steps) B p .1 in
-    let second = replays clues entries ok en ms (m .steps) C q .1 in (
-      lists-end clues entries ok en (callsOf ns) (callsOf ms) (n .without) (m .without) (B .board) (C .board) first second,
-      fillings clues entries ok en (lists.map step (callsOf ns)) (ap withoutChain (calls-alone (callsOf ns)) ∙ n .without) (B .board) first,
-    )
+replayed-fillings : (clues entries : List ℤ) → Clues clues → Entries clues entries → (ns : List ℕ) → StepsWithoutPorted ns → (B : Replayed) → Replays clues entries ns B → FillingsStay (B .board)
+replayed-fillings clues entries ok en ns n B p =
+    fillings clues entries ok en (lists.map step (callsOf ns)) (ap withoutPorted (calls-alone (callsOf ns)) ∙ n .noneOf) (B .board) (replays clues entries ok en ns (n .steps) B p .1)
+
+replayed-lists : (clues entries : List ℤ) → Clues clues → Entries clues entries → (ns ms : List ℕ) → StepsWithoutChain ns → StepsWithoutChain ms → (B C : Replayed) → Replays clues entries ns B → Replays clues entries ms C
+    → OneEnd (B .board) (C .board)
+replayed-lists clues entries ok en ns ms n m B C p q =
+    lists-end clues entries ok en (callsOf ns) (callsOf ms) (n .noneOf) (m .noneOf) (B .board) (C .board) (replays clues entries ok en ns (n .steps) B p .1) (replays clues entries ok en ms (m .steps) C q .1)
 
 entered : (clues entries : List ℤ) (ks ls : List EntryCall) (B C : Board) → After clues entries (lists.map entry ks) B → After clues entries (lists.map entry ls) C → Afresh clues B C
 entered clues entries ks ls B C p q = record { fresh = fresh ks B p; same = λ e. same B C (fresh ks B p ∙ ap (openedWith clues) e ∙ sym (fresh ls C q)) }
@@ -186,8 +186,10 @@ demand3 =
       fillings = fillings;
       lists = lists-end;
       equal = equal;
-      replayed = replayed;
-      below = λ ns h. record { steps = all-steps ns h; without = unchained-calls ns h };
+      replayedFillings = replayed-fillings;
+      replayedLists = replayed-lists;
+      belowPorted = λ ns h. record { steps = all-steps ns (λ i k. h i k .0); noneOf = ported-calls ns h };
+      belowChain = λ ns h. record { steps = all-steps ns (λ i k. h i k .0); noneOf = chain-calls ns h };
       entered = entered;
       passes = λ k b ok r e. passes b ok k r e;
       settling = λ b ok r e. (_, _, settles b ok r e);

@@ -9,5 +9,5 @@ pub verdict-means : VerdictMeans
 verdict-means =
     record {
       lists = λ clues entries ok en xs n B at. verdict-says (B .masks) (Keeps (boardOf B)) (demand3 .fillings clues entries ok en xs n B at);
-      replayed = λ clues entries ok en ns n r e. verdict-says (r .board .masks) (Keeps (boardOf (r .board))) (demand3 .replayed clues entries ok en ns ns n n r r e e .1);
+      replayed = λ clues entries ok en ns n r e. verdict-says (r .board .masks) (Keeps (boardOf (r .board))) (demand3 .replayedFillings clues entries ok en ns n r e);
     }

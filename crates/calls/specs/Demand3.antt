@@ -1,7 +1,7 @@
 -- Demand 3, of what the engine's calls hand back: it holds of all values that meet the calls' contracts. proofs/Demand3.antt shows it.
 use mathlib.Core.Path.{_≡_}
 use mathlib.Core.Logic.{_≢_, _↔_}
-use mathlib.Core.Bool.{true}
+use mathlib.Core.Bool.{Bool, true}
 use mathlib.Core.List.{List, [], _∷_, _++_, map}
 use mathlib.Core.Option.{none}
 use Prim.Native.Nat.{ℕ, _+_, _-_, _≤_, _<_}
@@ -11,7 +11,7 @@ use Rattle.stops.specs.Answer.{gives, valueOr}
 use Rattle.stops.specs.declared.Progress.the-variants as progress
 use Rattle.grid.specs.Fillings.{verified}
 use Rattle.steps.specs.Boards.{givens, noEntries, sameBoard, total}
-use Rattle.steps.specs.Calls.{Clues, Entries, Call, withoutChain, wide, checkOf, Admitted, answer, left, openedWith}
+use Rattle.steps.specs.Calls.{Clues, Entries, Call, isPorted, isChain, without, withoutPorted, withoutChain, wide, checkOf, Admitted, answer, left, openedWith}
 use Rattle.steps.specs.Entries.{EntryCall, Deed, step, entry, play, callsIn}
 use Rattle.steps.specs.Fillings.{Keeps, InMasks}
 use Rattle.steps.specs.Passes.{Kind, pass, sweep, swept, changed, Settled}
@@ -32,10 +32,16 @@ use Rattle.calls.specs.declared.Replaying.the-variants as replaying
 abbrev pub After : List ℤ → List ℤ → List Deed → Board → Type 0
 After clues entries xs b = boardOf b ≡ play xs (openedWith clues entries)
 
--- A list of step numbers "without the chain pass".
-pub record StepsWithoutChain (ns : List ℕ) : Type 0 where
+-- A list of step numbers that has no call of a sort.
+pub record StepsWithout (sort : Call → Bool) (ns : List ℕ) : Type 0 where
   pub steps : firstNoStep ns ≡ none
-  pub without : withoutChain (callsOf ns) ≡ true
+  pub noneOf : without sort (callsOf ns) ≡ true
+
+abbrev pub StepsWithoutPorted : List ℕ → Type 0
+StepsWithoutPorted ns = StepsWithout isPorted ns
+
+abbrev pub StepsWithoutChain : List ℕ → Type 0
+StepsWithoutChain ns = StepsWithout isChain ns
 
 -- the digit that each cell is given, by its clue or its entry
 abbrev pub givensIn : Board → List ℕ
@@ -94,19 +100,21 @@ pub record Demand3 : Type 0 where
       → (r .answer ≡ replaying.Done) × After clues entries (map step (callsOf ns)) (r .board)
   -- the clues are the grid's
   pub printed : (clues entries : List ℤ) (xs : List Deed) (B : Board) → After clues entries xs B → B .clues ≡ clues
-  -- "on these boards stops 3 and 9 never occur", nor does 8, the chain pass among the calls or not
+  -- "on these boards stops 3 and 9 never occur", nor does 8, a chain pass among the calls or not
   pub taken : (clues entries : List ℤ) → Clues clues → Entries clues entries → (xs : List Deed) (b : Board) → After clues entries xs b → checkOf (boardOf b) ≡ gives tt
-  -- "any clue grid of 0 to 9 and" any "lists of document 01's board calls without the chain pass", entering and rubbing out among them
-  pub fillings : (clues entries : List ℤ) → Clues clues → Entries clues entries → (xs : List Deed) → withoutChain (callsIn xs) ≡ true → (B : Board) → After clues entries xs B → FillingsStay B
-  -- "The settling promise starts both lists from the fresh board of one clue grid with one set of entries, and neither list enters or rubs out." (document 02, F-7)
+  -- "any clue grid of 0 to 9 and" any "lists of document 01's board calls without the chain pass", entering and rubbing out among them; "The promise on fillings covers lists with" the X-chain pass (document 02, F-9)
+  pub fillings : (clues entries : List ℤ) → Clues clues → Entries clues entries → (xs : List Deed) → withoutPorted (callsIn xs) ≡ true → (B : Board) → After clues entries xs B → FillingsStay B
+  -- "The settling promise starts both lists from the fresh board of one clue grid with one set of entries, and neither list enters or rubs out." (document 02, F-7); it "remains for lists that contain neither chain pass" (F-9)
   pub lists : (clues entries : List ℤ) → Clues clues → Entries clues entries → (ks ls : List Call) → withoutChain ks ≡ true → withoutChain ls ≡ true → (B C : Board)
       → After clues entries (map step ks) B → After clues entries (map step ls) C → OneEnd B C
   -- where "two boards are equal exactly if they have the same clues, the same entries and the same masks"
   pub equal : (B C : Board) → (sameBoard (boardOf B) (boardOf C) ≡ true) ↔ (B ≡ C)
-  -- and so of any two values that `replay` hands back; step numbers below 15 other than 13 are those of the calls without the chain pass
-  pub replayed : (clues entries : List ℤ) → Clues clues → Entries clues entries → (ns ms : List ℕ) → StepsWithoutChain ns → StepsWithoutChain ms → (B C : Replayed) → Replays clues entries ns B → Replays clues entries ms C
-      → OneEnd (B .board) (C .board) × FillingsStay (B .board)
-  pub below : (ns : List ℕ) → ((i : ℕ) → i < length ns → (getD ns i 0 < 15) × (getD ns i 0 ≢ 13)) → StepsWithoutChain ns
+  -- and so of any two values that `replay` hands back; of the step numbers, those below 16, 13 is the ported chain pass and 15 the X-chain pass
+  pub replayedFillings : (clues entries : List ℤ) → Clues clues → Entries clues entries → (ns : List ℕ) → StepsWithoutPorted ns → (B : Replayed) → Replays clues entries ns B → FillingsStay (B .board)
+  pub replayedLists : (clues entries : List ℤ) → Clues clues → Entries clues entries → (ns ms : List ℕ) → StepsWithoutChain ns → StepsWithoutChain ms → (B C : Replayed) → Replays clues entries ns B → Replays clues entries ms C
+      → OneEnd (B .board) (C .board)
+  pub belowPorted : (ns : List ℕ) → ((i : ℕ) → i < length ns → (getD ns i 0 < 16) × (getD ns i 0 ≢ 13)) → StepsWithoutPorted ns
+  pub belowChain : (ns : List ℕ) → ((i : ℕ) → i < length ns → (getD ns i 0 < 16) × (getD ns i 0 ≢ 13) × (getD ns i 0 ≢ 15)) → StepsWithoutChain ns
   pub entered : (clues entries : List ℤ) (ks ls : List EntryCall) (B C : Board) → After clues entries (map entry ks) B → After clues entries (map entry ls) C → Afresh clues B C
   -- `apply_lone` to `apply_cross`, and `apply_settling`, "handed any board that no listed stop refuses"
   pub passes : (k : Kind) (b : Board) → Admitted (boardOf b) → (r : Eliminated) → Eliminates (wide k) (boardOf b) r → PassDone k b r

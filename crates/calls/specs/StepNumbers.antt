@@ -8,7 +8,7 @@ use lib.ListN.{getD}
 use Rattle.stops.specs.Answer as answers
 use Rattle.stops.specs.Answer.{Answer, gives, stop, valueOr}
 use Rattle.steps.specs.Boards as S
-use Rattle.steps.specs.Calls.{Call, updateCandidates, nakedPairsCall, boxLineCall, xWingCall, nakedSinglesCall, hiddenSinglesCall, advancedCall, wide, settlingCall, chainCall, Outcome, answer, left}
+use Rattle.steps.specs.Calls.{Call, updateCandidates, nakedPairsCall, boxLineCall, xWingCall, nakedSinglesCall, hiddenSinglesCall, advancedCall, wide, settlingCall, chainCall, xChainCall, Outcome, answer, left}
 use Rattle.steps.specs.Passes.{Lone, Place, Pair, Pointing, Claiming, Cross}
 use Rattle.board.specs.Boards.{boardOf}
 use Rattle.techniques.specs.Reports.{reportsOf}
@@ -17,10 +17,10 @@ use Rattle.calls.specs.declared.Stepped.{Stepped}
 use Rattle.calls.specs.declared.Stepping.{Stepping}
 use Rattle.calls.specs.declared.Stepping.the-variants as stepping
 
--- "Board calls: `update_candidates`, naked pairs, box-line, X-wing, naked singles, hidden singles, `apply_advanced_techniques`, each wide pass, settling; also the chain pass", numbered from 0; a call that came later, Claiming, has the next number
+-- "Board calls: `update_candidates`, naked pairs, box-line, X-wing, naked singles, hidden singles, `apply_advanced_techniques`, each wide pass, settling; also the chain pass", numbered from 0; a call that came later, Claiming and then the X-chain pass, has the next number
 abbrev pub stepCalls : List Call
 stepCalls =
-    updateCandidates ∷ nakedPairsCall ∷ boxLineCall ∷ xWingCall ∷ nakedSinglesCall ∷ hiddenSinglesCall ∷ advancedCall ∷ wide Lone ∷ wide Place ∷ wide Pair ∷ wide Pointing ∷ wide Cross ∷ settlingCall ∷ chainCall ∷ wide Claiming ∷ []
+    updateCandidates ∷ nakedPairsCall ∷ boxLineCall ∷ xWingCall ∷ nakedSinglesCall ∷ hiddenSinglesCall ∷ advancedCall ∷ wide Lone ∷ wide Place ∷ wide Pair ∷ wide Pointing ∷ wide Cross ∷ settlingCall ∷ chainCall ∷ wide Claiming ∷ xChainCall ∷ []
 
 -- the call of a step number
 unfoldable pub stepCall : ℕ → Option Call

@@ -47,6 +47,7 @@ pub fn step(number: u8, board: Board) -> Stepped
         12 => answers::of_settling(passes::apply_settling(board)),
         13 => answers::of_elimination(eliminations::apply_alternating_inference_chains(board)),
         14 => answers::of_elimination(eliminations::apply_claiming(board)),
+        15 => answers::of_elimination(eliminations::apply_x_chains(board)),
         _ => answers::quiet(Stepping::NoStep, board),
     }
 }

@@ -12,7 +12,7 @@ use board::Board;
 use board::Found;
 
 // Steps are numbered from 0.
-const STEPS: u8 = 15;
+const STEPS: u8 = 16;
 
 fn is_step(number: u8) -> bool
     ensures { λ r. ⌜ r ≡ isStep number ⌝ }

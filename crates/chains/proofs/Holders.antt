@@ -139,11 +139,11 @@ module _ (g m : List ℕ) (d : ℕ) where
   abbrev pub open-holders : List ℕ
   open-holders = select (holds g m d) cells
 
-  weak-is : (c : ℕ) → weakIn open-holders c ≡ weakLinks g m d c
+  pub weak-is : (c : ℕ) → weakIn open-holders c ≡ weakLinks g m d c
   unfolding weakIn weakLinks peers
   weak-is c = select-both (sees c) (holds g m d) cells
 
-  strong-is : (c : ℕ) → strongIn open-holders c ≡ strongLinks g m d c
+  pub strong-is : (c : ℕ) → strongIn open-holders c ≡ strongLinks g m d c
   unfolding strongIn strongLinks for
   strong-is c = ap₂ _++_ (one (row c)) (ap₂ _++_ (one (9 + col c)) (ap (λ (l : List ℕ). l ++ []) (one (18 + box c))))
     where

@@ -13,7 +13,7 @@ use lib.Seq.{drop-cons, take-suc-set, append-snoc}
 use Rattle.candidates.proofs.Tests.{cond-true, cond-false}
 use Rattle.grid.proofs.Lists.{range-length, range-on, range-end}
 use Rattle.steps.specs.Boards.{at}
-use Rattle.steps.specs.Loops.{range, select}
+use Rattle.steps.specs.Loops.{each, range, select}
 use Rattle.chains.specs.code.Lists.{listed, Lists}
 use Rattle.steps.specs.Chains.{twoOf}
 use Rattle.chains.specs.code.Links.{others}
@@ -31,6 +31,16 @@ rest-on cs n i h = ap (map (at cs)) (range-on n i h)
 
 pub rest-end : (cs : List ℕ) (n i : ℕ) → n ≤ i → rest cs n i ≡ []
 rest-end cs n i h = ap (map (at cs)) (range-end n i h)
+
+-- a loop over the entries: one more is done, and all are
+module _ {S : Type 0} (f : ℕ → S → S) (cs : List ℕ) (n i : ℕ) {s whole : S} where
+  pub rest-done : {next : S} → i < n → next ≡ f (at cs i) s → each f (rest cs n i) s ≡ whole → each f (rest cs n (i + 1)) next ≡ whole
+  unfolding each
+  rest-done h e inv = ap (each f (rest cs n (i + 1))) e ∙ sym (ap (λ (l : List ℕ). each f l s) (rest-on cs n i h)) ∙ inv
+
+  pub rest-over : n ≤ i → each f (rest cs n i) s ≡ whole → s ≡ whole
+  unfolding each
+  rest-over h inv = sym (ap (λ (l : List ℕ). each f l s) (rest-end cs n i h)) ∙ inv
 
 -- ---- making
 

@@ -1,4 +1,4 @@
-// The chain pass (module 11) over lent givens and masks, ported as it is, with the original's names. It begins with a weak link, so it can cost a filling.
+// The chain pass (module 11) over lent givens and masks, ported as it is, with the original's names. It begins with a weak link, so it can cost a filling. The X-chain pass, which cannot, stands beside it.
 ghost use mathlib.Core.Path.{_≡_};
 ghost use Prim.Native.Nat.{_<_};
 ghost use Rattle.steps.specs.Chains.{chainDigit, chains};
@@ -10,6 +10,9 @@ mod links;
 mod lists;
 mod paths;
 mod search;
+pub mod x_chains;
+mod x_links;
+mod x_walk;
 
 // The first elimination that a chain of the digit finds, starting cells rising.
 fn build_aic_chains_for_digit(givens: &[u8; 81], masks: &mut [u16; 81], digit: usize)

@@ -18,7 +18,7 @@ use grid::row_of;
 use grid::scopes::Scope;
 use grid::scopes::in_scope;
 
-fn holders_in(holders: &[u8; 81], count: usize, scope: Scope) -> Cells
+pub fn holders_in(holders: &[u8; 81], count: usize, scope: Scope) -> Cells
     requires { ⌜ count ≤ 81 ⌝ }
     ensures { λ r. ⌜ Lists r (select (inScope scope) (listed (now (holders .entry)) count)) ⌝ }
 {

@@ -1,7 +1,7 @@
-// The calls that remove candidates: the ported eliminations with the original's names, the wide passes and the chain pass. Each checks its board
+// The calls that remove candidates: the ported eliminations with the original's names, the wide passes and the two chain passes. Each checks its board
 // first; what it removes is worked out over lent givens and masks by the crates below.
 ghost use mathlib.Core.Path.{_≡_};
-ghost use Rattle.steps.specs.Calls.{boxLineCall, chainCall, nakedPairsCall, outcome, wide, xWingCall};
+ghost use Rattle.steps.specs.Calls.{boxLineCall, chainCall, nakedPairsCall, outcome, wide, xChainCall, xWingCall};
 ghost use Rattle.steps.specs.Passes.{Claiming, Cross, Lone, Pair, Place, Pointing};
 ghost use Rattle.board.specs.Boards.{boardOf};
 ghost use Rattle.eliminations.specs.Eliminations.{Eliminates};
@@ -11,6 +11,7 @@ use board::check;
 use board::entries::givens_of;
 use cells::changed;
 use chains::chains;
+use chains::x_chains::x_chains;
 use locked::claiming;
 use locked::pointing;
 use lone_place::lone;
@@ -40,6 +41,7 @@ enum Elimination {
     Claiming,
     Cross,
     Chains,
+    XChains,
 }
 
 fn eliminate(elimination: Elimination, givens: &[u8; 81], masks: &mut [u16; 81])
@@ -56,6 +58,7 @@ fn eliminate(elimination: Elimination, givens: &[u8; 81], masks: &mut [u16; 81])
         Elimination::Claiming => claiming(givens, masks),
         Elimination::Cross => cross(givens, masks),
         Elimination::Chains => chains(givens, masks),
+        Elimination::XChains => x_chains(givens, masks),
     }
 }
 
@@ -147,4 +150,10 @@ pub fn apply_alternating_inference_chains(board: Board) -> Eliminated
     ensures { λ r. ⌜ Eliminates chainCall (boardOf board) r ⌝ }
 {
     apply(Elimination::Chains, board)
+}
+
+pub fn apply_x_chains(board: Board) -> Eliminated
+    ensures { λ r. ⌜ Eliminates xChainCall (boardOf board) r ⌝ }
+{
+    apply(Elimination::XChains, board)
 }

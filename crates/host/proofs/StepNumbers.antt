@@ -11,7 +11,7 @@ use mir.Syntax.{w64}
 use mir.Val.{SFits}
 use Rattle.stops.specs.Answer.{Answer, gives, stop, map, passing}
 use Rattle.steps.specs.Boards.{Board, Givens, Admissible, givens, together}
-use Rattle.steps.specs.Calls.{Call, updateCandidates, nakedPairsCall, boxLineCall, xWingCall, nakedSinglesCall, hiddenSinglesCall, advancedCall, wide, settlingCall, chainCall, Outcome, outcome, checkOf, Admitted, answer}
+use Rattle.steps.specs.Calls.{Call, updateCandidates, nakedPairsCall, boxLineCall, xWingCall, nakedSinglesCall, hiddenSinglesCall, advancedCall, wide, settlingCall, chainCall, xChainCall, Outcome, outcome, checkOf, Admitted, answer}
 use Rattle.steps.specs.Singles.{Report}
 use Rattle.steps.proofs.Check.{admits, clues-givens}
 use Rattle.steps.proofs.Fresh.{total-most}
@@ -70,6 +70,7 @@ call-small advancedCall g m ok a = still (singles-few g m) refl refl
 call-small (wide k) g m ok a = still (omega arith) refl refl
 call-small settlingCall g m ok a = record { reports = omega arith; sweeps = settles g m ok a .most; removed = omega (arith, total-most g m ok a) }
 call-small chainCall g m ok a = still (omega arith) refl refl
+call-small xChainCall g m ok a = still (omega arith) refl refl
 
 pub record StepFits (o : Option (Answer Outcome)) : Type 0 where
   pub reports : SFits w64 (pos (length (reportsIn o)))

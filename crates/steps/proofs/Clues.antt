@@ -1,33 +1,29 @@
--- A correct filling lies in reached masks exactly if it keeps the clues. Assumes nothing.
+-- A correct filling that keeps the clues lies in the fresh masks, and no other lies in admissible ones. Assumes nothing.
 use mathlib.Core.Path.{_≡_, refl, sym, ap, _∙_, subst}
 use mathlib.Core.Logic.{_≢_}
 use mathlib.Core.Bool.{Bool, true, false}
-use mathlib.Core.List.{List, map}
-use Prim.Native.Nat.{ℕ, suc, _-_, _^_, _≤_, _<_}
-use native.Mathlib.Decide.{decLt}
+use mathlib.Core.List.{List}
+use Prim.Native.Nat.{ℕ, suc, _-_, _<_}
 use native.Mathlib.Omega.{arith}
 use borrow.Author.Tests.{eqb-true, eqb-false}
 use lib.IntN.{ℤ, pos}
 use lib.ListN.{getD}
-use Rattle.candidates.specs.Masks.{Sub}
-use Rattle.candidates.proofs.Held.{Held, power-sub, sub-power}
-use Rattle.candidates.proofs.Order.{sub-none}
+use Rattle.candidates.proofs.Held.{Held}
 use Rattle.candidates.proofs.Places.{place-pos}
-use Rattle.grid.specs.Cells.{cells, sees}
+use Rattle.grid.specs.Cells.{sees}
 use Rattle.grid.specs.Fillings.{numberAt, Correct}
 use Rattle.candidates.specs.Sets.{place}
 use Rattle.grid.specs.Units.{unitCell, Member}
-use Rattle.grid.proofs.Cells.{at-cells, past-cells, sees-shared}
+use Rattle.grid.proofs.Cells.{sees-shared}
 use Rattle.grid.proofs.Fillings.{number-of, place-lt, same-number, correct-complete, digit-once}
 use Rattle.grid.proofs.Pigeonhole.{onto}
 use Rattle.grid.proofs.Units.{at-place, member-below}
-use Rattle.steps.specs.Boards.{at, givensOf, given, isOpen, fresh, Givens, Under, Admissible}
+use Rattle.steps.specs.Boards.{at, givensOf, given, isOpen, fresh, Givens, Admissible}
 use Rattle.steps.specs.Calls.{Clues}
 use Rattle.steps.specs.Fillings.{KeepsClues, InMasks}
 use Rattle.steps.proofs.Check.{clues-givens, given-clue, good-digit}
-use Rattle.steps.proofs.Fillings.{Filling, filling-settled}
+use Rattle.steps.proofs.Fillings.{Filling, Inside}
 use Rattle.steps.proofs.FreshDigits.{fresh-open, fresh-clue}
-use Rattle.steps.proofs.Reach.{Reach, reach-keeps}
 
 -- ---- a correct filling, by places
 
@@ -45,18 +41,6 @@ correct-filling f ok = record { small = λ c h. place-lt (ok .digits c h); once 
     every u d h k =
         let w = onto 9 (λ i. placed f (unitCell u i)) (correct-complete ok .at u h) d k in
         (unitCell u (w .0), at-place u (w .0) (w .1), w .2)
-
--- its masks, one digit each
-filled : (ℕ → ℕ) → List ℕ
-filled p = map (λ c. 2 ^ p c) cells
-
-filled-at : (p : ℕ → ℕ) (c : ℕ) → c < 81 → at (filled p) c ≡ 2 ^ p c
-unfolding filled
-filled-at p c h = at-cells 0 (λ c. 2 ^ p c) c h
-
-filled-out : (p : ℕ → ℕ) (c : ℕ) → 81 ≤ c → at (filled p) c ≡ 0
-unfolding filled
-filled-out p c h = past-cells 0 (λ c. 2 ^ p c) c h
 
 -- ---- keeping the clues, by places
 
@@ -88,39 +72,25 @@ module _ (clues : List ℤ) (ok : Clues clues) where
             number-of (numberAt f c) (given g c - 1) (k c h o) (omega (arith, clues-givens clues .small c)) ∙ ap pos (omega arith) ∙ sym (clue-given c h)
 
     -- a filling that keeps the clues takes each digit from the fresh masks
-    filled-fresh : KeepsClues clues f → Under (filled (placed f)) (fresh g)
-    filled-fresh k = record { at = λ c. go c (decLt c 81) }
+    pub keeps-fresh : KeepsClues clues f → Inside (placed f) (fresh g)
+    keeps-fresh k c h = held (isOpen g c) refl
       where
         ok′ : Givens g
         ok′ = clues-givens clues
 
         -- a cell with a clue that c sees has another digit
-        unseen : (c e : ℕ) → c < 81 → e < 81 → sees c e ≡ true → (o : Bool) → isOpen g e ≡ o → given g e ≡ suc (placed f c) → ⊥
-        unseen c e h l t true o q = omega (arith, eqb-true (given g e) 0 o)
-        unseen c e h l t false o q =
+        unseen : (e : ℕ) → e < 81 → sees c e ≡ true → (o : Bool) → isOpen g e ≡ o → given g e ≡ suc (placed f c) → ⊥
+        unseen e l t true o q = omega (arith, eqb-true (given g e) 0 o)
+        unseen e l t false o q =
             let s = sees-shared c e h l t in
             correct-filling f right .once (s .shared) c e (s .within) (s .first) (s .second) (s .different) (omega (arith, keeps-place k e l o))
 
-        held : (c : ℕ) → c < 81 → (o : Bool) → isOpen g c ≡ o → Held (at (fresh g) c) (placed f c)
-        held c h true o =
-            fresh-open g ok′ c (placed f c) h o .1
-            (record { digit = correct-filling f right .small c h; unseen = λ e l t q. unseen c e h l t (isOpen g e) refl q })
-        held c h false o = fresh-clue g ok′ c (placed f c) h o .1 (omega (arith, keeps-place k c h o, eqb-false (given g c) 0 o))
+        held : (o : Bool) → isOpen g c ≡ o → Held (at (fresh g) c) (placed f c)
+        held true o =
+            fresh-open g ok′ c (placed f c) h o .1 (record { digit = correct-filling f right .small c h; unseen = λ e l t q. unseen e l t (isOpen g e) refl q })
+        held false o = fresh-clue g ok′ c (placed f c) h o .1 (omega (arith, keeps-place k c h o, eqb-false (given g c) 0 o))
 
-        go : (c : ℕ) → Dec (c < 81) → Sub (at (filled (placed f)) c) (at (fresh g) c)
-        go c (yes h) = rw (filled-at (placed f) c h) (power-sub (at (fresh g) c) (placed f c) (held c h (isOpen g c) refl))
-        go c (no h) = rw (filled-out (placed f) c (omega arith)) (sub-none (at (fresh g) c))
-
-    -- In masks reached from the fresh ones: a correct filling that keeps the clues stays, and no other is there.
-    pub keeps-in : KeepsClues clues f → (m : List ℕ) → Reach g (fresh g) m → InMasks m f
-    keeps-in k m r =
-        record {
-          held = λ c h.
-              sub-power (at m c) (placed f c)
-              (subst (λ (x : ℕ). Sub x (at m c)) (filled-at (placed f) c h)
-              (reach-keeps g (filling-settled g (placed f) (correct-filling f right) (filled (placed f)) (filled-at (placed f))) (filled-fresh k) r .at c));
-        }
-
+    -- and in admissible masks no other is there
     pub in-keeps : (m : List ℕ) → Admissible g m → InMasks m f → KeepsClues clues f
     in-keeps m a i =
         place-keeps (λ c h o. omega (arith, fresh-clue g (clues-givens clues) c (placed f c) h o .0 (subst (λ (x : ℕ). Held x (placed f c)) (a .clues c o) (i .held c h))))

@@ -1,17 +1,23 @@
--- No step costs a correct filling: the one-digit masks of a filling are settled. Assumes nothing.
+-- No step costs a correct filling: the one-digit masks of a filling are settled, and so stay below all that steps reach. Assumes nothing.
 use mathlib.Core.Path.{_≡_, refl, sym, ap, _∙_, subst}
 use mathlib.Core.Logic.{_≢_, _⊎_, _↔_, inl, inr, ⊎-elim}
-use mathlib.Core.List.{List}
-use Prim.Native.Nat.{ℕ, _^_, _<_}
+use mathlib.Core.List.{List, map}
+use Prim.Native.Nat.{ℕ, _^_, _≤_, _<_}
+use native.Mathlib.Decide.{decLt}
 use native.Mathlib.Omega.{arith}
-use Rattle.candidates.proofs.Held.{Held, held-power}
+use Rattle.candidates.specs.Masks.{Sub}
+use Rattle.candidates.proofs.Held.{Held, held-power, power-sub, sub-power}
+use Rattle.candidates.proofs.Order.{sub-none}
+use Rattle.grid.specs.Cells.{cells}
 use Rattle.grid.specs.Units.{Member}
+use Rattle.grid.proofs.Cells.{at-cells, past-cells}
 use Rattle.grid.proofs.Units.{member-below}
-use Rattle.steps.specs.Boards.{at}
+use Rattle.steps.specs.Boards.{at, Under}
 use Rattle.steps.specs.Passes.{Settled}
 use Rattle.steps.specs.Published.{Candidate, NakedPairLoss, LockedLoss, Crossing, XWingLoss}
 use Rattle.steps.specs.Wide.{LoneCell, LoneLoss, OnlyPlace, PlaceLoss, PairCells, Locked, CrossCells, Removes}
 use Rattle.steps.proofs.Members.{member-row, member-col}
+use Rattle.steps.proofs.Reach.{Reach, reach-keeps}
 use Rattle.steps.proofs.Wide.{module8}
 
 -- ---- a filling, by the place of the digit in each cell
@@ -118,3 +124,34 @@ module _ (g : List ℕ) (p : ℕ → ℕ) (F : Filling p) (z : List ℕ) (one : 
     onClaiming = λ u v d w hd. locked-keeps u v d (omega (arith, w .line)) (w .box .1) hd;
     onCross = cross-keeps;
   })
+
+-- ---- a filling inside masks
+
+-- each cell holds its digit
+abbrev pub Inside : (ℕ → ℕ) → List ℕ → Type 0
+Inside p m = (c : ℕ) → c < 81 → Held (at m c) (p c)
+
+-- its masks, one digit each
+filled : (ℕ → ℕ) → List ℕ
+filled p = map (λ c. 2 ^ p c) cells
+
+filled-at : (p : ℕ → ℕ) (c : ℕ) → c < 81 → at (filled p) c ≡ 2 ^ p c
+unfolding filled
+filled-at p c h = at-cells 0 (λ c. 2 ^ p c) c h
+
+filled-out : (p : ℕ → ℕ) (c : ℕ) → 81 ≤ c → at (filled p) c ≡ 0
+unfolding filled
+filled-out p c h = past-cells 0 (λ c. 2 ^ p c) c h
+
+inside-under : (p : ℕ → ℕ) (m : List ℕ) → Inside p m → Under (filled p) m
+inside-under p m i = record { at = λ c. go c (decLt c 81) }
+  where
+    go : (c : ℕ) → Dec (c < 81) → Sub (at (filled p) c) (at m c)
+    go c (yes h) = rw (filled-at p c h) (power-sub (at m c) (p c) (i c h))
+    go c (no h) = rw (filled-out p c (omega arith)) (sub-none (at m c))
+
+under-inside : (p : ℕ → ℕ) (m : List ℕ) → Under (filled p) m → Inside p m
+under-inside p m u c h = sub-power (at m c) (p c) (subst (λ (x : ℕ). Sub x (at m c)) (filled-at p c h) (u .at c))
+
+pub reach-inside : (g : List ℕ) (p : ℕ → ℕ) → Filling p → {m n : List ℕ} → Inside p m → Reach g m n → Inside p n
+reach-inside g p F {m} {n} i r = under-inside p n (reach-keeps g (filling-settled g p F (filled p) (filled-at p)) (inside-under p m i) r)

@@ -30,6 +30,9 @@ pub mod Demand2
 pub mod Holders
 pub mod Ported
 pub mod Chains
+pub mod Links
+pub mod XChains
+pub mod XChainFillings
 pub mod ListTheorem
 pub mod Lists
 pub mod EntriesStand

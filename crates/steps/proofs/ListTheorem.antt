@@ -9,7 +9,7 @@ use lib.ListN.{length}
 use Rattle.stops.specs.Answer.{gives}
 use Rattle.grid.specs.Fillings.{verified}
 use Rattle.steps.specs.Boards.{Board, givens, Under, total}
-use Rattle.steps.specs.Calls.{Call, Clues, Entries, withoutChain, checkOf, Admitted, openedWith, run}
+use Rattle.steps.specs.Calls.{Call, Clues, Entries, withoutPorted, withoutChain, checkOf, Admitted, openedWith, run}
 use Rattle.steps.specs.Entries.{EntryCall, Deed, entry, play, callsIn}
 use Rattle.steps.specs.Fillings.{Keeps, InMasks}
 use Rattle.steps.specs.Passes.{Settled, sweep, swept, settle, removedBy}
@@ -43,11 +43,11 @@ pub record SettlingEnds (g m : List ℕ) : Type 0 where
   pub stops : sweep g (swept g (settle g m .sweeps - 1) m) ≡ swept g (settle g m .sweeps - 1) m
   pub final : settle g m .left ≡ swept g (settle g m .sweeps - 1) m
 
--- Of every list, of every two lists without the chain pass, of entering and rubbing out, and of settling on every board that no listed stop refuses. A list starts on the fresh board of clues and entries.
+-- Of every list, of every list without the ported chain pass, of every two lists with neither chain pass, of entering and rubbing out, and of settling on every board that no listed stop refuses. A list starts on the fresh board of clues and entries.
 pub record ListTheorem : Type 0 where
-  -- "on these boards stops 3 and 9 never occur", nor 8: after any list, the chain pass too, the next call is not refused
+  -- "on these boards stops 3 and 9 never occur", nor 8: after any list, both chain passes too, the next call is not refused
   pub taken : (clues entries : List ℤ) → Clues clues → Entries clues entries → (xs : List Deed) → checkOf (play xs (openedWith clues entries)) ≡ gives tt
-  pub fillings : (clues entries : List ℤ) → Clues clues → Entries clues entries → (xs : List Deed) → withoutChain (callsIn xs) ≡ true → FillingsStay (play xs (openedWith clues entries))
+  pub fillings : (clues entries : List ℤ) → Clues clues → Entries clues entries → (xs : List Deed) → withoutPorted (callsIn xs) ≡ true → FillingsStay (play xs (openedWith clues entries))
   -- "Settled boards are compared only where neither list enters or rubs out."
   pub lists : (clues entries : List ℤ) → Clues clues → Entries clues entries → (ks ls : List Call) → withoutChain ks ≡ true → withoutChain ls ≡ true
       → OneEnd (run ks (openedWith clues entries)) (run ls (openedWith clues entries))

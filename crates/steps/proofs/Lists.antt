@@ -1,7 +1,7 @@
 -- The theorem about lists of calls and about settling: `list-theorem`. Assumes nothing.
 use mathlib.Core.Path.{_≡_, refl, sym, ap, _∙_, subst}
 use mathlib.Core.Logic.{_⊎_, _↔_, inl, inr, ⊎-elim}
-use mathlib.Core.Bool.{true, false, not, true≢false}
+use mathlib.Core.Bool.{Bool, true, false, not, true≢false}
 use mathlib.Core.List as lists
 use mathlib.Core.List.{List, [], _∷_}
 use Prim.Native.Nat.{ℕ}
@@ -14,7 +14,7 @@ use Rattle.grid.specs.Fillings.{verified}
 use Rattle.grid.proofs.Fillings.{verified-correct}
 use Rattle.candidates.proofs.Tests.{both-left, both-right}
 use Rattle.steps.specs.Boards.{Board, givensOf, together, givens, noEntries, fresh, Givens, Admissible}
-use Rattle.steps.specs.Calls.{Clues, Entries, Admitted, Call, Outcome, updateCandidates, nakedPairsCall, boxLineCall, xWingCall, nakedSinglesCall, hiddenSinglesCall, advancedCall, wide, settlingCall, chainCall, isChain, withoutChain, outcome, advancedOutcome, answer, left, checkOf, run, opened, openedWith}
+use Rattle.steps.specs.Calls.{Clues, Entries, Admitted, Call, Outcome, updateCandidates, nakedPairsCall, boxLineCall, xWingCall, nakedSinglesCall, hiddenSinglesCall, advancedCall, wide, settlingCall, chainCall, xChainCall, isPorted, isChain, without, withoutPorted, withoutChain, outcome, advancedOutcome, answer, left, checkOf, run, opened, openedWith}
 use Rattle.steps.specs.Entries.{EntryCall, entryAnswer, Deed, step, entry, deed, play, callsIn}
 use Rattle.stops.specs.Answer.{Answer, gives, stop, passing, valueOr}
 use Rattle.steps.proofs.ListTheorem.{BoardSettled, OneEnd, FillingsStay, SettlingEnds, ListTheorem}
@@ -22,13 +22,16 @@ use Rattle.steps.specs.Fillings.{KeepsClues, InMasks}
 use Rattle.steps.specs.Passes.{Settled, settle}
 use Rattle.steps.proofs.Chains.{chains-admissible}
 use Rattle.steps.proofs.Check.{clues-givens, admitted, admits}
-use Rattle.steps.proofs.Clues.{keeps-in, in-keeps}
+use Rattle.steps.proofs.Clues.{placed, correct-filling, keeps-fresh, in-keeps}
 use Rattle.steps.proofs.Entries.{together-clues, keeps-together, together-keeps, no-entries, keeps-none, entries-stay, entry-leaves}
+use Rattle.steps.proofs.Fillings.{Filling, Inside, reach-inside}
 use Rattle.steps.proofs.Fresh.{fresh-admissible, total-most}
 use Rattle.steps.proofs.Ported.{nakedPairs-reach, boxLines-reach, xWings-reach}
 use Rattle.steps.proofs.Masks.{total-under}
 use Rattle.steps.proofs.Reach.{Reach, start, reach-trans, reach-eq, reach-under, reach-length, reach-admissible, reach-keeps, pass-reach, one-end}
 use Rattle.steps.proofs.Settling.{SettledIn, settles-in}
+use Rattle.steps.proofs.XChainFillings.{x-chains-keep}
+use Rattle.steps.proofs.XChains.{x-chains-admissible}
 
 -- ---- one call
 
@@ -49,6 +52,7 @@ call-leaves advancedCall g m n ok a =
 call-leaves (wide k) g m n ok a = inl (pass-reach g k m)
 call-leaves settlingCall g m n ok a = inl (settling-from g m ok a .reach)
 call-leaves chainCall g m n ok a = absurd (true≢false n)
+call-leaves xChainCall g m n ok a = absurd (true≢false n)
 
 -- every call leaves masks that the next one takes
 call-admissible : (k : Call) (g m : List ℕ) → Givens g → Admissible g m → Admissible g (outcome k g m .masks)
@@ -63,6 +67,41 @@ call-admissible advancedCall g m ok a = by-test (Admissible g) (advancedOutcome 
 call-admissible (wide k) g m ok a = reach-admissible g (pass-reach g k m) a
 call-admissible settlingCall g m ok a = reach-admissible g (settling-from g m ok a .reach) a
 call-admissible chainCall g m ok a = chains-admissible g m a
+call-admissible xChainCall g m ok a = x-chains-admissible g m a
+
+-- ---- fillings
+
+-- admissible masks that have lost no filling which the fresh ones have
+pub record Keeping (g m : List ℕ) : Type 0 where
+  pub admissible : Admissible g m
+  pub fillings : (p : ℕ → ℕ) → Filling p → Inside p (fresh g) → Inside p m
+
+fresh-keeping : (g : List ℕ) → Keeping g (fresh g)
+fresh-keeping g = record { admissible = fresh-admissible g; fillings = λ p F i. i }
+
+-- the chain pass that is not the ported one
+other-chain : (k : Call) → isPorted k ≡ false → isChain k ≡ true → k ≡ xChainCall
+other-chain xChainCall n c = refl
+other-chain chainCall n c = absurd (true≢false n)
+other-chain updateCandidates n c = absurd (true≢false (sym c))
+other-chain nakedPairsCall n c = absurd (true≢false (sym c))
+other-chain boxLineCall n c = absurd (true≢false (sym c))
+other-chain xWingCall n c = absurd (true≢false (sym c))
+other-chain nakedSinglesCall n c = absurd (true≢false (sym c))
+other-chain hiddenSinglesCall n c = absurd (true≢false (sym c))
+other-chain advancedCall n c = absurd (true≢false (sym c))
+other-chain (wide w) n c = absurd (true≢false (sym c))
+other-chain settlingCall n c = absurd (true≢false (sym c))
+
+call-keeping : (k : Call) (g m : List ℕ) → isPorted k ≡ false → Givens g → Keeping g m → Keeping g (outcome k g m .masks)
+unfolding outcome
+call-keeping k g m n ok r = record { admissible = call-admissible k g m ok (r .admissible); fillings = λ p F i. go p F i (isChain k) refl }
+  where
+    go : (p : ℕ → ℕ) → Filling p → Inside p (fresh g) → (t : Bool) → isChain k ≡ t → Inside p (outcome k g m .masks)
+    go p F i false t =
+        ⊎-elim (λ w. reach-inside g p F (r .fillings p F i) w) (λ e. subst (Inside p) (sym e) i) (call-leaves k g m t ok (r .admissible))
+    go p F i true t =
+        subst (λ (k : Call). Inside p (outcome k g m .masks)) (sym (other-chain k n t)) (x-chains-keep g ok p F m (r .admissible) (r .fillings p F i))
 
 -- ---- one call on a board
 
@@ -85,6 +124,9 @@ board-givens b = clues-givens (together (b .clues) (b .entries))
 
 pub reached-admissible : {b : Board} → Good Reached b → Good Admissible b
 reached-admissible {b} r = record { clues = r .clues; entries = r .entries; masks = reach-admissible (givens b) (r .masks) (fresh-admissible (givens b)) }
+
+pub keeping-admissible : {b : Board} → Good Keeping b → Good Admissible b
+keeping-admissible r = record { clues = r .clues; entries = r .entries; masks = r .masks .admissible }
 
 pub admitted-good : (b : Board) → Admitted b → Good Admissible b
 admitted-good b a = let w = admits b a in record { clues = w .0; entries = w .1; masks = w .2 }
@@ -111,6 +153,9 @@ call-reached k b n r =
     call-board Reached k b a
     (⊎-elim (λ p. reach-trans (givens b) (r .masks) p) (λ e. reach-eq (givens b) start (sym e)) (call-leaves k (givens b) (b .masks) n (board-givens b) (a .masks)))
 
+call-keeps : (k : Call) (b : Board) → isPorted k ≡ false → Good Keeping b → Good Keeping (left b (answer k b))
+call-keeps k b n r = call-board Keeping k b (keeping-admissible r) (call-keeping k (givens b) (b .masks) n (board-givens b) (r .masks))
+
 -- entering and rubbing out, refused or not
 entry-good : (P : List ℕ → List ℕ → Type 0) → Starts P → (k : EntryCall) (b : Board) → Good P b → Good P (valueOr b (entryAnswer k b))
 entry-good P fresh k b r =
@@ -128,12 +173,15 @@ unfolding play
 play-admits [] b r = r
 play-admits (x ∷ xs) b r = play-admits xs (deed x b) (deed-admits x b r)
 
-play-reached : (xs : List Deed) (b : Board) → withoutChain (callsIn xs) ≡ true → Good Reached b → Good Reached (play xs b)
+-- a list without a sort of calls, where every other call keeps the property
+play-good : (P : List ℕ → List ℕ → Type 0) → Starts P → (sort : Call → Bool) → ((k : Call) (b : Board) → sort k ≡ false → Good P b → Good P (left b (answer k b)))
+    → (xs : List Deed) (b : Board) → without sort (callsIn xs) ≡ true → Good P b → Good P (play xs b)
 unfolding play deed
-play-reached [] b n r = r
-play-reached (step k ∷ xs) b n r =
-    play-reached xs (left b (answer k b)) (both-right (not (isChain k)) (withoutChain (callsIn xs)) n) (call-reached k b (not-true (isChain k) (both-left (not (isChain k)) (withoutChain (callsIn xs)) n)) r)
-play-reached (entry k ∷ xs) b n r = play-reached xs (valueOr b (entryAnswer k b)) n (entry-good Reached (λ g. start) k b r)
+play-good P fresh sort keeps [] b n r = r
+play-good P fresh sort keeps (step k ∷ xs) b n r =
+    play-good P fresh sort keeps xs (left b (answer k b)) (both-right (not (sort k)) (without sort (callsIn xs)) n)
+    (keeps k b (not-true (sort k) (both-left (not (sort k)) (without sort (callsIn xs)) n)) r)
+play-good P fresh sort keeps (entry k ∷ xs) b n r = play-good P fresh sort keeps xs (valueOr b (entryAnswer k b)) n (entry-good P fresh k b r)
 
 -- a list of board calls alone
 pub play-run : (ks : List Call) (b : Board) → play (lists.map step ks) b ≡ run ks b
@@ -146,7 +194,7 @@ calls-alone [] = refl
 calls-alone (k ∷ ks) = ap (λ (l : List Call). k ∷ l) (calls-alone ks)
 
 run-reached : (ks : List Call) (b : Board) → withoutChain ks ≡ true → Good Reached b → Good Reached (run ks b)
-run-reached ks b n r = subst (Good Reached) (play-run ks b) (play-reached (lists.map step ks) b (ap withoutChain (calls-alone ks) ∙ n) r)
+run-reached ks b n r = subst (Good Reached) (play-run ks b) (play-good Reached (λ g. start) isChain call-reached (lists.map step ks) b (ap withoutChain (calls-alone ks) ∙ n) r)
 
 -- it leaves clues and entries
 run-fixed : (ks : List Call) (b : Board) → (run ks b .clues ≡ b .clues) × (run ks b .entries ≡ b .entries)
@@ -175,20 +223,20 @@ module _ (clues entries : List ℤ) (ok : Clues clues) (en : Entries clues entri
   abbrev O : Board
   O = openedWith clues entries
 
-  pub played : (xs : List Deed) → withoutChain (callsIn xs) ≡ true → Good Reached (play xs O)
-  played xs n = play-reached xs O n (opened-good Reached (λ g. start) clues entries ok en)
+  pub played : (xs : List Deed) → withoutPorted (callsIn xs) ≡ true → Good Keeping (play xs O)
+  played xs n = play-good Keeping fresh-keeping isPorted call-keeps xs O n (opened-good Keeping fresh-keeping clues entries ok en)
 
   never-refused : (xs : List Deed) → checkOf (play xs O) ≡ gives tt
   never-refused xs = accepted (play xs O) (play-admits xs O (opened-good Admissible fresh-admissible clues entries ok en))
 
-  fillings-stay : (xs : List Deed) → withoutChain (callsIn xs) ≡ true → FillingsStay (play xs O)
+  fillings-stay : (xs : List Deed) → withoutPorted (callsIn xs) ≡ true → FillingsStay (play xs O)
   fillings-stay xs n f l v =
       let B = play xs O in
       let p = played xs n in
       let t = together-clues (B .clues) (B .entries) (p .clues) (p .entries) in
       let r = verified-correct f l v in (
-        λ i. together-keeps B f (p .clues) (p .entries) (in-keeps (together (B .clues) (B .entries)) t f r (B .masks) (reached-admissible p .masks) i),
-        λ k. keeps-in (together (B .clues) (B .entries)) t f r (keeps-together B f k) (B .masks) (p .masks),
+        λ i. together-keeps B f (p .clues) (p .entries) (in-keeps (together (B .clues) (B .entries)) t f r (B .masks) (p .masks .admissible) i),
+        λ k. record { held = p .masks .fillings (placed f) (correct-filling f r) (keeps-fresh (together (B .clues) (B .entries)) t f r (keeps-together B f k)) },
       )
 
   lists-end : (ks ls : List Call) → withoutChain ks ≡ true → withoutChain ls ≡ true → OneEnd (run ks O) (run ls O)
@@ -240,7 +288,7 @@ module _ (clues : List ℤ) (ok : Clues clues) where
   unfolding play
   opened-taken = never-refused clues noEntries ok (no-entries clues) []
 
-  pub run-fillings : (ks : List Call) → withoutChain ks ≡ true → (f : List ℤ) → length f ≡ 81 → verified f ≡ true → InMasks (run ks (opened clues) .masks) f ↔ KeepsClues clues f
+  pub run-fillings : (ks : List Call) → withoutPorted ks ≡ true → (f : List ℤ) → length f ≡ 81 → verified f ≡ true → InMasks (run ks (opened clues) .masks) f ↔ KeepsClues clues f
   unfolding openedWith
   run-fillings ks n f l v = (
     λ i. subst (λ (z : List ℤ). KeepsClues z f) (fixed .0) (stay f l v .0 i .clues),
@@ -254,4 +302,4 @@ module _ (clues : List ℤ) (ok : Clues clues) where
       fixed = run-fixed ks (opened clues)
 
       stay : FillingsStay B
-      stay = subst FillingsStay (play-run ks (opened clues)) (fillings-stay clues noEntries ok (no-entries clues) (lists.map step ks) (ap withoutChain (calls-alone ks) ∙ n))
+      stay = subst FillingsStay (play-run ks (opened clues)) (fillings-stay clues noEntries ok (no-entries clues) (lists.map step ks) (ap withoutPorted (calls-alone ks) ∙ n))

@@ -1,15 +1,15 @@
 -- Laws of the loops: what each member of a list does, and what a list made by loops holds. Assumes nothing.
 use mathlib.Core.Path.{_≡_, refl, sym, ap, _∙_, subst}
-use mathlib.Core.Bool.{Bool, true, false, cond}
-use mathlib.Core.Logic.{⊎-elim}
+use mathlib.Core.Bool.{Bool, true, false, cond, _||_, true≢false}
+use mathlib.Core.Logic.{inl, inr, ⊎-elim}
 use mathlib.Core.List.{List, [], _∷_, _++_, append-nil, append-assoc, List·Memᴰ, List·Memᴰ·head, List·Memᴰ·tail, List·Memᴰ·not-nil, List·Memᴰ·cases-cons, List·Memᴰ·append-cases, Memᴰ·append-left, Memᴰ·append-right}
 use mathlib.Core.Option.{Option, none, some, Option·some-ne-none}
 use Prim.Native.Nat.{ℕ, _+_, _-_, _<_, zero-le}
 use native.Mathlib.Omega.{arith}
-use Rattle.candidates.proofs.Tests.{by-test}
+use Rattle.candidates.proofs.Tests.{by-test, either}
 pub use Rattle.grid.proofs.Lists.{all-member, member-all}
 use Rattle.grid.proofs.Lists.{range-mem, mem-range}
-use Rattle.steps.specs.Loops.{each, for, all, first, upTo, above}
+use Rattle.steps.specs.Loops.{each, for, select, all, any, first, upTo, above}
 
 module _ {A S : Type 0} (f : A → S → S) where
   pub each-append : (xs ys : List A) (s : S) → each f (xs ++ ys) s ≡ each f ys (each f xs s)
@@ -113,3 +113,23 @@ module _ (f : ℕ → Bool) where
 
   pub all-append : (xs ys : List ℕ) → all f xs ≡ true → all f ys ≡ true → all f (xs ++ ys) ≡ true
   all-append xs ys p q = member-all f (xs ++ ys) (λ x k. ⊎-elim (all-member f xs p x) (all-member f ys q x) (List·Memᴰ·append-cases xs k))
+
+  -- a test that some member passes
+  pub any-member : (xs : List ℕ) → any f xs ≡ true → (x : ℕ) × List·Memᴰ x xs × (f x ≡ true)
+  any-member [] e = absurd (true≢false (sym e))
+  any-member (x ∷ xs) e =
+      ⊎-elim (λ t. (x, List·Memᴰ·head refl, t))
+      (λ t.
+      let w = any-member xs t in
+      (w .0, List·Memᴰ·tail (w .1), w .2))
+      (either (f x) (any f xs) .0 e)
+
+  pub member-any : (xs : List ℕ) (x : ℕ) → List·Memᴰ x xs → f x ≡ true → any f xs ≡ true
+  member-any [] x k t = absurd (List·Memᴰ·not-nil k)
+  member-any (y ∷ xs) x k t =
+      either (f y) (any f xs) .1 (⊎-elim (λ e. inl (ap f (sym e) ∙ t)) (λ l. inr (member-any xs x l t)) (List·Memᴰ·cases-cons k))
+
+-- selections by tests that agree on the list's members
+pub select-same : (f g : ℕ → Bool) (xs : List ℕ) → ((x : ℕ) → List·Memᴰ x xs → f x ≡ g x) → select f xs ≡ select g xs
+select-same f g [] h = refl
+select-same f g (x ∷ xs) h = rw (h x (List·Memᴰ·head refl)) (ap (λ (l : List ℕ). cond (g x) (x ∷ l) l) (select-same f g xs (λ y k. h y (List·Memᴰ·tail k))))

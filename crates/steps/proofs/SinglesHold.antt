@@ -11,7 +11,7 @@ use Rattle.grid.specs.Fillings.{numberAt, verified, Correct}
 use Rattle.grid.proofs.Fillings.{number-of, verified-correct}
 use Rattle.grid.proofs.Units.{member-below}
 use Rattle.steps.specs.Boards.{Board, at, together, givens, Givens, Admissible}
-use Rattle.steps.specs.Calls.{Clues, Entries, withoutChain, openedWith}
+use Rattle.steps.specs.Calls.{Clues, Entries, withoutPorted, openedWith}
 use Rattle.steps.specs.Entries.{Deed, callsIn, play}
 use Rattle.steps.specs.SinglesHold.{SinglesHold}
 use Rattle.steps.specs.Fillings.{Keeps, InMasks}
@@ -22,7 +22,7 @@ use Rattle.steps.proofs.Clues.{correct-filling, placed}
 use Rattle.steps.proofs.Fresh.{mask-small}
 use Rattle.steps.proofs.Holders.{holder-open}
 use Rattle.steps.proofs.ListTheorem.{FillingsStay}
-use Rattle.steps.proofs.Lists.{Good, Reached, played, reached-admissible, list-theorem}
+use Rattle.steps.proofs.Lists.{Good, Keeping, played, list-theorem}
 use Rattle.steps.proofs.Reports.{naked-singles, naked-reports, hidden-singles, hidden-reports}
 
 module _ (g m : List ℕ) (ok : Givens g) (a : Admissible g m) (f : List ℤ) (right : Correct f) (inside : InMasks m f) where
@@ -50,13 +50,13 @@ module _ (g m : List ℕ) (ok : Givens g) (a : Admissible g m) (f : List ℤ) (r
       let w = hidden-reports g m (hidden-singles g m _ .1 refl) c d h in
       hidden-true (w .0) d c (w .1) (w .2) (w .3)
 
-module _ (clues entries : List ℤ) (ok : Clues clues) (en : Entries clues entries) (xs : List Deed) (n : withoutChain (callsIn xs) ≡ true) (b : Board) (is : b ≡ play xs (openedWith clues entries))
+module _ (clues entries : List ℤ) (ok : Clues clues) (en : Entries clues entries) (xs : List Deed) (n : withoutPorted (callsIn xs) ≡ true) (b : Board) (is : b ≡ play xs (openedWith clues entries))
     (f : List ℤ) (size : length f ≡ 81) (v : verified f ≡ true) (k : Keeps b f) where
   inside : InMasks (b .masks) f
   inside = subst FillingsStay (sym is) (list-theorem .fillings clues entries ok en xs n) f size v .1 k
 
   a : Admissible (givens b) (b .masks)
-  a = reached-admissible (subst (Good Reached) (sym is) (played clues entries ok en xs n)) .masks
+  a = subst (Good Keeping) (sym is) (played clues entries ok en xs n) .masks .admissible
 
   digits : Givens (givens b)
   digits = clues-givens (together (b .clues) (b .entries))

@@ -17,6 +17,7 @@ use Rattle.steps.specs.Loops.{first}
 use Rattle.steps.specs.Passes.{Kind, pass, changed, settle, removedBy}
 use Rattle.steps.specs.Ported.{nakedPairs, boxLines, xWings}
 use Rattle.steps.specs.Singles.{Report, nakedSingles, hiddenSingles}
+use Rattle.steps.specs.XChains.{xChains}
 
 -- ---- the check of a handed board
 
@@ -73,8 +74,23 @@ pub data Call : Type 0 where
   updateCandidates nakedPairsCall boxLineCall xWingCall nakedSinglesCall hiddenSinglesCall advancedCall : Call
   wide : Kind → Call
   settlingCall : Call
-  chainCall : Call
+  chainCall xChainCall : Call
 
+-- the chain pass of module 11, which "can cost a filling"
+abbrev pub isPorted : Call → Bool
+isPorted updateCandidates = false
+isPorted nakedPairsCall = false
+isPorted boxLineCall = false
+isPorted xWingCall = false
+isPorted nakedSinglesCall = false
+isPorted hiddenSinglesCall = false
+isPorted advancedCall = false
+isPorted (wide k) = false
+isPorted settlingCall = false
+isPorted chainCall = true
+isPorted xChainCall = false
+
+-- it, or the X-chain pass
 abbrev pub isChain : Call → Bool
 isChain updateCandidates = false
 isChain nakedPairsCall = false
@@ -86,11 +102,20 @@ isChain advancedCall = false
 isChain (wide k) = false
 isChain settlingCall = false
 isChain chainCall = true
+isChain xChainCall = true
 
--- a list "without the chain pass"
+-- a list that has no call of a sort
+abbrev pub without : (Call → Bool) → List Call → Bool
+without sort [] = true
+without sort (k ∷ ks) = not (sort k) && without sort ks
+
+-- "The promise on fillings covers lists with this pass", but not those with the ported one (document 02, F-9)
+abbrev pub withoutPorted : List Call → Bool
+withoutPorted ks = without isPorted ks
+
+-- "lists that contain neither chain pass"
 abbrev pub withoutChain : List Call → Bool
-withoutChain [] = true
-withoutChain (k ∷ ks) = not (isChain k) && withoutChain ks
+withoutChain ks = without isChain ks
 
 -- What a call answers on a board that is not refused: progress, the reports in order, what settling counts, and the masks that it leaves. What a call does not speak of is false, [] or 0.
 pub record Outcome : Type 0 where
@@ -135,6 +160,7 @@ outcome advancedCall g m = advancedOutcome g m
 outcome (wide k) g m = eliminationOutcome m (pass g k m)
 outcome settlingCall g m = settlingOutcome g m
 outcome chainCall g m = eliminationOutcome m (chains g m)
+outcome xChainCall g m = eliminationOutcome m (xChains g m)
 
 -- a call's answer: the stop of the check, or the outcome
 unfoldable pub answer : Call → Board → Answer Outcome

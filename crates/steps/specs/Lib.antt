@@ -7,6 +7,7 @@ pub mod Ported
 pub mod Singles
 pub mod Chains
 pub mod Published
+pub mod XChains
 pub mod Wide
 pub mod Calls
 pub mod Entries

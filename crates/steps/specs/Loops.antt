@@ -1,7 +1,7 @@
 -- The order in which things are done. `each` does a thing for each member of a list, the first first; the loops of the paper are ranges of numbers, one inside the other.
 unfoldable pub use Rattle.grid.specs.Lists.{each}
 pub use Rattle.grid.specs.Lists.{range, select, all}
-use mathlib.Core.Bool.{Bool, cond}
+use mathlib.Core.Bool.{Bool, false, cond, _||_}
 use mathlib.Core.List.{List, [], _∷_, _++_}
 use mathlib.Core.Option.{Option, none, some}
 use Prim.Native.Nat.{ℕ, _+_, _-_}
@@ -24,3 +24,8 @@ module _ {A B : Type 0} where
 unfoldable pub first : (ℕ → Bool) → List ℕ → Option ℕ
 first f [] = none
 first f (x ∷ xs) = let r = first f xs in cond (f x) (some x) r
+
+-- some member of the list passes
+abbrev pub any : (ℕ → Bool) → List ℕ → Bool
+any f [] = false
+any f (x ∷ xs) = f x || any f xs

@@ -23,7 +23,7 @@ use Rattle.grid.proofs.Fillings.{verified-correct}
 use Rattle.grid.proofs.Lists.{at-upTo, range-length, map-same}
 use Rattle.steps.specs.Boards.{noEntries}
 use Rattle.steps.specs.Boards as S
-use Rattle.steps.specs.Calls.{Call, Clues, badClue, settlingCall, withoutChain, opened, run}
+use Rattle.steps.specs.Calls.{Call, Clues, badClue, settlingCall, withoutPorted, opened, run}
 use Rattle.steps.specs.Fillings.{KeepsClues, InMasks}
 use Rattle.steps.proofs.Entries.{no-entries}
 use Rattle.steps.proofs.Lists.{play-run, run-fillings}
@@ -97,11 +97,11 @@ promised clues solution n v ok keeps =
       lists = λ xs w B at entered.
           demand3 .fillings clues noEntries ok (no-entries clues) xs w B at solution n v .1
           (record { clues = subst (λ (l : List ℤ). KeepsClues l solution) (sym (demand3 .printed clues noEntries xs B at)) keeps; entries = entered });
-      replayed = λ ns w r e. calls-keep (callsOf ns) (w .without) (r .board) (demand3 .replays clues noEntries ok (no-entries clues) ns (w .steps) r e .1 ∙ play-run (callsOf ns) (opened clues));
+      replayed = λ ns w r e. calls-keep (callsOf ns) (w .noneOf) (r .board) (demand3 .replays clues noEntries ok (no-entries clues) ns (w .steps) r e .1 ∙ play-run (callsOf ns) (opened clues));
     }
   where
     -- calls alone, from the fresh board of the clues
-    calls-keep : (ks : List Call) → withoutChain ks ≡ true → (B : Board) → boardOf B ≡ run ks (opened clues) → InMasks (B .masks) solution
+    calls-keep : (ks : List Call) → withoutPorted ks ≡ true → (B : Board) → boardOf B ≡ run ks (opened clues) → InMasks (B .masks) solution
     calls-keep ks w B at = subst (λ (b : S.Board). InMasks (b .masks) solution) (sym at) (run-fillings clues ok ks w solution n v .1 keeps)
 
 made : (start percentage : ℕ) (solution : List ℤ) → length solution ≡ 81 → (r : TrialRound) → Makes start percentage solution r → r .answer ≡ Passed → KeepsSolution (r .clues) solution

@@ -9,12 +9,12 @@ use Rattle.stops.specs.Answer.{gives}
 use Rattle.stops.specs.declared.Check.the-variants.{Passed}
 use Rattle.grid.specs.Fillings.{Correct, verified}
 use Rattle.steps.specs.Boards.{noEntries}
-use Rattle.steps.specs.Calls.{Clues, settlingCall, withoutChain}
+use Rattle.steps.specs.Calls.{Clues, settlingCall, withoutPorted}
 use Rattle.steps.specs.Entries.{Deed, step, callsIn}
 use Rattle.steps.specs.Fillings.{KeepsClues, InMasks}
 use Rattle.board.specs.Boards.{noClues}
 use Rattle.board.specs.declared.Board.{Board}
-use Rattle.calls.specs.Demand3.{After, StepsWithoutChain}
+use Rattle.calls.specs.Demand3.{After, StepsWithoutPorted}
 use Rattle.calls.specs.Replays.{Replays}
 use Rattle.calls.specs.declared.Replayed.{Replayed}
 use Rattle.trial_rounds.specs.Rounds.{roundOf, Makes}
@@ -31,8 +31,8 @@ pub record KeepsSolution (clues solution : List ℤ) : Type 0 where
   -- "settling keeps that solution in the masks"
   pub settling : (B : Board) → After clues noEntries (step settlingCall ∷ []) B → InMasks (B .masks) solution
   -- and so does every list of calls that demand 3's half on fillings covers, one by one or by `replay`, where the entries that it leaves are digits of the solution
-  pub lists : (xs : List Deed) → withoutChain (callsIn xs) ≡ true → (B : Board) → After clues noEntries xs B → KeepsClues (B .entries) solution → InMasks (B .masks) solution
-  pub replayed : (ns : List ℕ) → StepsWithoutChain ns → (r : Replayed) → Replays clues noEntries ns r → InMasks (r .board .masks) solution
+  pub lists : (xs : List Deed) → withoutPorted (callsIn xs) ≡ true → (B : Board) → After clues noEntries xs B → KeepsClues (B .entries) solution → InMasks (B .masks) solution
+  pub replayed : (ns : List ℕ) → StepsWithoutPorted ns → (r : Replayed) → Replays clues noEntries ns r → InMasks (r .board .masks) solution
 
 pub record TrialRounds : Type 0 where
   -- every round of every solution, an array of 81 numbers

@@ -2,13 +2,13 @@
 use mathlib.Core.Path.{refl, subst}
 use Prim.Native.Nat.{zero-le}
 use borrow.Author.Needs.{needs}
-use Rattle.steps.specs.Calls.{updateCandidates, nakedPairsCall, boxLineCall, xWingCall, nakedSinglesCall, hiddenSinglesCall, advancedCall, wide, settlingCall, chainCall}
+use Rattle.steps.specs.Calls.{updateCandidates, nakedPairsCall, boxLineCall, xWingCall, nakedSinglesCall, hiddenSinglesCall, advancedCall, wide, settlingCall, chainCall, xChainCall}
 use Rattle.steps.specs.Passes.{Lone, Place, Pair, Pointing, Claiming, Cross}
 use Rattle.board.specs.Boards.{boardOf}
 use Rattle.calls.specs.StepNumbers.{HandsBack}
 use Rattle.candidates.proofs.Tests.{past}
 use Rattle.calls.proofs.Arms.{step-is, no-step-is, quiet-hands, elimination-hands, reports-hands, settling-hands, update-flag}
-use Rattle.calls.proofs.Arms.{quiet-update, quiet-pairs, quiet-box-line, quiet-x-wing, quiet-chain, quiet-wide, uncounted-naked, uncounted-hidden, uncounted-advanced}
+use Rattle.calls.proofs.Arms.{quiet-update, quiet-pairs, quiet-box-line, quiet-x-wing, quiet-chain, quiet-x-chain, quiet-wide, uncounted-naked, uncounted-hidden, uncounted-advanced}
 use Rattle.calls.proofs.step.Statement.{statement}
 use Rattle.calls.proofs.step.Tie as tie
 
@@ -102,6 +102,12 @@ apply-claiming-requires c κs = search needs
 of-elimination-requires-10 : tie.Need-of-elimination-requires-10
 of-elimination-requires-10 c κs = search needs
 
+apply-x-chains-requires : tie.Need-apply-x-chains-requires
+apply-x-chains-requires c κs = search needs
+
+of-elimination-requires-11 : tie.Need-of-elimination-requires-11
+of-elimination-requires-11 c κs = search needs
+
 quiet-requires : tie.Need-quiet-requires
 quiet-requires c κs = search needs
 
@@ -182,24 +188,30 @@ returns-15 c =
 
 returns-16 : tie.Need-returns-16
 returns-16 c =
+    let b = boardOf (c .before .before .before .args .board) in
+    elimination-hands xChainCall b (step-is b xChainCall 15 (c .before .before .match .keys16) refl) quiet-x-chain (c .before .apply-x-chains .result) (c .before .apply-x-chains .ensures) (c .of-elimination11 .ensures)
+
+returns-17 : tie.Need-returns-17
+returns-17 c =
     let b = boardOf (c .before .before .args .board) in
     let r = c .before .match .rest in
-    let from1 = past zero-le (r .0 .0 .0 .0 .0 .0 .0 .0 .0 .0 .0 .0 .0 .0 .1) in
-    let from2 = past from1 (r .0 .0 .0 .0 .0 .0 .0 .0 .0 .0 .0 .0 .0 .1) in
-    let from3 = past from2 (r .0 .0 .0 .0 .0 .0 .0 .0 .0 .0 .0 .0 .1) in
-    let from4 = past from3 (r .0 .0 .0 .0 .0 .0 .0 .0 .0 .0 .0 .1) in
-    let from5 = past from4 (r .0 .0 .0 .0 .0 .0 .0 .0 .0 .0 .1) in
-    let from6 = past from5 (r .0 .0 .0 .0 .0 .0 .0 .0 .0 .1) in
-    let from7 = past from6 (r .0 .0 .0 .0 .0 .0 .0 .0 .1) in
-    let from8 = past from7 (r .0 .0 .0 .0 .0 .0 .0 .1) in
-    let from9 = past from8 (r .0 .0 .0 .0 .0 .0 .1) in
-    let from10 = past from9 (r .0 .0 .0 .0 .0 .1) in
-    let from11 = past from10 (r .0 .0 .0 .0 .1) in
-    let from12 = past from11 (r .0 .0 .0 .1) in
-    let from13 = past from12 (r .0 .0 .1) in
-    let from14 = past from13 (r .0 .1) in
-    let from15 = past from14 (r .1) in
-    subst (HandsBack (c .quiet .result) b) (no-step-is b from15) (c .quiet .ensures)
+    let from1 = past zero-le (r .0 .0 .0 .0 .0 .0 .0 .0 .0 .0 .0 .0 .0 .0 .0 .1) in
+    let from2 = past from1 (r .0 .0 .0 .0 .0 .0 .0 .0 .0 .0 .0 .0 .0 .0 .1) in
+    let from3 = past from2 (r .0 .0 .0 .0 .0 .0 .0 .0 .0 .0 .0 .0 .0 .1) in
+    let from4 = past from3 (r .0 .0 .0 .0 .0 .0 .0 .0 .0 .0 .0 .0 .1) in
+    let from5 = past from4 (r .0 .0 .0 .0 .0 .0 .0 .0 .0 .0 .0 .1) in
+    let from6 = past from5 (r .0 .0 .0 .0 .0 .0 .0 .0 .0 .0 .1) in
+    let from7 = past from6 (r .0 .0 .0 .0 .0 .0 .0 .0 .0 .1) in
+    let from8 = past from7 (r .0 .0 .0 .0 .0 .0 .0 .0 .1) in
+    let from9 = past from8 (r .0 .0 .0 .0 .0 .0 .0 .1) in
+    let from10 = past from9 (r .0 .0 .0 .0 .0 .0 .1) in
+    let from11 = past from10 (r .0 .0 .0 .0 .0 .1) in
+    let from12 = past from11 (r .0 .0 .0 .0 .1) in
+    let from13 = past from12 (r .0 .0 .0 .1) in
+    let from14 = past from13 (r .0 .0 .1) in
+    let from15 = past from14 (r .0 .1) in
+    let from16 = past from15 (r .1) in
+    subst (HandsBack (c .quiet .result) b) (no-step-is b from16) (c .quiet .ensures)
 
 pub step-spec : {M : Type 1} → statement M
 step-spec =
@@ -235,6 +247,8 @@ step-spec =
     of-elimination-requires-9
     apply-claiming-requires
     of-elimination-requires-10
+    apply-x-chains-requires
+    of-elimination-requires-11
     quiet-requires
     returns
     returns-2
@@ -251,4 +265,5 @@ step-spec =
     returns-13
     returns-14
     returns-15
-    returns-16)
+    returns-16
+    returns-17)

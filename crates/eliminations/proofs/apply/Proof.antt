@@ -29,6 +29,7 @@ flagged by.Pointing g m = refl
 flagged by.Claiming g m = refl
 flagged by.Cross g m = refl
 flagged by.Chains g m = refl
+flagged by.XChains g m = refl
 
 check-requires : tie.Need-check-requires
 check-requires c κs = search needs

@@ -67,6 +67,12 @@ enum-told-10 c = search needs
 chains-requires : tie.Need-chains-requires
 chains-requires c κs = search needs
 
+enum-told-11 : tie.Need-enum-told-11
+enum-told-11 c = search needs
+
+x-chains-requires : tie.Need-x-chains-requires
+x-chains-requires c κs = search needs
+
 returns : tie.Need-returns
 unfolding outcome
 returns c =
@@ -137,6 +143,13 @@ returns-10 c =
     let a = t .before .before .args in
     c .chains .ensures ∙ ap (λ (e : Elimination). outcome (callOf e) (a .givens .now) (a .masks .now) .masks) (sym (t .enum-told10 .given .1))
 
+returns-11 : tie.Need-returns-11
+unfolding outcome
+returns-11 c =
+    let t = c .before .before in
+    let a = t .before .before .args in
+    c .x-chains .ensures ∙ ap (λ (e : Elimination). outcome (callOf e) (a .givens .now) (a .masks .now) .masks) (sym (t .enum-told11 .given .1))
+
 pub eliminate-spec : {M : Type 1} → statement M
 eliminate-spec =
     tie.close
@@ -161,6 +174,8 @@ eliminate-spec =
     cross-requires
     enum-told-10
     chains-requires
+    enum-told-11
+    x-chains-requires
     returns
     returns-2
     returns-3
@@ -170,4 +185,5 @@ eliminate-spec =
     returns-7
     returns-8
     returns-9
-    returns-10)
+    returns-10
+    returns-11)

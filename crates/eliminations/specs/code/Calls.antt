@@ -1,5 +1,5 @@
 -- The call that an elimination of the code is.
-use Rattle.steps.specs.Calls.{Call, boxLineCall, chainCall, nakedPairsCall, wide, xWingCall}
+use Rattle.steps.specs.Calls.{Call, boxLineCall, chainCall, nakedPairsCall, wide, xChainCall, xWingCall}
 use Rattle.steps.specs.Passes.{Claiming, Cross, Lone, Pair, Place, Pointing}
 use Rattle.eliminations.specs.declared.Elimination.{Elimination}
 use Rattle.eliminations.specs.declared.Elimination.the-variants as by
@@ -15,3 +15,4 @@ callOf by.Pointing = wide Pointing
 callOf by.Claiming = wide Claiming
 callOf by.Cross = wide Cross
 callOf by.Chains = chainCall
+callOf by.XChains = xChainCall

@@ -1,0 +1,32 @@
+-- `chains::x_chains::lose_from` meets its contract. Assumes nothing.
+use mathlib.Core.Path.{_≡_, ap, _∙_}
+use mathlib.Core.Bool.{Bool, false}
+use mathlib.Core.List.{List}
+use Prim.Native.Nat.{ℕ, _-_}
+use borrow.Author.Needs.{needs}
+use Rattle.chains.specs.code.Lists.{listed, trail}
+use Rattle.chains.specs.code.XLinks.{walkEnds, marked, noEnds, loseSeen, loseFrom}
+use Rattle.chains.proofs.x_chains.lose_from.Statement.{statement}
+use Rattle.chains.proofs.x_chains.lose_from.Tie as tie
+
+no-path-requires : tie.Need-no-path-requires
+no-path-requires c κs = search needs
+
+walk-requires : tie.Need-walk-requires
+walk-requires c κs = search needs
+
+lose-seen-requires : tie.Need-lose-seen-requires
+lose-seen-requires c κs = search needs
+
+returns : tie.Need-returns
+unfolding loseFrom trail
+returns c =
+    let w = c .before .before .before in
+    let p = w .before .before .no-path in
+    let a = w .before .before .before .args in
+    c .lose-seen .ensures
+    ∙ ap (λ (ends : List Bool). loseSeen (a .givens .now) (a .lost) (listed (a .holders .now) (a .held)) (listed (a .linked .now) (a .count)) (a .start) ends (a .masks .now))
+    (w .walk .ensures ∙ ap (λ (k : ℕ). marked (walkEnds (a .linked .now) (a .count) (a .sums .now) (6 - k) false (trail (p .result .cells) k) (a .start)) noEnds) (p .ensures))
+
+pub lose-from-spec : {M : Type 1} → statement M
+lose-from-spec = tie.close (tie.spec no-path-requires walk-requires lose-seen-requires returns)
