@@ -12,7 +12,7 @@ use Rattle.stops.specs.declared.Progress.{Progress}
 use Rattle.stops.specs.declared.Progress.the-variants as progress
 use Rattle.steps.specs.Boards as S
 use Rattle.steps.specs.Boards.{noEntries, sameBoard, total}
-use Rattle.steps.specs.Calls.{Clues, Entries, Call, isPorted, isChain, withoutPorted, withoutChain, wide, settlingCall, checkOf, Admitted, Outcome, outcome, answer, left, openedWith, run}
+use Rattle.steps.specs.Calls.{Clues, Entries, Call, withoutPorted, withoutChain, wide, settlingCall, checkOf, Admitted, Outcome, outcome, answer, left, openedWith, run}
 use Rattle.steps.specs.Entries.{EntryCall, entryAnswer, Deed, step, entry, deed, play, callsIn}
 use Rattle.steps.specs.Passes.{Kind, sweep, settle, removedBy}
 use Rattle.steps.proofs.Entries.{entry-leaves}

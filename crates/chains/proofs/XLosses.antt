@@ -6,7 +6,7 @@ use mathlib.Core.List.{List, [], _∷_, _++_, List·Memᴰ, List·Memᴰ·head, 
 use Prim.Native.Nat.{ℕ, zero, suc, _<_}
 use native.Mathlib.Decide.{ℕ-discrete}
 use native.Mathlib.Omega.{arith}
-use borrow.Author.Tests.{lt-ltb, lt-leb, leb-false}
+use borrow.Author.Tests.{lt-ltb, lt-leb}
 use lib.Dec.{ltb, leb}
 use lib.ListN.{length, getD, set, replicate, length-set}
 use lib.Seq.{ext-getD, getD-set-same, getD-set-other}
@@ -16,8 +16,8 @@ use Rattle.candidates.proofs.Tests.{both, both-left, both-right, cond-true, con
 use Rattle.grid.specs.Cells.{sees, cells}
 use Rattle.grid.proofs.Lists.{mem-select, select-mem, range-mem, each-same}
 use Rattle.steps.specs.Boards.{at, isOpen}
-use Rattle.steps.specs.Chains.{onPath, links, weakLinks, strongLinks}
-use Rattle.steps.specs.Loops.{each, for, select, any, range}
+use Rattle.steps.specs.Chains.{onPath, links}
+use Rattle.steps.specs.Loops.{each, for, select, any}
 use Rattle.steps.specs.Ported.{holds}
 use Rattle.steps.specs.Published.{Candidate}
 use Rattle.steps.specs.Steps.{loseAt, loseAll}
@@ -28,7 +28,6 @@ use Rattle.steps.proofs.Losses.{Lost, lost-digits}
 use Rattle.steps.proofs.Spots.{holder-holds, holds-holder}
 use Rattle.steps.proofs.Steps.{all-length}
 use Rattle.grid.proofs.Units.{member-below}
-use Rattle.cells.specs.code.Places.{loseIn}
 use Rattle.chains.specs.code.Lists.{listed}
 use Rattle.chains.specs.code.XLinks.{pairSums, isLinked, walkEnds, marked, noEnds, endSees, loseCaught, loseSeen, loseFrom}
 use Rattle.chains.proofs.XWalks.{hs, sums, in-hs, hs-in, in-linked, unlinked, unlinked-ends, ends-are}
@@ -50,7 +49,7 @@ in-mark [] l z h w = ⊎-elim (λ k. absurd (List·Memᴰ·not-nil k)) (λ t. t)
 in-mark (c ∷ cs) l z h w = in-mark cs (set l c true) z (omega (arith, length-set l c true)) (⊎-elim (λ k. ⊎-elim (λ q. inr (here q)) (λ r. inl r) (List·Memᴰ·cases-cons k)) (λ t. inr (go (ℕ-discrete z c) t)) w)
   where
     here : z ≡ c → getD (set l c true) z false ≡ true
-    here q = ap (getD (set l c true) z) refl ∙ subst (λ (k : ℕ). getD (set l k true) z false ≡ true) q (getD-set-same l z true false h)
+    here q = subst (λ (k : ℕ). getD (set l k true) z false ≡ true) q (getD-set-same l z true false h)
 
     go : Dec (z ≡ c) → getD l z false ≡ true → getD (set l c true) z false ≡ true
     go (yes q) t = here q

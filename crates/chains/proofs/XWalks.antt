@@ -1,19 +1,18 @@
 -- The walk over the linked cells and the units' sums finds the ends of the X-chain search. Assumes nothing.
 use mathlib.Core.Path.{_≡_, refl, sym, ap, ap₂, _∙_, subst}
-use mathlib.Core.Logic.{_≢_, _⊎_, inl, inr, ⊎-elim}
-use mathlib.Core.Bool.{Bool, true, false, cond, not, _&&_, _||_, true≢false}
+use mathlib.Core.Logic.{_⊎_, ⊎-elim}
+use mathlib.Core.Bool.{Bool, true, false, cond, _||_}
 use mathlib.Core.List.{List, [], _∷_, _++_, map, append-nil, append-assoc, List·Memᴰ, List·Memᴰ·head, List·Memᴰ·tail, List·Memᴰ·not-nil, List·Memᴰ·cases-cons, List·Memᴰ·eq-of-singleton}
 use Prim.Native.Nat.{ℕ, zero, suc, _+_, _-_, _≤_, _<_}
 use native.Mathlib.Omega.{arith}
-use borrow.Author.Tests.{lt-ltb, le-ltb, le-leb, lt-leb, ltb-true, eq-eqb, ne-eqb}
+use borrow.Author.Tests.{lt-ltb, le-leb, lt-leb, ltb-true, eq-eqb, ne-eqb}
 use lib.Dec.{eqb, ltb, leb}
 use lib.ListN.{length}
-use Rattle.candidates.proofs.Tests.{cond-true, cond-false, either, neither}
-use Rattle.grid.specs.Cells.{row, col, box, sees, cells}
+use Rattle.candidates.proofs.Tests.{cond-true, cond-false, neither}
+use Rattle.grid.specs.Cells.{sees, cells}
 use Rattle.grid.specs.Units.{inUnit}
 use Rattle.grid.proofs.Cells.{row-below, col-below, box-below, row-in, col-in, box-in}
 use Rattle.grid.proofs.Lists.{at-upTo, mem-select, select-mem, range-mem, mem-range}
-use Rattle.grid.proofs.Units.{member-below}
 use Rattle.steps.specs.Boards.{at}
 use Rattle.steps.specs.Chains.{onPath, twoOf, weakLinks, strongLinks}
 use Rattle.steps.specs.Loops.{for, select, range, upTo}
@@ -24,7 +23,7 @@ use Rattle.steps.proofs.Loops.{for-in, for-same, in-upTo, upTo-in}
 use Rattle.steps.proofs.Spots.{holder-holds, holds-holder}
 use Rattle.chains.specs.code.Lists.{listed}
 use Rattle.chains.specs.code.Links.{others, weakIn, strongIn}
-use Rattle.chains.specs.code.XLinks.{pairSum, pairSums, ownUnit, otherIn, otherOf, isLinked, linkAt, endHere, ifCell, walkEnds}
+use Rattle.chains.specs.code.XLinks.{pairSum, pairSums, ownUnit, otherIn, otherOf, isLinked, endHere, ifCell, walkEnds}
 use Rattle.chains.proofs.Holders.{open-holders, weak-is, strong-is}
 
 -- ---- rising lists

@@ -1,5 +1,5 @@
 -- `chains::x_chains::lose_if_caught` meets its contract. Assumes nothing.
-use mathlib.Core.Path.{_≡_, sym, _∙_}
+use mathlib.Core.Path.{sym, _∙_}
 use mathlib.Core.Bool.{_&&_}
 use borrow.Author.Needs.{needs}
 use Rattle.candidates.proofs.Tests.{cond-true, cond-false}

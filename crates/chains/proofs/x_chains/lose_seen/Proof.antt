@@ -1,9 +1,8 @@
 -- `chains::x_chains::lose_seen` meets its contract. The invariant: the holders that are left still lose what is missing. Assumes nothing.
-use mathlib.Core.Path.{_≡_, refl, sym, ap, _∙_}
+use mathlib.Core.Path.{_≡_, ap}
 use mathlib.Core.List.{List}
 use Prim.Native.Nat.{ℕ, _-_, _≤_}
 use native.Mathlib.Omega.{arith}
-use borrow.Author.Needs.{needs}
 use Rattle.steps.specs.Loops.{each}
 use Rattle.chains.specs.code.Lists.{listed}
 use Rattle.chains.specs.code.XLinks.{loseCaught, loseSeen}

@@ -1,5 +1,5 @@
 -- `chains::x_chains::x_chain_digit` meets its contract. The invariant: the starts that are left still lose what is missing. Assumes nothing.
-use mathlib.Core.Path.{_≡_, sym, ap, _∙_}
+use mathlib.Core.Path.{_≡_, ap, _∙_}
 use mathlib.Core.List.{List}
 use Prim.Native.Nat.{ℕ, _-_, _≤_, _<_}
 use native.Mathlib.Omega.{arith}
