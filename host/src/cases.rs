@@ -323,7 +323,7 @@ pub fn apart(one: &Masks, two: &Masks) -> String {
     cells.map(|cell| format!("cell {cell} has {} and {}; ", one[cell], two[cell])).collect()
 }
 
-fn boards_apart(one: &Board, two: &Board) -> String {
+pub fn boards_apart(one: &Board, two: &Board) -> String {
     let entries = (0..81).filter(|&cell| one.entries[cell] != two.entries[cell]);
     let entries: String = entries.map(|cell| format!("entry {cell} is {} and {}; ", one.entries[cell], two.entries[cell])).collect();
     entries + &apart(&one.masks, &two.masks)

@@ -40,7 +40,7 @@ impl Board {
 }
 
 /// The number of the signatures below, which is raised with each change of one; `abi` says what the archive has.
-pub const ABI: u32 = 2;
+pub const ABI: u32 = 3;
 
 extern "C" {
     fn sudoku_abi() -> u32;
@@ -60,7 +60,8 @@ extern "C" {
     fn sudoku_read_sheet(sheet: *const u8, length: usize, clues: *mut Clues, answer: *mut Answer);
     fn sudoku_write_sheet(clues: *const Clues, sheet: *mut u8, length: usize, answer: *mut Answer);
     fn sudoku_write_record(clues: *const Clues, entries: *const Entries, masks: *const Masks, record: *mut u8, length: usize, answer: *mut Answer);
-    fn sudoku_read_record(record: *const u8, length: usize, clues: *mut Clues, masks: *mut Masks, answer: *mut Answer);
+    fn sudoku_read_record(record: *const u8, length: usize, clues: *mut Clues, entries: *mut Entries, masks: *mut Masks, answer: *mut Answer);
+    fn sudoku_move_record(back: bool, record: *const u8, length: usize, moved: *mut u8, lent: usize, answer: *mut Answer);
     fn sudoku_trial_round(start: u32, percentage: u32, solution: *const Clues, clues: *mut Clues, answer: *mut Answer);
     fn sudoku_card(input: *const u8, length: usize, card: *mut CardBytes, answer: *mut Answer);
 }
@@ -243,14 +244,19 @@ pub fn write_sheet(clues: &Clues, sheet: &mut [u8]) -> Result<i64, Stop> {
     Ok(answered(|answer| unsafe { sudoku_write_sheet(clues, sheet.as_mut_ptr(), sheet.len(), answer) })?.0)
 }
 
-/// The record of a board in the first lent bytes, and how many were written; its entries have no place in it.
+/// The record of a board in the first lent bytes, and how many were written.
 pub fn write_record(Board { clues, entries, masks }: &Board, record: &mut [u8]) -> Result<i64, Stop> {
     Ok(answered(|answer| unsafe { sudoku_write_record(clues, entries, masks, record.as_mut_ptr(), record.len(), answer) })?.0)
 }
 
-/// The clues and masks of a record's board, which has no entries, and how many clues they are.
-pub fn read_record(record: &[u8], clues: &mut Clues, masks: &mut Masks) -> Result<i64, Stop> {
-    Ok(answered(|answer| unsafe { sudoku_read_record(record.as_ptr(), record.len(), clues, masks, answer) })?.0)
+/// The board of a record, and how many clues it has.
+pub fn read_record(record: &[u8], Board { clues, entries, masks }: &mut Board) -> Result<i64, Stop> {
+    Ok(answered(|answer| unsafe { sudoku_read_record(record.as_ptr(), record.len(), clues, entries, masks, answer) })?.0)
+}
+
+/// An old record in the new form in the first lent bytes, or a new one back in the old form, and how many were written.
+pub fn move_record(back: bool, record: &[u8], moved: &mut [u8]) -> Result<i64, Stop> {
+    Ok(answered(|answer| unsafe { sudoku_move_record(back, record.as_ptr(), record.len(), moved.as_mut_ptr(), moved.len(), answer) })?.0)
 }
 
 /// The clues of a trial round, and how many they are.

@@ -1,18 +1,22 @@
 //! Records: boards to be written, bytes to be read, and what is asked of both.
 
-use crate::cases::{apart, damaged_case, kept, list, with_entries, Case, EVERYTHING};
+use crate::cases::{boards_apart, damaged_case, kept, list, with_entries, Case, EVERYTHING};
 use crate::random::Random;
+use crate::records::{self, Form};
 use crate::shrink::{changed, Smaller};
-use crate::sides::{Call, Engine, Records, Side, BEHIND, LENT, LENT_BYTE, STEPS};
-use crate::{counted, grids, plain, records, Board, Masks, NO_ENTRIES};
+use crate::sides::{Call, Engine, Records, Side, BEHIND, LENT_BOARD, LENT_BYTE, STEPS};
+use crate::{counted, grids, plain, Board, Masks, Stop, NO_ENTRIES};
 
-/// Bytes for the reader.
+/// Bytes for the reader and the moves, and the form that they were made in.
 #[derive(Clone)]
-pub struct Record(pub Vec<u8>);
+pub struct Record {
+    pub form: Form,
+    pub bytes: Vec<u8>,
+}
 
 impl std::fmt::Display for Record {
     fn fmt(&self, out: &mut std::fmt::Formatter) -> std::fmt::Result {
-        writeln!(out, "record{}", hexadecimal(&self.0))
+        writeln!(out, "record in the {:?} form{}", self.form, hexadecimal(&self.bytes))
     }
 }
 
@@ -47,14 +51,24 @@ fn left_after(fresh: &Board, calls: &[Call]) -> Masks {
 pub fn record(case: &Case) -> Record {
     let board = case.board();
     let refused = plain::check(&board).is_some();
-    Record(records::bytes(&if refused { plain::afresh(&case.clues, &NO_ENTRIES) } else { board }))
+    let board = if refused { plain::afresh(&case.clues, &NO_ENTRIES) } else { board };
+    Record { form: Form::New, bytes: records::bytes(Form::New, &board) }
+}
+
+/// The old record of the case's board without its entries; where that is refused, of the fresh one of its clues.
+pub fn old_record(case: &Case) -> Record {
+    let board = Case { entries: NO_ENTRIES, ..case.clone() }.board();
+    let refused = plain::check(&board).is_some() || board.entries != NO_ENTRIES;
+    let board = if refused { plain::afresh(&case.clues, &NO_ENTRIES) } else { board };
+    Record { form: Form::Old, bytes: records::bytes(Form::Old, &board) }
 }
 
 // ---- damage
 
-/// A section as far as the bytes go: where its count stands, and where its entries begin and end.
+/// A section as far as the bytes go: where its count stands, in how many bytes, and where its entries begin and end.
 struct Section {
     count: usize,
+    width: usize,
     first: usize,
     end: usize,
 }
@@ -64,42 +78,53 @@ impl Section {
         (self.first..self.end.saturating_sub(1)).step_by(2)
     }
 
-    /// The count with so many more, in one byte or in two.
+    /// The count with so many more.
     fn count_more(&self, bytes: &mut [u8], more: u16) {
-        if self.count == 0 {
-            bytes[0] = bytes[0].wrapping_add(more as u8);
-            return;
-        }
-        let count = u16::from_le_bytes([bytes[self.count], bytes[self.count + 1]]);
-        bytes[self.count..self.count + 2].copy_from_slice(&count.wrapping_add(more).to_le_bytes());
+        let count = number(&bytes[self.count..self.first]).wrapping_add(more).to_le_bytes();
+        bytes[self.count..self.first].copy_from_slice(&count[..self.width]);
     }
 }
 
 const ONE_LESS: u16 = u16::MAX;
 
-fn sections(bytes: &[u8]) -> Vec<Section> {
-    let Some(&clues) = bytes.first() else { return Vec::new() };
-    let second = 1 + 2 * clues as usize;
-    let mut found = vec![Section { count: 0, first: 1, end: second.min(bytes.len()) }];
-    if second + 2 <= bytes.len() {
-        found.push(Section { count: second, first: second + 2, end: bytes.len() });
+fn number(bytes: &[u8]) -> u16 {
+    bytes.iter().rev().fold(0, |number, &byte| 256 * number + byte as u16)
+}
+
+fn sections(Record { form, bytes }: &Record) -> Vec<Section> {
+    let widths: &[usize] = match form {
+        Form::Old => &[1, 2],
+        Form::New => &[1, 1, 2],
+    };
+    let mut found = Vec::new();
+    let mut count = 0;
+    for (at, &width) in widths.iter().enumerate() {
+        let first = count + width;
+        if first > bytes.len() {
+            break;
+        }
+        let next = first + 2 * number(&bytes[count..first]) as usize;
+        let end = if at + 1 == widths.len() { bytes.len() } else { next.min(bytes.len()) };
+        found.push(Section { count, width, first, end });
+        count = next;
     }
     found
 }
 
 /// A record with one thing changed, or two.
 pub fn damaged(random: &mut Random, record: &Record) -> Record {
-    let mut bytes = record.0.clone();
+    let mut record = record.clone();
     for _ in 0..*random.pick(&[1, 1, 1, 2]) {
+        let bytes = &mut record.bytes;
         match random.below(5) {
             0 => bytes.extend((0..random.within(1, 3)).map(|_| some_byte(random))),
             _ if bytes.is_empty() => {}
             1 => bytes.truncate(random.below(bytes.len())),
-            2 => byte_changed(random, &mut bytes),
-            _ => section_changed(random, &mut bytes),
+            2 => byte_changed(random, bytes),
+            _ => section_changed(random, &mut record),
         }
     }
-    Record(bytes)
+    record
 }
 
 /// The ends of what a record's bytes may be, and others.
@@ -118,8 +143,9 @@ fn byte_changed(random: &mut Random, bytes: &mut [u8]) {
 }
 
 /// An entry less, twice or in another's place with the count adjusted, one more in its place, or the count alone.
-fn section_changed(random: &mut Random, bytes: &mut Vec<u8>) {
-    let sections = sections(bytes);
+fn section_changed(random: &mut Random, record: &mut Record) {
+    let sections = sections(record);
+    let bytes = &mut record.bytes;
     let section = random.pick(&sections);
     let entries: Vec<usize> = section.entries().collect();
     match random.below(5) {
@@ -157,15 +183,16 @@ fn insert(bytes: &mut Vec<u8>, section: &Section, at: usize, entry: [u8; 2]) {
 
 /// Few bytes that no board was written in: any, mostly low ones, or sections of any entries.
 pub fn loose(random: &mut Random) -> Record {
-    let length = random.within(0, 14);
-    Record(match random.below(3) {
+    let length = random.within(0, 16);
+    let bytes = match random.below(3) {
         0 => (0..length).map(|_| random.next() as u8).collect(),
         1 => (0..length).map(|_| *random.pick(&[0, 0, 0, 1, 1, 2, 3, 9, 10, 80, 81, 255])).collect(),
         _ => {
-            let (given, removed) = (entries(random, 3), entries(random, 4));
-            [vec![given.len() as u8], given.concat(), vec![removed.len() as u8, 0], removed.concat()].concat()
+            let (given, entered, removed) = (entries(random, 3), entries(random, 2), entries(random, 4));
+            [vec![given.len() as u8], given.concat(), vec![entered.len() as u8], entered.concat(), vec![removed.len() as u8, 0], removed.concat()].concat()
         }
-    })
+    };
+    Record { form: Form::New, bytes }
 }
 
 /// Mostly rising; now and then a cell or digit out of range.
@@ -182,56 +209,83 @@ fn entries(random: &mut Random, most: usize) -> Vec<[u8; 2]> {
 
 impl Smaller for Record {
     fn smaller(&self) -> impl Iterator<Item = Self> {
-        let sections = sections(&self.0).into_iter().flat_map(move |section| {
+        let sections = sections(self).into_iter().flat_map(move |section| {
             let entries: Vec<usize> = section.entries().collect();
-            entries.into_iter().map(move |at| changed(self, |less| drop_entry(&mut less.0, &section, at)))
+            entries.into_iter().map(move |at| changed(self, |less| drop_entry(&mut less.bytes, &section, at)))
         });
-        let dropped = (0..self.0.len()).map(|at| changed(self, |less| _ = less.0.remove(at)));
-        let lower = |at: usize| [0, self.0[at] / 2, self.0[at].saturating_sub(1)].map(|byte| (at, byte));
-        let lowered = (0..self.0.len()).flat_map(lower).filter(|&(at, byte)| byte < self.0[at]);
-        sections.chain(dropped).chain(lowered.map(|(at, byte)| changed(self, |less| less.0[at] = byte)))
+        let dropped = (0..self.bytes.len()).map(|at| changed(self, |less| _ = less.bytes.remove(at)));
+        let lower = |at: usize| [0, self.bytes[at] / 2, self.bytes[at].saturating_sub(1)].map(|byte| (at, byte));
+        let lowered = (0..self.bytes.len()).flat_map(lower).filter(|&(at, byte)| byte < self.bytes[at]);
+        sections.chain(dropped).chain(lowered.map(|(at, byte)| changed(self, |less| less.bytes[at] = byte)))
     }
 }
 
 // ---- asking
 
+/// What two writers answer and leave in lent bytes and behind them.
+fn puts_differ(length: usize, one: impl Fn(&mut [u8]) -> Result<i64, Stop>, two: impl Fn(&mut [u8]) -> Result<i64, Stop>) -> Option<String> {
+    let (mut ours, mut theirs) = (vec![LENT_BYTE; length + BEHIND], vec![LENT_BYTE; length + BEHIND]);
+    let answers = (one(&mut ours[..length]), two(&mut theirs[..length]));
+    let alike = answers.0 == answers.1 && ours == theirs;
+    (!alike).then(|| format!("{length} bytes lent\n  first  {:?}{}\n  second {:?}{}", answers.0, hexadecimal(&ours), answers.1, hexadecimal(&theirs)))
+}
+
+/// Lent lengths for a record that needs so many bytes: every one up to two above the need, of long records the ends and some between.
+fn lengths(needed: usize) -> Vec<usize> {
+    if needed <= 100 {
+        return (0..=needed + 2).collect();
+    }
+    (0..=4).chain((4..needed - 2).step_by(needed / 5)).chain(needed - 2..=needed + 2).chain([needed + 50]).collect()
+}
+
 /// The record of the case's board in lent bytes, too few, just enough and more: the answer, every lent byte and those behind.
 pub fn written_differs<A: Records, B: Records>(case: &Case) -> Option<String> {
     let board = case.board();
-    let needed = record(case).0.len();
-    [0, 1, needed / 2, needed - 1, needed, needed + 1, needed + 50].into_iter().find_map(|length| {
-        let (mut ours, mut theirs) = (vec![LENT_BYTE; length + BEHIND], vec![LENT_BYTE; length + BEHIND]);
-        let answers = (A::write(&board, &mut ours[..length]), B::write(&board, &mut theirs[..length]));
-        let alike = answers.0 == answers.1 && ours == theirs;
-        let (one, two) = (|| hexadecimal(&ours), || hexadecimal(&theirs));
-        (!alike).then(|| format!("{length} bytes lent\n  first  {:?}{}\n  second {:?}{}", answers.0, one(), answers.1, two()))
-    })
+    let needed = record(case).bytes.len();
+    lengths(needed).into_iter().find_map(|length| puts_differ(length, |lent| A::write(&board, lent), |lent| B::write(&board, lent)))
 }
 
-/// Reading what was written gives the board without its entries: its clues, and its masks as far as the clues' own fresh ones go.
+/// Reading what was written gives the board back.
 pub fn returned_differs<S: Records>(case: &Case) -> Option<String> {
     let board = case.board();
-    let mut bytes = record(case).0;
-    S::write(&board, &mut bytes).ok()?;
-    let fresh = plain::fresh(&board.clues);
-    let expected = (board.clues, std::array::from_fn(|cell| board.masks[cell] & fresh[cell]));
-    let mut read = LENT;
-    let answer = S::read(&bytes, &mut read.0, &mut read.1);
-    (answer != Ok(counted(&board.clues)) || read != expected).then(|| format!("{}read back as {answer:?}: {}", Record(bytes), apart(&read.1, &expected.1)))
+    let mut record = record(case);
+    S::write(&board, &mut record.bytes).ok()?;
+    let mut read = LENT_BOARD;
+    let answer = S::read(&record.bytes, &mut read);
+    (answer != Ok(counted(&board.clues)) || read != board).then(|| format!("{record}read back as {answer:?}: {}", boards_apart(&read, &board)))
 }
 
 /// What both sides read; and the first side's writing of what was read gives the bytes.
 pub fn read_differs<A: Records, B: Records>(record: &Record) -> Option<String> {
-    let (mut ours, mut theirs) = (LENT, LENT);
-    let answers = (A::read(&record.0, &mut ours.0, &mut ours.1), B::read(&record.0, &mut theirs.0, &mut theirs.1));
+    let (mut ours, mut theirs) = (LENT_BOARD, LENT_BOARD);
+    let answers = (A::read(&record.bytes, &mut ours), B::read(&record.bytes, &mut theirs));
     if answers.0 != answers.1 {
         return Some(format!("\n  first  {:?}\n  second {:?}", answers.0, answers.1));
     }
     if ours != theirs {
-        return Some(format!("clues {:?} and {:?}; {}", ours.0, theirs.0, apart(&ours.1, &theirs.1)));
+        return Some(format!("clues {:?} and {:?}; {}", ours.clues, theirs.clues, boards_apart(&ours, &theirs)));
     }
     answers.0.ok()?;
-    let mut again = vec![LENT_BYTE; record.0.len()];
-    let answer = A::write(&Board::without_entries(&ours.0, &ours.1), &mut again);
-    (answer != Ok(record.0.len() as i64) || again != record.0).then(|| format!("written again {answer:?}{}", hexadecimal(&again)))
+    let mut again = vec![LENT_BYTE; record.bytes.len()];
+    let answer = A::write(&ours, &mut again);
+    (answer != Ok(record.bytes.len() as i64) || again != record.bytes).then(|| format!("written again {answer:?}{}", hexadecimal(&again)))
+}
+
+/// The bytes moved to either form by both sides, into lent bytes too few, just enough and more; and what the first side moved is moved
+/// back to the same bytes.
+pub fn moves_differ<A: Records, B: Records>(record: &Record) -> Option<String> {
+    [false, true].into_iter().find_map(|back| move_differs::<A, B>(back, &record.bytes).map(|shows| format!("moved {}: {shows}", if back { "back" } else { "onward" })))
+}
+
+fn move_differs<A: Records, B: Records>(back: bool, bytes: &[u8]) -> Option<String> {
+    let mut moved = vec![LENT_BYTE; bytes.len() + 1];
+    let needed = B::moved(back, bytes, &mut moved).map_or(bytes.len().min(8), |length| length as usize);
+    let differ = |length| puts_differ(length, |lent| A::moved(back, bytes, lent), |lent| B::moved(back, bytes, lent));
+    if let Some(shows) = lengths(needed).into_iter().find_map(differ) {
+        return Some(shows);
+    }
+    let length = A::moved(back, bytes, &mut moved).ok()? as usize;
+    let mut again = vec![LENT_BYTE; bytes.len()];
+    let answer = A::moved(!back, &moved[..length], &mut again);
+    (answer != Ok(bytes.len() as i64) || again != bytes).then(|| format!("and again {answer:?}{}", hexadecimal(&again)))
 }

@@ -2,7 +2,8 @@
 
 use crate::oracle::{self, SudokuSolver};
 use crate::plain::{self, Outcome};
-use crate::{records, Board, Clues, Masks, Stop};
+use crate::records::{self, Form};
+use crate::{Board, Clues, Masks, Stop};
 
 /// update_candidates, naked pairs, box-line, X-wing, both singles, apply_advanced_techniques; the chain pass.
 pub const PORTED: [u8; 8] = [0, 1, 2, 3, 4, 5, 6, CHAIN];
@@ -68,10 +69,14 @@ pub struct Asked {
 /// What lent arrays hold before.
 pub const LENT: (Clues, Masks) = ([7; 81], [7; 81]);
 
-/// The record writer and reader: the bytes written, and the number of clues read.
+/// What a lent board holds before.
+pub const LENT_BOARD: Board = Board { clues: LENT.0, entries: LENT.0, masks: LENT.1 };
+
+/// The record writer, the reader and the moves, from the old form to the new one or back: the bytes written, or the number of clues read.
 pub trait Records {
     fn write(board: &Board, lent: &mut [u8]) -> Result<i64, Stop>;
-    fn read(record: &[u8], clues: &mut Clues, masks: &mut Masks) -> Result<i64, Stop>;
+    fn read(record: &[u8], board: &mut Board) -> Result<i64, Stop>;
+    fn moved(back: bool, record: &[u8], lent: &mut [u8]) -> Result<i64, Stop>;
 }
 
 // ---- the Rust original
@@ -174,9 +179,13 @@ impl Records for Plain {
         Ok(records::write(board, lent)? as i64)
     }
 
-    fn read(record: &[u8], clues: &mut Clues, masks: &mut Masks) -> Result<i64, Stop> {
-        (*clues, *masks) = records::read(record)?;
-        Ok(clues.iter().filter(|&&clue| clue != 0).count() as i64)
+    fn read(record: &[u8], board: &mut Board) -> Result<i64, Stop> {
+        *board = records::read(Form::New, record)?;
+        Ok(board.clues.iter().filter(|&&clue| clue != 0).count() as i64)
+    }
+
+    fn moved(back: bool, record: &[u8], lent: &mut [u8]) -> Result<i64, Stop> {
+        Ok(records::moved(back, record, lent)? as i64)
     }
 }
 
@@ -248,7 +257,11 @@ impl Records for Engine {
         crate::write_record(board, lent)
     }
 
-    fn read(record: &[u8], clues: &mut Clues, masks: &mut Masks) -> Result<i64, Stop> {
-        crate::read_record(record, clues, masks)
+    fn read(record: &[u8], board: &mut Board) -> Result<i64, Stop> {
+        crate::read_record(record, board)
+    }
+
+    fn moved(back: bool, record: &[u8], lent: &mut [u8]) -> Result<i64, Stop> {
+        crate::move_record(back, record, lent)
     }
 }

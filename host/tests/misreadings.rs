@@ -3,7 +3,8 @@
 use sudoku_host::cases::{accessors_differ, damaged_case, differ, ported_case, ported_with_entries, run_case, run_differs, Case, Runner};
 use sudoku_host::plain::{self, bit, block, col, row, see, unit, Outcome};
 use sudoku_host::random::Random;
-use sudoku_host::record_cases::{board_case, damaged, read_differs, record, written_differs, Record};
+use sudoku_host::record_cases::{board_case, damaged, moves_differ, old_record, read_differs, record, written_differs, Record};
+use sudoku_host::records::{bytes, read, Form};
 use sudoku_host::sheet_cases::{sheet, sheet_differs};
 use sudoku_host::shrink::shrunk;
 use sudoku_host::sides::{Accessors, Asked, Call, Engine, Original, Plain, Records, Side, CHAIN};
@@ -345,88 +346,155 @@ struct MisreadRecord<const WHICH: usize>;
 const HIGH_FIRST: usize = 0;
 const FRESH_FIRST: usize = 1;
 const HALF_ENTRIES: usize = 2;
-const FROM_JOINT_MASKS: usize = 3;
+const FROM_PRINTED_CLUES: usize = 3;
+const NINE_ON_A_CLUE: usize = 4;
+const SIX_BEFORE_FOURTEEN: usize = 5;
+const FOURTEEN_AT_0: usize = 6;
+const REMOVALS_DROPPED: usize = 7;
 
 impl<const WHICH: usize> Records for MisreadRecord<WHICH> {
     fn write(board: &Board, lent: &mut [u8]) -> Result<i64, Stop> {
-        if WHICH == FROM_JOINT_MASKS && plain::check(board).is_none() {
-            // what the fresh masks of clues and entries lack counts as kept
-            let (own, joint) = (plain::fresh(&board.clues), plain::afresh(&board.clues, &board.entries).masks);
-            let masks = std::array::from_fn(|cell| (board.masks[cell] | !joint[cell]) & own[cell]);
-            return Plain::write(&Board::without_entries(&board.clues, &masks), lent);
+        if WHICH == FROM_PRINTED_CLUES && plain::check(board).is_none() {
+            // the removals of the same masks on a board without the entries
+            let bare = bytes(Form::Old, &Board { entries: NO_ENTRIES, ..*board });
+            let (old, new) = (bare.len() - end_of_clues(&bare), bytes(Form::New, board));
+            let record = [&new[..end_of_entries(&new)], &bare[bare.len() - old..]].concat();
+            lent.get_mut(..record.len()).map(|lent| lent.copy_from_slice(&record));
+            return if lent.len() < record.len() { Err(Stop { number: 6, detail: lent.len() as i64 }) } else { Ok(record.len() as i64) };
         }
         let written = Plain::write(board, lent)?;
         if WHICH == HIGH_FIRST {
-            let count = removed_count(lent);
+            let count = end_of_entries(lent);
             lent[count..count + 2].reverse();
         }
         Ok(written)
     }
 
-    fn read(record: &[u8], clues: &mut Clues, masks: &mut Masks) -> Result<i64, Stop> {
-        let answer = Plain::read(record, clues, masks);
+    fn read(record: &[u8], board: &mut Board) -> Result<i64, Stop> {
+        let answer = Plain::read(record, board);
         match answer {
             Err(Stop { number: 8, detail }) if WHICH == FRESH_FIRST && !removes_fresh(record, detail as usize) => Err(Stop { number: 9, detail }),
             Err(Stop { number: 7, detail }) if WHICH == HALF_ENTRIES && half_entry(record, detail as usize) => Err(Stop { number: 8, detail: detail - 1 }),
+            Err(Stop { number: 8, detail }) if WHICH == NINE_ON_A_CLUE && entered_on_a_clue(record, detail as usize) => Err(Stop { number: 9, detail }),
+            _ => answer,
+        }
+    }
+
+    fn moved(back: bool, record: &[u8], lent: &mut [u8]) -> Result<i64, Stop> {
+        let answer = Plain::moved(back, record, lent);
+        match answer {
+            Err(Stop { number: 14, .. }) if WHICH == SIX_BEFORE_FOURTEEN && lent.is_empty() => Err(Stop { number: 6, detail: 0 }),
+            Err(Stop { number: 14, .. }) if WHICH == FOURTEEN_AT_0 => Err(Stop { number: 14, detail: 0 }),
+            Ok(_) if WHICH == REMOVALS_DROPPED => {
+                let count = if back { end_of_clues(lent) } else { end_of_entries(lent) };
+                lent[count..count + 2].fill(0);
+                Ok(count as i64 + 2)
+            }
             _ => answer,
         }
     }
 }
 
-fn removed_count(record: &[u8]) -> usize {
+fn end_of_clues(record: &[u8]) -> usize {
     1 + 2 * record[0] as usize
 }
 
-/// Whether the entry is a clue's, or removes what the fresh mask has.
+fn end_of_entries(record: &[u8]) -> usize {
+    let count = end_of_clues(record);
+    count + 1 + 2 * record[count] as usize
+}
+
+/// Whether the entry is not a removal, or removes what the fresh mask has.
 fn removes_fresh(record: &[u8], at: usize) -> bool {
     let (cell, digit) = (record[at] as usize, record[at + 1] as i32);
-    if at < removed_count(record) || cell > 80 || !(1..=9).contains(&digit) {
+    if at < end_of_clues(record) || at < end_of_entries(record) || cell > 80 || !(1..=9).contains(&digit) {
         return true;
     }
-    let (mut clues, mut masks) = ([0; 81], [0; 81]);
-    Plain::read(&[&record[..removed_count(record)], &[0, 0]].concat(), &mut clues, &mut masks).unwrap();
-    clues[cell] == 0 && masks[cell] & bit(digit) != 0
+    let board = read(Form::New, &[&record[..end_of_entries(record)], &[0, 0]].concat()).unwrap();
+    board.clues[cell] == 0 && board.entries[cell] == 0 && board.masks[cell] & bit(digit) != 0
 }
 
-/// Whether the record ends after a cell: entries begin at odd offsets, and so does the second count.
+/// Whether the record ends after a cell: clues begin at odd offsets, entries at even ones and removals again at even ones.
 fn half_entry(record: &[u8], end: usize) -> bool {
-    end == record.len() && end > 0 && end % 2 == 0 && end != removed_count(record) + 1
+    if end != record.len() || end == 0 {
+        return false;
+    }
+    let clues = end_of_clues(record);
+    if end <= clues {
+        return end % 2 == 0;
+    }
+    end % 2 == 1 && end != end_of_entries(record) + 1 && end > clues + 1
 }
 
-/// Bytes of a seeded run which the misreading reads otherwise, made small.
-fn found_in_bytes<const WHICH: usize>() -> Record {
-    let fault = |bytes: &Record| read_differs::<Engine, MisreadRecord<WHICH>>(bytes);
+/// Whether the entry is one of the entry section, well formed, on a clue.
+fn entered_on_a_clue(record: &[u8], at: usize) -> bool {
+    let first = end_of_clues(record) + 1;
+    let clues = || read(Form::Old, &[&record[..first - 1], &[0, 0]].concat()).unwrap().clues;
+    at >= first && at < end_of_entries(record) && record[at] < 81 && clues()[record[at] as usize] != 0
+}
+
+/// Bytes of a seeded run which the misreading takes otherwise, made small.
+fn found_in_bytes(some: fn(&Case) -> Record, fault: &dyn Fn(&Record) -> Option<String>) -> Vec<u8> {
     let some_bytes = |at| {
         let random = &mut Random::of_case(7, at);
-        let record = record(&board_case(random));
-        damaged(random, &record)
+        let record = some(&board_case(random));
+        if random.percent(50) { damaged(random, &record) } else { record }
     };
     let bytes = (0..20_000).map(some_bytes).find(|bytes| fault(bytes).is_some());
-    let (smallest, shows) = shrunk(bytes.expect("the misreading is found"), &fault);
+    let (smallest, shows) = shrunk(bytes.expect("the misreading is found"), fault);
     println!("{smallest}{shows}");
-    smallest
+    smallest.bytes
+}
+
+fn misread<const WHICH: usize>() -> Vec<u8> {
+    found_in_bytes(record, &read_differs::<Engine, MisreadRecord<WHICH>>)
+}
+
+fn mismoved<const WHICH: usize>(some: fn(&Case) -> Record) -> Vec<u8> {
+    found_in_bytes(some, &moves_differ::<Engine, MisreadRecord<WHICH>>)
 }
 
 #[test]
 fn record_count_high_byte_first() {
     let smallest = smallest_case(board_case, &written_differs::<Engine, MisreadRecord<HIGH_FIRST>>);
-    assert_eq!(record(&smallest).0[..3], [0, 1, 0]);
+    assert_eq!(record(&smallest).bytes[..4], [0, 0, 1, 0]);
 }
 
 #[test]
-fn record_measured_from_clues_and_entries_together() {
-    let smallest = smallest_case(board_case, &written_differs::<Engine, MisreadRecord<FROM_JOINT_MASKS>>);
+fn record_measured_from_the_printed_clues() {
+    let smallest = smallest_case(board_case, &written_differs::<Engine, MisreadRecord<FROM_PRINTED_CLUES>>);
     assert_eq!((counted(&smallest.clues), counted(&smallest.board().entries)), (0, 1));
 }
 
 #[test]
 fn record_removal_not_fresh_before_not_rising() {
-    assert_eq!(found_in_bytes::<FRESH_FIRST>().0.len(), 9);
+    assert_eq!(misread::<FRESH_FIRST>().len(), 10);
 }
 
 #[test]
 fn record_half_an_entry_told_as_a_wrong_one() {
-    assert_eq!(found_in_bytes::<HALF_ENTRIES>().0, [1, 0]);
+    assert_eq!(misread::<HALF_ENTRIES>(), [1, 0]);
+}
+
+#[test]
+fn record_entry_on_a_clue_told_as_9() {
+    let smallest = misread::<NINE_ON_A_CLUE>();
+    assert_eq!((smallest.len(), smallest[1]), (6, smallest[4]));
+}
+
+#[test]
+fn record_moved_back_with_6_before_14() {
+    assert_eq!(mismoved::<SIX_BEFORE_FOURTEEN>(record), [0, 1, 0, 1, 0, 0]);
+}
+
+#[test]
+fn record_moved_back_with_14_at_offset_0() {
+    assert_eq!(mismoved::<FOURTEEN_AT_0>(record), [0, 1, 0, 1, 0, 0]);
+}
+
+#[test]
+fn record_moved_without_its_removals() {
+    assert_eq!(mismoved::<REMOVALS_DROPPED>(old_record), [0, 1, 0, 0, 1]);
 }
 
 // ---- pasted sheets

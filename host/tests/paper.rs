@@ -5,7 +5,7 @@ use sudoku_host::grids::{completed, of_text, GRID_A};
 use sudoku_host::plain::{self, fresh, Outcome};
 use sudoku_host::random::Random;
 use sudoku_host::sheet_cases::{ruled, Style, BOXED};
-use sudoku_host::sides::{Accessors, Call, Engine, Original, Plain, Records, Side};
+use sudoku_host::sides::{Accessors, Call, Engine, Original, Plain, Records, Side, LENT_BOARD};
 use sudoku_host::{run, Board, Clues, Entries, Masks, Stop, ABI, NO_ENTRIES};
 
 const OPEN: Clues = [0; 81];
@@ -62,7 +62,7 @@ fn p1_the_open_grid() {
     }
     let settled = step(12, &OPEN, &masks).unwrap();
     assert_eq!((settled.sweeps, settled.removed), (1, 0));
-    written(&OPEN, &masks, &[0, 0, 0]);
+    written(&fresh_board(&OPEN), &[0, 0, 0, 0]);
 }
 
 #[test]
@@ -392,7 +392,7 @@ fn lists_run_from_clues_and_entries() {
     assert_eq!(masks, played(&fresh_board(&p10()), &[Call::Enter(80, 1), Call::Step(2), Call::Step(4)]).masks);
     let mut refused = |clues: &Clues, entries: &Entries, number, detail| {
         masks = [7; 81];
-        assert_eq!((run(&[2, 15], clues, entries, &mut masks), masks), (stop(number, detail), [7; 81]));
+        assert_eq!((run(&[2, 255], clues, entries, &mut masks), masks), (stop(number, detail), [7; 81]));
     };
     refused(&p10(), &entries, 20, 1);
     entries[20] = 9;
@@ -482,53 +482,32 @@ fn entries_refused() {
     assert_eq!(played(&board, &[Call::RubOut(40)]), fresh_board(&p10()));
 }
 
-/// "the printed clues and what their own fresh masks have and the board lacks"; read again, a board without entries.
-#[test]
-fn records_of_boards_with_entries() {
-    let entered = played(&fresh_board(&OPEN), &[Call::Enter(0, 1)]);
-    let peers = (1..9).chain([9, 10, 11, 18, 19, 20]).chain((27..81).step_by(9)).flat_map(|cell| [cell, 1]);
-    let removed: Vec<u8> = (2..=9).flat_map(|digit| [0, digit]).chain(peers).collect();
-    recorded(&entered, &[&[0, 28, 0][..], &removed].concat(), &entered.masks);
-    // 5 beside a 5: the clue's own fresh mask has no 5 there, so that the record has it neither way
-    let mut clues = OPEN;
-    clues[0] = 5;
-    let mut board = played(&fresh_board(&clues), &[Call::Enter(1, 5)]);
-    let (fresh, column) = (board, (28..81).step_by(9).flat_map(|cell| [cell, 5]));
-    let removed: Vec<u8> = [1, 2, 3, 4, 6, 7, 8, 9].into_iter().flat_map(|digit| [1, digit]).chain(column).collect();
-    board.masks[1] = 0;
-    recorded(&fresh, &[&[1, 0, 5, 14, 0][..], &removed].concat(), &board.masks);
-}
-
-fn recorded(board: &Board, record: &[u8], masks: &Masks) {
-    for (write, read) in [(Plain::write as fn(&Board, &mut [u8]) -> _, Plain::read as fn(&[u8], &mut Clues, &mut Masks) -> _), (Engine::write, Engine::read)] {
-        let mut lent = vec![7; record.len() + 1];
-        assert_eq!((write(board, &mut lent), &lent[..record.len()]), (Ok(record.len() as i64), record));
-        assert_eq!(write(board, &mut lent[1..record.len()]), stop(6, record.len() as i64 - 1));
-        let mut returned = ([7; 81], [7; 81]);
-        assert_eq!(read(record, &mut returned.0, &mut returned.1), Ok(record[0] as i64));
-        assert_eq!(returned, (board.clues, *masks));
-    }
-}
-
 // ---- records, on both sides
 
-/// The board's record, and the board of the record; one byte too few is stop 6.
-fn written(clues: &Clues, masks: &Masks, record: &[u8]) {
-    written_by::<Plain>(clues, masks, record);
-    written_by::<Engine>(clues, masks, record);
+/// The board's record, and the board of the record; every length below it is stop 6.
+fn written(board: &Board, record: &[u8]) {
+    written_by::<Plain>(board, record);
+    written_by::<Engine>(board, record);
 }
 
-fn written_by<S: Records>(clues: &Clues, masks: &Masks, record: &[u8]) {
-    let mut lent = vec![7; record.len() + 2];
-    let board = Board::without_entries(clues, masks);
-    assert_eq!(S::write(&board, &mut lent), Ok(record.len() as i64));
-    assert_eq!(lent, [record, &[7, 7]].concat());
-    let mut few = vec![7; record.len() - 1];
-    assert_eq!(S::write(&board, &mut few), stop(6, few.len() as i64));
-    assert!(few.iter().all(|&byte| byte == 7));
-    let mut read = ([7; 81], [7; 81]);
-    assert_eq!(S::read(record, &mut read.0, &mut read.1), Ok(record[0] as i64));
-    assert_eq!(read, (*clues, *masks));
+fn written_by<S: Records>(board: &Board, record: &[u8]) {
+    put(record, |lent| S::write(board, lent));
+    let mut read = LENT_BOARD;
+    assert_eq!(S::read(record, &mut read), Ok(record[0] as i64));
+    assert_eq!(read, *board);
+}
+
+/// Bytes in every number of lent ones, up to two above the need.
+fn put(bytes: &[u8], write: impl Fn(&mut [u8]) -> Result<i64, Stop>) {
+    for length in 0..=bytes.len() + 2 {
+        let mut lent = vec![7; length];
+        let answer = write(&mut lent);
+        if length < bytes.len() {
+            assert_eq!((answer, lent), (stop(6, length as i64), vec![7; length]));
+        } else {
+            assert_eq!((answer, lent), (Ok(bytes.len() as i64), [bytes, &vec![7; length - bytes.len()]].concat()));
+        }
+    }
 }
 
 fn refused(record: &[u8], number: i64, detail: i64) {
@@ -537,46 +516,72 @@ fn refused(record: &[u8], number: i64, detail: i64) {
 }
 
 fn refused_by<S: Records>(record: &[u8], number: i64, detail: i64) {
-    let mut board = ([7; 81], [7; 81]);
-    assert_eq!(S::read(record, &mut board.0, &mut board.1), stop(number, detail), "{record:?}");
-    assert_eq!(board, ([7; 81], [7; 81]), "{record:?}");
+    let mut board = LENT_BOARD;
+    assert_eq!(S::read(record, &mut board), stop(number, detail), "{record:?}");
+    assert_eq!(board, LENT_BOARD, "{record:?}");
+    let mut lent = [7; 3];
+    assert_eq!((S::moved(true, record, &mut lent), lent), (stop(number, detail), [7; 3]), "{record:?}");
 }
 
+/// "P1 gives 00 00 00 00."
 #[test]
 fn records_written() {
-    let masks = step(2, &p10(), &fresh(&p10())).unwrap().masks;
+    written(&fresh_board(&OPEN), &[0, 0, 0, 0]);
     let clues = [9, 4, 10, 5, 11, 6, 18, 7, 19, 8, 20, 9];
     let removed: Vec<u8> = (3..9).flat_map(|cell| [cell, 1, cell, 2, cell, 3]).collect();
-    written(&p10(), &masks, &[&[6][..], &clues, &[18, 0], &removed].concat());
+    written(&played(&fresh_board(&p10()), &[Call::Step(2)]), &[&[6][..], &clues, &[0, 18, 0], &removed].concat());
     let removed: Vec<u8> = (0..81).flat_map(|cell| (1..=9).flat_map(move |digit| [cell, digit])).collect();
-    written(&OPEN, &[0; 81], &[&[0, 0xD9, 0x02][..], &removed].concat());
+    written(&Board::without_entries(&OPEN, &[0; 81]), &[&[0, 0, 0xD9, 0x02][..], &removed].concat());
     let (mut clues, mut masks) = (OPEN, [511; 81]);
     (clues[0], clues[1]) = (5, 5);
     (2..9).chain([9, 10, 11, 18, 19, 20]).chain((27..81).step_by(9)).chain((28..81).step_by(9)).for_each(|cell| masks[cell] = 511 - 16);
     (masks[0], masks[1]) = (16, 16);
-    written(&clues, &masks, &[2, 0, 5, 1, 5, 0, 0]);
+    written(&Board::without_entries(&clues, &masks), &[2, 0, 5, 1, 5, 0, 0, 0]);
     masks[80] = 255;
-    written(&clues, &masks, &[2, 0, 5, 1, 5, 1, 0, 80, 9]);
+    written(&Board::without_entries(&clues, &masks), &[2, 0, 5, 1, 5, 0, 1, 0, 80, 9]);
+}
+
+/// "an entry section of the same form, then the removed section measured from the fresh board with its entries"
+#[test]
+fn records_of_boards_with_entries() {
+    let entered = played(&fresh_board(&OPEN), &[Call::Enter(80, 1), Call::Enter(0, 9)]);
+    written(&entered, &[0, 2, 0, 9, 80, 1, 0, 0]);
+    let mut board = entered;
+    board.masks[40] = 511 - 16;
+    written(&board, &[0, 2, 0, 9, 80, 1, 1, 0, 40, 5]);
+    // 5 beside a 5: both are taken, and nothing is removed
+    let mut clues = OPEN;
+    clues[0] = 5;
+    written(&played(&fresh_board(&clues), &[Call::Enter(1, 5)]), &[1, 0, 5, 1, 1, 5, 0, 0]);
+    let all: Vec<u8> = (0..81).flat_map(|cell| [cell, 7]).collect();
+    let every: Vec<Call> = (0..81).map(|cell| Call::Enter(cell, 7)).collect();
+    written(&played(&fresh_board(&OPEN), &every), &[&[0, 81][..], &all, &[0, 0]].concat());
+    // P5's two boards, equal but for the entry
+    let fresh = fresh_board(&p5());
+    let (mut one, mut two) = ([7; 200], [7; 200]);
+    assert_eq!(Engine::write(&fresh, &mut one), Ok(164));
+    assert_eq!(Engine::write(&played(&fresh, &[Call::Enter(0, 1)]), &mut two), Ok(166));
 }
 
 /// The board's 3, then its 9, then the lent bytes' 6.
 #[test]
 fn records_not_written() {
-    let (mut clues, mut masks) = (p10(), fresh(&p10()));
-    let refused = |clues: &Clues, masks: &Masks, lent: usize, number: i64, detail: i64| {
+    let mut board = fresh_board(&p10());
+    let refused = |board: &Board, lent: usize, number: i64, detail: i64| {
         for write in [Plain::write, Engine::write] {
             let mut bytes = vec![7; lent];
-            assert_eq!(write(&Board::without_entries(clues, masks), &mut bytes), stop(number, detail));
+            assert_eq!(write(board, &mut bytes), stop(number, detail));
             assert!(bytes.iter().all(|&byte| byte == 7));
         }
     };
-    refused(&clues, &masks, 14, 6, 14);
-    masks[30] = 512;
-    masks[20] = 0;
-    refused(&clues, &masks, 14, 9, 20);
-    refused(&clues, &masks, 60, 9, 20);
-    clues[80] = 10;
-    refused(&clues, &masks, 14, 3, 80);
+    refused(&board, 15, 6, 15);
+    (board.masks[30], board.masks[20]) = (512, 0);
+    refused(&board, 15, 9, 20);
+    refused(&board, 60, 9, 20);
+    board.entries[20] = 1;
+    refused(&board, 15, 8, 20);
+    board.clues[80] = 10;
+    refused(&board, 15, 3, 80);
 }
 
 #[test]
@@ -587,56 +592,118 @@ fn records_with_bytes_missing_or_left_over() {
     refused(&[255], 7, 1);
     refused(&[0], 7, 1);
     refused(&[0, 0], 7, 2);
+    refused(&[0, 0, 0], 7, 3); // the old form
     refused(&[1, 0, 1], 7, 3);
     refused(&[1, 0, 1, 0], 7, 4);
-    refused(&[0, 1, 0], 7, 3);
-    refused(&[0, 0, 1], 7, 3);
-    refused(&[0, 1, 0, 81], 7, 4);
-    refused(&[0, 2, 0, 4, 4], 7, 5);
-    refused(&[0, 0, 0, 9], 7, 3);
-    refused(&[0, 0, 0, 0, 0, 0], 7, 3);
-    refused(&[1, 0, 1, 0, 0, 5, 5], 7, 5);
-    refused(&[0, 1, 0, 4, 4, 4], 7, 5);
+    refused(&[1, 0, 1, 0, 0], 7, 5);
+    refused(&[0, 1], 7, 2);
+    refused(&[0, 1, 81], 7, 3);
+    refused(&[0, 1, 0, 1, 0], 7, 5);
+    refused(&[0, 255, 0], 7, 3);
+    refused(&[0, 0, 1, 0], 7, 4);
+    refused(&[0, 0, 0, 1], 7, 4);
+    refused(&[0, 0, 1, 0, 81], 7, 5);
+    refused(&[0, 0, 2, 0, 4, 4], 7, 6);
+    refused(&[0, 0, 0, 0, 9], 7, 4);
+    refused(&[0, 0, 0, 0, 0, 0, 0], 7, 4);
+    refused(&[1, 0, 1, 0, 0, 0, 5, 5], 7, 6);
+    refused(&[0, 0, 1, 0, 4, 4, 4], 7, 6);
+    refused(&[0, 1, 4, 4, 0, 0, 9], 7, 6);
 }
 
 #[test]
 fn records_with_a_wrong_entry() {
     for (cell, digit) in [(81, 1), (255, 1), (0, 0), (0, 10), (81, 0)] {
-        refused(&[1, cell, digit, 0, 0], 8, 1);
-        refused(&[0, 1, 0, cell, digit], 8, 3);
+        refused(&[1, cell, digit, 0, 0, 0], 8, 1);
+        refused(&[0, 1, cell, digit, 0, 0], 8, 2);
+        refused(&[0, 0, 1, 0, cell, digit], 8, 4);
     }
-    refused(&[2, 0, 1, 81, 1, 0, 0], 8, 3);
-    refused(&[2, 4, 1, 3, 2, 0, 0], 8, 3);
-    refused(&[2, 3, 1, 3, 2, 0, 0], 8, 3);
-    refused(&[2, 3, 1, 3, 1, 0, 0], 8, 3);
-    refused(&[0, 2, 0, 5, 1, 4, 9], 8, 5);
-    refused(&[0, 2, 0, 4, 5, 4, 3], 8, 5);
-    refused(&[0, 2, 0, 4, 4, 4, 4], 8, 5);
+    refused(&[2, 0, 1, 81, 1, 0, 0, 0], 8, 3);
+    refused(&[2, 4, 1, 3, 2, 0, 0, 0], 8, 3);
+    refused(&[2, 3, 1, 3, 2, 0, 0, 0], 8, 3);
+    refused(&[2, 3, 1, 3, 1, 0, 0, 0], 8, 3);
+    refused(&[0, 2, 4, 1, 3, 2, 0, 0], 8, 4);
+    refused(&[0, 2, 3, 1, 3, 2, 0, 0], 8, 4);
+    refused(&[0, 0, 2, 0, 5, 1, 4, 9], 8, 6);
+    refused(&[0, 0, 2, 0, 4, 5, 4, 3], 8, 6);
+    refused(&[0, 0, 2, 0, 4, 4, 4, 4], 8, 6);
     let all: Vec<u8> = (0..81).flat_map(|cell| [cell, 1]).collect();
-    refused(&[&[82][..], &all, &[80, 2, 0, 0]].concat(), 8, 163);
+    refused(&[&[82][..], &all, &[80, 2, 0, 0, 0]].concat(), 8, 163);
+    refused(&[&[0, 82][..], &all, &[80, 2, 0, 0]].concat(), 8, 164);
 }
 
-/// The clue 1 in cell 0: cells 1, 72 and 20 of its row, column and box cannot lose a 1, and itself loses nothing.
+/// "01's 8 also covers an entry on a clue cell", whatever its digit; a cell that falls is told before.
+#[test]
+fn records_with_an_entry_on_a_clue() {
+    refused(&[1, 3, 1, 1, 3, 1, 0, 0], 8, 4);
+    refused(&[1, 3, 1, 1, 3, 9, 0, 0], 8, 4);
+    refused(&[1, 3, 1, 2, 2, 5, 3, 9, 0, 0], 8, 6);
+    refused(&[2, 3, 1, 80, 1, 1, 80, 2, 0, 0], 8, 6);
+}
+
+/// The clue 1 in cell 0: cells 1, 72 and 20 of its row, column and box cannot lose a 1, and itself loses nothing; and likewise of an entry.
 #[test]
 fn records_with_a_wrong_removal() {
     for (cell, digit) in [(1, 1), (72, 1), (20, 1), (0, 1), (0, 2)] {
-        refused(&[1, 0, 1, 1, 0, cell, digit], 9, 5);
+        refused(&[1, 0, 1, 0, 1, 0, cell, digit], 9, 6);
+        refused(&[0, 1, 0, 1, 1, 0, cell, digit], 9, 6);
     }
-    refused(&[1, 0, 1, 2, 0, 1, 2, 2, 1], 9, 7);
+    refused(&[1, 0, 1, 0, 2, 0, 1, 2, 2, 1], 9, 8);
+    refused(&[0, 1, 0, 1, 2, 0, 1, 2, 2, 1], 9, 8);
 }
 
-/// Front to back: in an entry 7, then 8, then 9; and an entry before the next one.
+/// "checked front to back"
 #[test]
 fn records_with_two_faults() {
-    refused(&[2, 81, 1], 8, 1);
-    refused(&[1, 0, 10, 0], 8, 1);
-    refused(&[1, 0, 1, 2, 0, 9, 2, 1, 1], 8, 7);
-    refused(&[1, 0, 1, 2, 0, 1, 1, 81, 1], 9, 5);
-    refused(&[1, 0, 1, 2, 0, 1, 1], 9, 5);
-    refused(&[1, 0, 1, 1, 0, 1, 1, 1], 9, 5);
+    refused(&[1, 81, 1], 8, 1);
+    refused(&[2, 81, 1, 0, 1], 8, 1);
+    refused(&[1, 0, 1, 1, 0, 2, 9], 8, 4);
+    refused(&[1, 0, 1, 0, 2, 0, 1, 1, 81, 9], 9, 6);
+    refused(&[1, 0, 1, 0, 2, 0, 2, 2, 1, 1], 8, 8);
+    refused(&[1, 0, 1, 0, 1, 0, 1, 1, 7], 9, 6);
 }
 
-/// A round on both sides: the clues, or the stop and what was lent.
+// ---- records moved
+
+fn moved<S: Records>(old: &[u8], new: &[u8]) {
+    put(new, |lent| S::moved(false, old, lent));
+    put(old, |lent| S::moved(true, new, lent));
+}
+
+/// "An old record moves to the new form with an entry count of 0, and back to the same bytes."
+#[test]
+fn records_moved() {
+    let clues = [9, 4, 10, 5, 11, 6, 18, 7, 19, 8, 20, 9];
+    let removed: Vec<u8> = (3..9).flat_map(|cell| [cell, 1, cell, 2, cell, 3]).collect();
+    let every: Vec<u8> = (0..81).flat_map(|cell| (1..=9).flat_map(move |digit| [cell, digit])).collect();
+    for (first, last) in [(vec![0], vec![0, 0]), ([&[6][..], &clues].concat(), [&[18, 0][..], &removed].concat()), (vec![0], [&[0xD9, 0x02][..], &every].concat())] {
+        let (old, new) = ([&first[..], &last].concat(), [&first[..], &[0], &last].concat());
+        moved::<Plain>(&old, &new);
+        moved::<Engine>(&old, &new);
+    }
+}
+
+/// The old form's own stops; then 14 "after the record has been read and before 01's 6".
+#[test]
+fn records_not_moved() {
+    for moved in [Plain::moved, Engine::moved] {
+        let refused = |back: bool, record: &[u8], lent: usize, number: i64, detail: i64| {
+            let mut bytes = vec![7; lent];
+            assert_eq!((moved(back, record, &mut bytes), bytes), (stop(number, detail), vec![7; lent]), "{record:?}");
+        };
+        for lent in [0, 3, 9, 20] {
+            refused(false, &[0, 0], lent, 7, 2);
+            refused(false, &[0, 0, 0, 0], lent, 7, 3); // the new form
+            refused(false, &[1, 81, 1, 0, 0], lent, 8, 1);
+            refused(false, &[1, 0, 1, 1, 0, 0, 2], lent, 9, 5);
+            refused(true, &[0, 1, 80, 1, 0, 0], lent, 14, 1);
+            refused(true, &[2, 0, 5, 1, 5, 1, 80, 1, 0, 0], lent, 14, 5);
+            refused(true, &[0, 1, 80, 1, 0, 0, 0], lent, 7, 6);
+            refused(true, &[0, 1, 80, 1, 1, 0, 80, 2], lent, 9, 6);
+        }
+    }
+}
+
 fn trial_round(start: u32, percentage: u32, solution: &Clues) -> Result<Clues, Stop> {
     let mut clues = [7; 81];
     let ours = sudoku_host::trial_round(start, percentage, solution, &mut clues);

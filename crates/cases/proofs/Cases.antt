@@ -9,6 +9,7 @@ use Rattle.cases.proofs.P11.{p11-holds}
 use Rattle.cases.proofs.Full.{full-holds}
 use Rattle.cases.proofs.Claimed.{claimed-holds}
 use Rattle.cases.proofs.Entered.{entries-hold, equal-holds}
+use Rattle.cases.proofs.Recorded.{records-hold}
 
 pub cases : Cases
 cases =
@@ -28,4 +29,5 @@ cases =
       claiming = claimed-holds;
       entries = entries-hold;
       equal = equal-holds;
+      records = records-hold;
     }

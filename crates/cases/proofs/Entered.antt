@@ -4,7 +4,7 @@ use mathlib.Core.Bool.{false, true≢false}
 use mathlib.Core.List.{List, [], _∷_}
 use lib.Count.{ones}
 use lib.IntN.{ℤ, pos}
-use lib.ListN.{length, set}
+use lib.ListN.{set}
 use Rattle.stops.specs.Answer.{Answer, gives, stop, map, then, passing, valueOr}
 use Rattle.stops.specs.declared.Stop.the-variants.{AlreadyEntered}
 use Rattle.candidates.specs.Masks.{firstPlace, gather}
@@ -24,8 +24,6 @@ use Rattle.steps.proofs.EqualBoards.{equal-boards}
 use Rattle.steps.proofs.Lists.{opened-taken, list-theorem}
 use Rattle.board.specs.Boards.{clueCount, onlyDigits, verdictOf}
 use Rattle.board.specs.declared.Verdict.the-variants.{Dead}
-use Rattle.record.specs.Records.{clueSets, lacking, recordOf}
-use Rattle.record.specs.Sections.{candidates, sectionBytes}
 use Rattle.cases.specs.Cases.{withEntry, onEntry, freshMasks, CaseEntries, CaseEqual}
 use Rattle.cases.proofs.P2to6.{p5-clues}
 use Rattle.cases.specs.Grids.{gridOf, gridA, p1, p5, p10, p11}
@@ -123,12 +121,6 @@ rubbed =
     still-taken : checkOf (left p10-entered (answer boxLineCall p10-entered)) ≡ gives tt
     still-taken = list-theorem .taken p10 (set noEntries 80 (pos 1)) p10-clues good (step boxLineCall ∷ [])
 
--- ---- P1
-
-bytes : length (recordOf (withEntry p1 80 (pos 1))) ≡ 59
-unfolding recordOf openedWith together sectionBytes clueSets lacking candidates p1 gridOf for givensOf fresh taken each cells peers
-bytes = refl
-
 pub entries-hold : CaseEntries
 unfolding entriesAfter openedWith p1 p5 p11 gridA gridOf for checkOf first cells
 entries-hold =
@@ -141,7 +133,6 @@ entries-hold =
       dead = is-dead;
       removed = seventeen;
       rubbed = rubbed;
-      recorded = bytes;
       onClue = λ m. refl;
       ten = λ m. refl;
       row8 = refl;

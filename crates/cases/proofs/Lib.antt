@@ -11,5 +11,6 @@ pub mod P11
 pub mod Full
 pub mod Claimed
 pub mod Entered
+pub mod Recorded
 pub mod Cases
 pub mod Misread

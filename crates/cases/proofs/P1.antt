@@ -19,7 +19,8 @@ use Rattle.steps.specs.Ported.{spots, nakedPairAt, nakedPairs, boxLineAt, boxLi
 use Rattle.steps.specs.Singles.{nakedSingles, hiddenSingles}
 use Rattle.steps.specs.Steps.{stepTaken}
 use Rattle.text.specs.Texts.{parseOf}
-use Rattle.record.specs.Records.{recordOf, clueSets, lacking}
+use Rattle.record.specs.declared.forms.Form.the-variants.{Old}
+use Rattle.record.specs.Records.{bytesIn, digitSets, lacking}
 use Rattle.record.specs.Sections.{sectionBytes, candidates}
 use Rattle.cases.specs.Grids.{gridOf, p1}
 use Rattle.cases.specs.Cases.{Case1}
@@ -106,8 +107,8 @@ none-removed = refl
 
 -- ---- the record
 
-no-bytes : recordOf (opened p1) ≡ 0 ∷ 0 ∷ 0 ∷ []
-unfolding recordOf openedWith together sectionBytes clueSets lacking candidates p1 gridOf for givensOf fresh taken each cells peers
+no-bytes : bytesIn Old (opened p1) ≡ 0 ∷ 0 ∷ 0 ∷ []
+unfolding bytesIn openedWith together sectionBytes digitSets lacking candidates p1 gridOf for givensOf fresh taken each cells peers
 no-bytes = refl
 
 pub p1-holds : Case1

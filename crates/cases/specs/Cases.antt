@@ -3,12 +3,12 @@ use mathlib.Core.Path.{_≡_}
 use mathlib.Core.Logic.{_≢_}
 use mathlib.Core.Bool.{true, false}
 use mathlib.Core.List.{List, [], _∷_, map}
-use Prim.Native.Nat.{ℕ, _+_, _*_, _≤_, _<_}
+use Prim.Native.Nat.{ℕ, _≤_, _<_}
 use lib.IntN.{ℤ, pos, negsuc}
 use lib.ListN.{length, getD, replicate, set}
 use Rattle.stops.specs.Answer.{gives, stop}
 use Rattle.stops.specs.Stops.{rowOf}
-use Rattle.stops.specs.declared.Stop.the-variants.{TextLength, OtherByte, BadClue, BadDigit, NoCell, BadEntry, ClueCell, AlreadyEntered, NotEntered}
+use Rattle.stops.specs.declared.Stop.the-variants.{TextLength, OtherByte, BadClue, BadDigit, NoCell, RecordEntry, NotFresh, BadEntry, ClueCell, AlreadyEntered, NotEntered, RecordEntries}
 use Rattle.candidates.specs.Masks.{has}
 use Rattle.grid.specs.Cells.{cells}
 use Rattle.grid.specs.Fillings.{verified}
@@ -20,7 +20,9 @@ use Rattle.steps.specs.Singles.{Report}
 use Rattle.board.specs.Boards.{clueCount, handed, openOf, verdictOf}
 use Rattle.board.specs.declared.Verdict.the-variants.{Dead}
 use Rattle.text.specs.Texts.{parseOf}
-use Rattle.record.specs.Records.{recordOf}
+use Rattle.record.specs.declared.forms.Form.the-variants.{Old, New}
+use Rattle.record.specs.Moves.{movedOf}
+use Rattle.record.specs.Records.{bytesIn, recordOf, readOf}
 use Rattle.card.specs.Cards.{cardOf, printed}
 use Rattle.cases.specs.Bytes.{ended, p3Text, p10Text, digitText, p2Line, p3Line, p10Card, fullCard, finishedWord, deadWord}
 use Rattle.cases.specs.Grids.{gridA, p1, p4Low, p4High, p5, exchanged, p7, p8, p10, p11, claimed}
@@ -46,7 +48,7 @@ pub record AllIdle (clues : List ℤ) : Type 0 where
   pub chain : Idle chainCall clues
   pub wides : (k : Kind) → Idle (wide k) clues
 
--- "P1 81 dots: masks 511; all ported and wide passes false; settling 1 sweep, 0 removed; record 00 00 00"
+-- "P1 81 dots: masks 511; all ported and wide passes false; settling 1 sweep, 0 removed; record 00 00 00", which is the old form
 pub record Case1 : Type 0 where
   pub read : parseOf (replicate 81 46) ≡ gives p1
   pub masks : freshMasks p1 ≡ replicate 81 511
@@ -56,7 +58,7 @@ pub record Case1 : Type 0 where
   pub advanced : onFresh advancedCall p1 .flag ≡ false
   pub sweeps : onFresh settlingCall p1 .sweeps ≡ 1
   pub removed : onFresh settlingCall p1 .removed ≡ 0
-  pub bytes : recordOf (opened p1) ≡ 0 ∷ 0 ∷ 0 ∷ []
+  pub bytes : bytesIn Old (opened p1) ≡ 0 ∷ 0 ∷ 0 ∷ []
 
 -- "P2 80 bytes: 1, 80." And what `scorecard` prints for such a text, as it is or with a final newline.
 pub record Case2 : Type 0 where
@@ -169,8 +171,6 @@ pub record CaseEntries : Type 0 where
   -- entering, a pass, rubbing out: with 1 in cell 80 of P10 cell 8 lacks it, so that box-line removes 17; then all removals are gone
   pub removed : removedBy (withEntry p10 80 (pos 1) .masks) (onEntry boxLineCall p10 80 (pos 1) .masks) ≡ 17
   pub rubbed : play (entry (enter 80 (pos 1)) ∷ step boxLineCall ∷ entry (rubOut 80) ∷ []) (opened p10) ≡ opened p10
-  -- 1 entered in cell 80 of P1: no clue, and removed are what the fresh masks of no clue at all have and the board lacks, eight digits in cell 80 and 1 in its 20 peers
-  pub recorded : length (recordOf (withEntry p1 80 (pos 1))) ≡ 3 + 2 * 28
   -- stop 8, whatever the masks: an entry on a clue, and one above 9
   pub onClue : (m : List ℕ) → checkOf (handed p11 (set noEntries 1 (pos 5)) m) ≡ stop (BadEntry (pos 1))
   pub ten : (m : List ℕ) → checkOf (handed p1 (set noEntries 80 (pos 10)) m) ≡ stop (BadEntry (pos 80))
@@ -191,6 +191,21 @@ pub record CaseEqual : Type 0 where
   pub told : sameBoard (opened p5) (withEntry p5 0 (pos 1)) ≡ false
   pub differ : opened p5 ≢ withEntry p5 0 (pos 1)
 
+-- Document 02, F-8.
+pub record CaseRecords : Type 0 where
+  -- "P1 gives 00 00 00 00"; with 1 entered in cell 80, one entry and no removal
+  pub bytes : recordOf (opened p1) ≡ 0 ∷ 0 ∷ 0 ∷ 0 ∷ []
+  pub entered : recordOf (withEntry p1 80 (pos 1)) ≡ 0 ∷ 1 ∷ 80 ∷ 1 ∷ 0 ∷ 0 ∷ []
+  -- P1's old record moved, and moved back
+  pub onward : movedOf Old (0 ∷ 0 ∷ 0 ∷ []) ≡ gives (0 ∷ 0 ∷ 0 ∷ 0 ∷ [])
+  pub back : movedOf New (0 ∷ 0 ∷ 0 ∷ 0 ∷ []) ≡ gives (0 ∷ 0 ∷ 0 ∷ [])
+  -- "14, a move back of a record with entries, with the offset of its entry count"
+  pub fourteen : movedOf New (0 ∷ 1 ∷ 80 ∷ 1 ∷ 0 ∷ 0 ∷ []) ≡ stop (RecordEntries (pos 1))
+  pub row14 : rowOf (RecordEntries (pos 1)) ≡ record { number = 14; detail = pos 1 }
+  -- "01's 8 also covers an entry on a clue cell and 01's 9 a removal on an entered one"
+  pub onClue : readOf (1 ∷ 0 ∷ 5 ∷ 1 ∷ 0 ∷ 5 ∷ 0 ∷ 0 ∷ []) ≡ stop (RecordEntry (pos 4))
+  pub onEntry : readOf (0 ∷ 1 ∷ 0 ∷ 5 ∷ 1 ∷ 0 ∷ 0 ∷ 5 ∷ []) ≡ stop (NotFresh (pos 6))
+
 -- The cases as a group.
 pub record Cases : Type 0 where
   pub one : Case1
@@ -208,3 +223,4 @@ pub record Cases : Type 0 where
   pub claiming : CaseClaiming
   pub entries : CaseEntries
   pub equal : CaseEqual
+  pub records : CaseRecords

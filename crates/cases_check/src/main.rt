@@ -13,6 +13,8 @@ use calls::step;
 use printing::number;
 use printing::refusal;
 use printing::word;
+use record::move_back;
+use record::move_record;
 use record::write_record;
 use stops::Check;
 use stops::Stop;
@@ -179,10 +181,9 @@ fn verify(name: &[u8], grid: [i32; 81]) {
     }
 }
 
-// The record in eight lent bytes that were 255, and the first four of them.
-fn record(name: &[u8], board: Board) {
-    let mut bytes = [255u8; 8];
-    match write_record(board, &mut bytes) {
+// What a writer answers, and the first four of its eight bytes.
+fn written(name: &[u8], writing: Writing, bytes: &[u8; 8]) {
+    match writing {
         Writing::Written(length) => line(name, 0, length as u64),
         Writing::Refused(stop) => refused(name, stop),
     }
@@ -190,6 +191,25 @@ fn record(name: &[u8], board: Board) {
     report(bytes[0], bytes[1]);
     report(bytes[2], bytes[3]);
     end();
+}
+
+// The record in eight lent bytes that were 255.
+fn record(name: &[u8], board: Board) {
+    let mut bytes = [255u8; 8];
+    let writing = write_record(board, &mut bytes);
+    written(name, writing, &bytes);
+}
+
+fn moved(name: &[u8], old: &[u8]) {
+    let mut bytes = [255u8; 8];
+    let writing = move_record(old, &mut bytes);
+    written(name, writing, &bytes);
+}
+
+fn moved_back(name: &[u8], new: &[u8]) {
+    let mut bytes = [255u8; 8];
+    let writing = move_back(new, &mut bytes);
+    written(name, writing, &bytes);
 }
 
 fn empty_grid() {
@@ -360,7 +380,10 @@ fn rubbed() {
     };
     mask(b"F-6 mask", clash, 0);
     let one = pencil(b"F-6 enter", enter(fresh(&[b'.'; 81]), 80, 1));
-    record(b"F-6 record", one);
+    record(b"F-8 record", one);
+    moved(b"F-8 moved", &[0; 3]);
+    moved_back(b"F-8 moved back", &[0; 4]);
+    moved_back(b"F-8 moved back", &[0, 1, 80, 1, 0, 0]);
 }
 
 fn main() {

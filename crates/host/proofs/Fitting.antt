@@ -22,8 +22,11 @@ use Rattle.board.specs.Boards.{clueCount, openWithOf}
 use Rattle.board.proofs.Answered.{clues-few}
 use Rattle.text.specs.Texts as T
 use Rattle.text.specs.Texts.{parseOf}
+use Rattle.record.specs.declared.forms.Form.{Form}
+use Rattle.record.specs.declared.forms.Form.the-variants.{New}
+use Rattle.record.specs.Moves.{other, movable, movedOf, moveOf}
 use Rattle.record.specs.Records as R
-use Rattle.record.specs.Records.{recordOf, writeIn}
+use Rattle.record.specs.Records.{bytesIn, recordOf, writeIn}
 use Rattle.record.proofs.Writing.{record-few}
 use Rattle.card.specs.Cards.{cardBytes, cardFor, cardOf, textIn}
 use Rattle.card.proofs.Cards.{read-short}
@@ -62,9 +65,21 @@ unfolding R.writeOf
 record-fits b lent = go (checkOf b) (leb (length (recordOf b)) lent)
   where
     go : (k : Answer (Unit {0})) (t : Bool) → Fitting (map pos (then k (λ _. cond t (gives (length (recordOf b))) (stop (TooFewBytes (pos lent))))))
-    go (gives u) true = place-fits (omega (arith, record-few b))
+    go (gives u) true = place-fits (omega (arith, record-few New b))
     go (gives u) false = tt
     go (stop s) t = tt
+
+pub move-fits : (k : Form) (bs : List ℕ) (lent : ℕ) → Fitting (map pos (moveOf k bs lent))
+unfolding moveOf movedOf
+move-fits k bs lent = go (movable k bs)
+  where
+    whole : (b : Board) (t : Bool) → Fitting (map pos (cond t (gives (length (bytesIn (other k) b))) (stop (TooFewBytes (pos lent)))))
+    whole b true = place-fits (omega (arith, record-few (other k) b))
+    whole b false = tt
+
+    go : (a : Answer Board) → Fitting (map pos (then (map (bytesIn (other k)) a) (λ r. writeIn (length r) lent)))
+    go (gives b) = whole b (leb (length (bytesIn (other k) b)) lent)
+    go (stop s) = tt
 
 pub card-fits : (input : List ℕ) → Fitting (map pos (map (λ card. length (cardBytes card)) (cardOf input)))
 unfolding cardOf

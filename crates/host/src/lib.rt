@@ -7,7 +7,7 @@ ghost use Rattle.board.specs.Boards.{handed};
 ghost use Rattle.host.specs.Boards.{asked, checkCode, keptCheck, openCode, openMasks, readClues, readCode};
 ghost use Rattle.host.specs.Codes.{abiNumber};
 ghost use Rattle.host.specs.Entries.{pencilCode, pencilEntries, pencilMasks};
-ghost use Rattle.host.specs.Records.{recordClues, recordCode, recordMasks, recordReadCode, writtenRecord};
+ghost use Rattle.host.specs.Records.{moveCode, movedRecord, recordClues, recordCode, recordEntries, recordMasks, recordReadCode, writtenRecord};
 ghost use Rattle.host.specs.Rounds.{trialClues, trialCode};
 ghost use Rattle.host.specs.Sets.{setCall, nextCall};
 ghost use Rattle.host.specs.Sheets.{sheetClues, sheetCode, sheetReadCode, writtenSheet};
@@ -18,6 +18,7 @@ use board::Board;
 mod accessors;
 mod arrays;
 mod codes;
+mod moves;
 mod sets;
 mod step_calls;
 
@@ -26,7 +27,7 @@ mod step_calls;
 pub extern "C" fn sudoku_abi() -> u32
     ensures { λ r. ⌜ r ≡ abiNumber ⌝ }
 {
-    2
+    3
 }
 
 // Whether 81 numbers are a correct filling.
@@ -266,23 +267,40 @@ pub extern "C" fn sudoku_write_record(
     *answer = codes::of_writing(writing);
 }
 
-// The clues and the masks of a record.
+// The board of a record.
 #[no_mangle]
 pub extern "C" fn sudoku_read_record(
     bytes: &[u8],
     clues: &mut [i32; 81],
+    entries: &mut [i32; 81],
     masks: &mut [u16; 81],
     answer: &mut [i64; 4],
 )
-    ensures { λ _. ⌜ (now (answer .exit) ≡ recordReadCode (now (bytes .entry))) × (now (clues .exit) ≡ recordClues (now (bytes .entry)) (now (clues .entry))) × (now (masks .exit) ≡ recordMasks (now (bytes .entry)) (now (masks .entry))) ⌝ }
+    ensures { λ _. ⌜ (now (answer .exit) ≡ recordReadCode (now (bytes .entry))) × (now (clues .exit) ≡ recordClues (now (bytes .entry)) (now (clues .entry))) × (now (entries .exit) ≡ recordEntries (now (bytes .entry)) (now (entries .entry))) × (now (masks .exit) ≡ recordMasks (now (bytes .entry)) (now (masks .entry))) ⌝ }
 {
     let read = record::read_record(bytes);
     let reading = read.answer;
     let grid = read.board.clues;
+    let pencilled = read.board.entries;
     let sets = read.board.masks;
     *answer = codes::of_check(reading, arrays::clue_number(&grid), 0);
     arrays::put_clues(reading, &grid, clues);
+    arrays::put_clues(reading, &pencilled, entries);
     arrays::put_masks(reading, &sets, masks);
+}
+
+// An old record in the new form, or a new one back in the old form.
+#[no_mangle]
+pub extern "C" fn sudoku_move_record(
+    back: bool,
+    bytes: &[u8],
+    moved: &mut [u8],
+    answer: &mut [i64; 4],
+)
+    ensures { λ _. ⌜ (now (answer .exit) ≡ moveCode back (now (bytes .entry)) (now (moved .entry))) × (now (moved .exit) ≡ movedRecord back (now (bytes .entry)) (now (moved .entry))) ⌝ }
+{
+    let writing = moves::move_either(back, bytes, moved);
+    *answer = codes::of_writing(writing);
 }
 
 // A trial round of a solution.

@@ -1,6 +1,6 @@
--- A board and its two sections' sets: each determines the other, and the sets are such as a section holds. Assumes nothing.
+-- A board and its sections' sets: each determines the other, and the sets are such as a section holds. Assumes nothing.
 use mathlib.Core.Path.{_≡_, refl, sym, ap, _∙_, subst}
-use mathlib.Core.Bool.{Bool, true, false, cond, not}
+use mathlib.Core.Bool.{Bool, true, false, cond, not, or-true}
 use mathlib.Core.List.{List, map}
 use Prim.Native.Nat.{ℕ, suc, _+_, _-_, _*_, _/_, _%_, _^_, _≤_, _<_, zero-le}
 use native.Mathlib.Decide.{ℕ-discrete, decLt}
@@ -19,14 +19,14 @@ use Rattle.candidates.proofs.Order.{minus-none, minus-sub, sub-le, sub-none}
 use Rattle.candidates.proofs.Tests.{below, by-test, cond-true, cond-false}
 use Rattle.grid.specs.Cells.{cells}
 use Rattle.grid.proofs.Cells.{cells-size, at-cells, past-cells}
-use Rattle.steps.specs.Boards.{at, digitOf, given, givensOf, givenMask, isOpen, fresh, Givens, Admissible}
-use Rattle.steps.specs.Calls.{badClue}
-use Rattle.steps.specs.Calls.{Clues}
-use Rattle.steps.proofs.Check.{given-clue, good-digit}
+use Rattle.steps.specs.Boards.{at, digitOf, noDigit, given, givensOf, givenMask, isOpen, fresh, Givens, Admissible}
+use Rattle.steps.specs.Calls.{Clues, Entries, badClue, badEntry}
+use Rattle.steps.proofs.Check.{given-clue, good-digit, clues-givens}
+use Rattle.steps.proofs.Entries.{entry-alone, entry-fits}
 use Rattle.steps.proofs.Fresh.{fresh-out, fresh-small, givenMask-small}
 use Rattle.steps.proofs.FreshDigits.{held-given}
 use Rattle.record.specs.declared.sections.Section.the-variants as section
-use Rattle.record.specs.Records.{clueSets, lacking, allSets, digitIn, digitsIn, openSets, cluesFrom}
+use Rattle.record.specs.Records.{digitSets, lacking, allSets, digitIn, digitsIn, openSets, cluesFrom}
 use Rattle.record.specs.Sections.{inSets}
 use Rattle.record.proofs.CandidateLists.{in-cell}
 use Rattle.record.proofs.SectionLaws.{Holds}
@@ -62,18 +62,19 @@ unfolding firstPlace
 power-digit d h = eqb→eq (digitIn (2 ^ d)) (suc d) (below 9 (λ d. eqb (digitIn (2 ^ d)) (suc d)) tt d h)
 
 module _ (g : List ℕ) (ok : Givens g) where
-  clue-in : (j : ℕ) → inSets (clueSets g) j ≡ true → (j / 9 < 81) × (given g (j / 9) ≡ suc (j % 9))
-  unfolding clueSets
+  clue-in : (j : ℕ) → inSets (digitSets g) j ≡ true → (j / 9 < 81) × (given g (j / 9) ≡ suc (j % 9))
+  unfolding digitSets
   clue-in j t = let w = in-map (givenMask g) j t in (w .0, held-given g ok (j / 9) (j % 9) .0 (w .1))
 
-  pub clues-hold : Holds section.Clues allSets (clueSets g)
-  unfolding clueSets
-  clues-hold =
+  -- of free sets that have every digit in a given cell
+  pub digits-hold : (free : List ℕ) → ((c : ℕ) → c < 81 → isOpen g c ≡ false → at free c ≡ 511) → Holds section.Digits free (digitSets g)
+  unfolding digitSets
+  digits-hold free all =
       record {
         size = cells-size (givenMask g);
         small = map-small (givenMask g) (givenMask-small g ok);
         fits = λ a b t u h. apart a b (clue-in a t .1) (clue-in b u .1) h (decLt b (9 * (a / 9 + 1)));
-        within = λ j t. ap (λ (x : ℕ). has x (j % 9)) (getD-replicate 81 (j / 9) 511 0 (clue-in j t .0)) ∙ held-all (j % 9) (omega arith);
+        within = λ j t. ap (λ (x : ℕ). has x (j % 9)) (all (j / 9) (clue-in j t .0) (ne-eqb (given g (j / 9)) 0 (λ e. absurd (omega (arith, clue-in j t .1))))) ∙ held-all (j % 9) (omega arith);
       }
     where
       apart : (a b : ℕ) → given g (a / 9) ≡ suc (a % 9) → given g (b / 9) ≡ suc (b % 9) → a < b → Dec (b < 9 * (a / 9 + 1)) → 9 * (a / 9 + 1) ≤ b
@@ -82,8 +83,11 @@ module _ (g : List ℕ) (ok : Givens g) where
           absurd (omega (arith, p, q, ap (given g) c))
       apart a b p q h (no l) = omega arith
 
-  pub digits-again : digitsIn (clueSets g) ≡ g
-  unfolding digitsIn clueSets
+  pub clues-hold : Holds section.Digits allSets (digitSets g)
+  clues-hold = digits-hold allSets (λ c h o. getD-replicate 81 c 511 0 h)
+
+  pub digits-again : digitsIn (digitSets g) ≡ g
+  unfolding digitsIn digitSets
   digits-again = map-ext (λ c. digitIn (at (map (givenMask g) cells) c)) g (ok .size) (λ c h. ap digitIn (at-cells 0 (givenMask g) c h) ∙ one c (isOpen g c) refl)
     where
       one : (c : ℕ) (b : Bool) → isOpen g c ≡ b → digitIn (givenMask g c) ≡ given g c
@@ -114,8 +118,29 @@ clues-again clues ok =
     (λ c h. at-cells (pos 0) (λ c. pos (given (givensOf clues) c)) c h
     ∙ ap pos (given-clue clues c h) ∙ good-digit (getD clues c (pos 0)) (ok .good c h))
 
+-- ---- entries
+
+-- any digit is free where there is no clue
+free-at : (clues : List ℤ) (c : ℕ) → c < 81 → isOpen (givensOf clues) c ≡ true → at (openSets (givensOf clues) allSets) c ≡ 511
+unfolding openSets
+free-at clues c h o =
+    at-cells 0 (λ c. cond (isOpen (givensOf clues) c) (at allSets c) 0) c h ∙ cond-true (isOpen (givensOf clues) c) (at allSets c) 0 o ∙ getD-replicate 81 c 511 0 h
+
+pub entries-hold : (clues entries : List ℤ) → Entries clues entries → Holds section.Digits (openSets (givensOf clues) allSets) (digitSets (givensOf entries))
+entries-hold clues entries en = digits-hold (givensOf entries) (clues-givens entries) (openSets (givensOf clues) allSets) (λ c h o. free-at clues c h (unclued c h o))
+  where
+    unclued : (c : ℕ) → c < 81 → isOpen (givensOf entries) c ≡ false → isOpen (givensOf clues) c ≡ true
+    unclued c h o =
+        ap (λ (d : ℕ). eqb d 0) (given-clue clues c h)
+        ∙ entry-alone (getD clues c (pos 0)) (getD entries c (pos 0)) (en .good c h)
+        (λ z. eqb-false (given (givensOf entries) c) 0 o (given-clue entries c h ∙ ap digitOf z))
+
+-- entries are clues but for the clues beside them
+pub entries-clues : (clues entries : List ℤ) → Entries clues entries → Clues entries
+entries-clues clues entries en = record { size = en .size; good = λ c h. entry-fits (getD clues c (pos 0)) (getD entries c (pos 0)) (en .good c h) }
+
 -- the sets of a clue section that was read
-module _ (free s : List ℕ) (h : Holds section.Clues free s) where
+module _ (free s : List ℕ) (h : Holds section.Digits free s) where
   own : (c : ℕ) → (at s c ≡ 0 → ⊥) → Held (at s c) (lowest (at s c))
   own c n = lowest-in (at s c) (omega arith) (omega (arith, h .small c))
 
@@ -155,9 +180,9 @@ module _ (free s : List ℕ) (h : Holds section.Clues free s) where
       go c (yes l) = rw (at-cells 0 (λ c. digitIn (at s c)) c l) (digit-most c)
       go c (no l) = rw (past-cells 0 (λ c. digitIn (at s c)) c (omega arith)) zero-le
 
-  pub clue-sets-again : clueSets (digitsIn s) ≡ s
-  unfolding clueSets
-  clue-sets-again = map-ext (givenMask (digitsIn s)) s (h .size) (λ c l. mask c (given (digitsIn s) c) (digit-at c l) (ℕ-discrete (at s c) 0))
+  pub digit-sets-again : digitSets (digitsIn s) ≡ s
+  unfolding digitSets
+  digit-sets-again = map-ext (givenMask (digitsIn s)) s (h .size) (λ c l. mask c (given (digitsIn s) c) (digit-at c l) (ℕ-discrete (at s c) 0))
     where
       mask : (c n : ℕ) → n ≡ digitIn (at s c) → Dec (at s c ≡ 0) → cond (eqb n 0) 0 (placeMask (n - 1)) ≡ at s c
       mask c n e (yes q) =
@@ -171,6 +196,40 @@ module _ (free s : List ℕ) (h : Holds section.Clues free s) where
           let o : n - 1 ≡ p = omega arith in
           cond-false (eqb n 0) 0 (placeMask (n - 1)) (ne-eqb n 0 (λ z. absurd (omega arith))) ∙ ap placeMask o ∙ place-single p (omega arith)
           ∙ held-ext (2 ^ p) (at s c) (λ d. (λ t. subst (λ (x : ℕ). Held (at s c) x) (sym (held-power p d .0 t)) u, λ t. held-power p d .1 (alone c d q t)))
+
+-- the sets of an entry section that was read: no entry stands on a clue
+pub entries-good : (clues : List ℤ) (s : List ℕ) → Holds section.Digits (openSets (givensOf clues) allSets) s → Entries clues (cluesFrom (digitsIn s))
+unfolding openSets cells
+entries-good clues s h =
+    let free = openSets (givensOf clues) allSets in
+    record { size = refl; good = λ c l. ap (badEntry (getD clues c (pos 0))) (number c l) ∙ good c l (digitIn (at s c)) (digit-most free s h c) refl (ℕ-discrete (at s c) 0) }
+  where
+    number : (c : ℕ) → c < 81 → getD (cluesFrom (digitsIn s)) c (pos 0) ≡ pos (digitIn (at s c))
+    number c l = at-cells (pos 0) (λ c. pos (given (digitsIn s) c)) c l ∙ ap pos (digit-at (openSets (givensOf clues) allSets) s h c l)
+
+    -- its digit is free, so that the cell has no clue
+    unclued : (c : ℕ) → c < 81 → (at s c ≡ 0 → ⊥) → noDigit (getD clues c (pos 0)) ≡ true
+    unclued c l n = sym (ap (λ (d : ℕ). eqb d 0) (given-clue clues c l)) ∙ go (isOpen (givensOf clues) c) refl
+      where
+        held : Held (at s c) (lowest (at s c))
+        held = own (openSets (givensOf clues) allSets) s h c n
+
+        low : lowest (at s c) < 9
+        low = held-below (at s c) 9 (lowest (at s c)) (h .small c) held
+
+        is-free : Held (cond (isOpen (givensOf clues) c) (at allSets c) 0) (lowest (at s c))
+        is-free =
+            sym (ap (λ (x : ℕ). has x (lowest (at s c))) (at-cells 0 (λ c. cond (isOpen (givensOf clues) c) (at allSets c) 0) c l))
+            ∙ sym (in-cell (map (λ c. cond (isOpen (givensOf clues) c) (at allSets c) 0) cells) c (lowest (at s c)) low)
+            ∙ h .within (9 * c + lowest (at s c)) (in-cell s c (lowest (at s c)) low ∙ held)
+
+        go : (b : Bool) → isOpen (givensOf clues) c ≡ b → isOpen (givensOf clues) c ≡ true
+        go true o = o
+        go false o = absurd (none-held (lowest (at s c)) (ap (λ (x : ℕ). has x (lowest (at s c))) (sym (cond-false (isOpen (givensOf clues) c) (at allSets c) 0 o)) ∙ is-free))
+
+    good : (c : ℕ) → c < 81 → (n : ℕ) → n ≤ 9 → n ≡ digitIn (at s c) → Dec (at s c ≡ 0) → badEntry (getD clues c (pos 0)) (pos n) ≡ false
+    good c l n m e (yes q) = ap (λ (n : ℕ). badEntry (getD clues c (pos 0)) (pos n)) (e ∙ cond-true (eqb (at s c) 0) 0 (lowest (at s c) + 1) (eq-eqb (at s c) 0 q))
+    good c l n m e (no q) = rw (le-leb n 9 m, unclued c l q, or-true (eqb n 0))
 
 -- ---- removals
 

@@ -21,7 +21,7 @@ use Rattle.steps.specs.Boards.{at}
 use Rattle.cells.specs.code.Places.{maskAt}
 use Rattle.cells.proofs.Places.{mask-at}
 use Rattle.record.specs.declared.sections.Section.{Section}
-use Rattle.record.specs.declared.sections.Section.the-variants.{Clues, Removed}
+use Rattle.record.specs.declared.sections.Section.the-variants.{Digits, Removed}
 use Rattle.record.specs.Sections.{width, outside, numberAt, named, wellFormed, entryOf, entryAt}
 
 -- ---- an answer that is given
@@ -82,7 +82,7 @@ cell-mask free {c = c} f = mask-at free c (omega (arith, f .cell))
 -- ---- a count
 
 module _ (bs : List ℕ) (i : ℕ) {k : Section} {b : ℕ} (p : b ≡ getD bs i 0) where
-  pub number-one : k ≡ Clues → b ≡ numberAt (width k) bs i
+  pub number-one : k ≡ Digits → b ≡ numberAt (width k) bs i
   number-one e =
       let z : b ≡ getD bs i 0 + 256 * 0 = omega arith in
       z ∙ ap (λ (k : Section). numberAt (width k) bs i) (sym e)
@@ -93,11 +93,11 @@ module _ (bs : List ℕ) (i : ℕ) {k : Section} {b : ℕ} (p : b ≡ getD bs i 
       z ∙ ap (λ (k : Section). numberAt (width k) bs i) (sym e)
 
 pub width-some : (k : Section) → 1 ≤ width k
-width-some Clues = lit≤ tt
+width-some Digits = lit≤ tt
 width-some Removed = lit≤ tt
 
 pub width-most : (k : Section) → width k ≤ 2
-width-most Clues = lit≤ tt
+width-most Digits = lit≤ tt
 width-most Removed = lit≤ tt
 
 -- ---- an entry at an offset

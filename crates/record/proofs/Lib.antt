@@ -3,6 +3,9 @@ pub mod Writing
 pub mod Entries
 pub mod SectionsRead
 pub mod CandidateLists
+pub mod Places
 pub mod SectionLaws
 pub mod BoardSets
 pub mod Laws
+pub mod Moving
+pub mod MoveLaws

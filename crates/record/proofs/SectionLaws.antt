@@ -19,18 +19,14 @@ use Rattle.candidates.proofs.Tests.{by-test}
 use Rattle.steps.specs.Boards.{at}
 use Rattle.steps.specs.Loops.{each, range, select}
 use Rattle.record.specs.declared.sections.Section.{Section}
-use Rattle.record.specs.declared.sections.Section.the-variants.{Clues, Removed}
-use Rattle.record.specs.Sections.{width, after, inSets, candidates, entryBytes, lowFirst, sectionBytes, numberAt, named, entryAt, with, Entries, withSets, readEntries, noSets, readSection}
+use Rattle.record.specs.declared.sections.Section.the-variants.{Digits, Removed}
+use Rattle.record.specs.Sections.{width, after, inSets, candidates, entryBytes, lowFirst, sectionBytes, numberAt, named, entryAt, with, SectionRead, withSets, readEntries, noSets, readSection}
 use Rattle.record.proofs.CandidateLists.{in-cases, with-small, added-last, at-none, in-none, candidates-none, sets-same}
 use Rattle.record.proofs.Entries.{then-gives, tested-gives, well, width-some, entry-named, Named, named-entry, named-small}
 use Rattle.record.proofs.SectionsRead.{section-read}
-use Rattle.record.proofs.Writing.{candidates-few, number-length, section-length}
+use Rattle.record.proofs.Writing.{candidates-few, entries-append, number-length, section-length}
 
 -- ---- lists of entries
-
-entries-append : (ks js : List ℕ) → entryBytes (ks ++ js) ≡ entryBytes ks ++ entryBytes js
-entries-append [] js = refl
-entries-append (k ∷ ks) js = ap (λ (l : List ℕ). k / 9 ∷ (k % 9 + 1) ∷ l) (entries-append ks js)
 
 -- the next two bytes
 two-bytes : (bs : List ℕ) (i : ℕ) → i + 2 ≤ length bs → drop i bs ≡ getD bs i 0 ∷ getD bs (i + 1) 0 ∷ drop (i + 2) bs
@@ -41,7 +37,7 @@ two-bytes bs i h =
     ∙ ap (λ (j : ℕ). getD bs i 0 ∷ getD bs (i + 1) 0 ∷ drop j bs) n
 
 pub after-above : (k : Section) (e : ℕ) → e < after k e
-after-above Clues e = omega arith
+after-above Digits e = omega arith
 after-above Removed e = omega arith
 
 -- sets that a section can hold: of the free candidates, and of a clue's cell no other
@@ -118,9 +114,9 @@ module _ (k : Section) (free bs : List ℕ) where
             ∙ sym (append-assoc (entryBytes (candidates s)) (entryBytes (e ∷ [])) (drop (i + 2) bs))
             ∙ ap (λ (l : List ℕ). l ++ drop (i + 2) bs) (sym (entries-append (candidates s) (e ∷ [])) ∙ ap entryBytes (sym list))
 
-  read-all : (start count n low i : ℕ) (s : List ℕ) → Reads k free bs start count n low i s → (r : Entries) → readEntries k free bs n low i s ≡ gives r → (l : ℕ) × Reads k free bs start count 0 l (r .next) (r .sets)
+  read-all : (start count n low i : ℕ) (s : List ℕ) → Reads k free bs start count n low i s → (r : SectionRead) → readEntries k free bs n low i s ≡ gives r → (l : ℕ) × Reads k free bs start count 0 l (r .next) (r .sets)
   unfolding readEntries
-  read-all start count zero low i s p r t = subst (λ (x : Entries). (l : ℕ) × Reads k free bs start count 0 l (x .next) (x .sets)) (gives-same t) (low, p)
+  read-all start count zero low i s p r t = subst (λ (x : SectionRead). (l : ℕ) × Reads k free bs start count 0 l (x .next) (x .sets)) (gives-same t) (low, p)
   read-all start count (suc n) low i s p r t =
       let w = then-gives (entryAt k free bs low i) t in
       read-all start count n (after k (w .0)) (i + 2) (with s (w .0)) (reads-on start count n low i s p (w .0) (named-entry k free bs low i (w .0) (w .1))) r (w .2)
@@ -140,7 +136,7 @@ count-bytes (suc w) bs i h l =
     ∙ ap (λ (j : ℕ). (getD bs i 0 + 256 * n) % 256 ∷ (lowFirst w ((getD bs i 0 + 256 * n) / 256) ++ drop j bs)) m
 
 -- a section that was read at offset i, up to its end
-pub section-of : (k : Section) (free bs : List ℕ) (i : ℕ) (r : Entries) → ((j : ℕ) → getD bs j 0 < 256) → readSection k free bs i ≡ gives r
+pub section-of : (k : Section) (free bs : List ℕ) (i : ℕ) (r : SectionRead) → ((j : ℕ) → getD bs j 0 < 256) → readSection k free bs i ≡ gives r
     → Holds k free (r .sets) × (drop i bs ≡ sectionBytes k (r .sets) ++ drop (r .next) bs)
 unfolding readSection sectionBytes
 section-of k free bs i r h t =
@@ -260,12 +256,12 @@ number-back (suc w) bs i n t h q =
     omega (arith, low, number-back w bs (i + 1) (n / 256) t h (sym (drop-drop 1 i bs) ∙ ap (drop 1) q))
 
 -- clues take a cell each
-clues-few : (free : List ℕ) {low : ℕ} {es : List ℕ} → Rises Clues free low es → low % 9 ≡ 0 → low ≤ 729 → low + 9 * length es ≤ 729
+clues-few : (free : List ℕ) {low : ℕ} {es : List ℕ} → Rises Digits free low es → low % 9 ≡ 0 → low ≤ 729 → low + 9 * length es ≤ 729
 clues-few free none h l = omega arith
 clues-few free (next {low} {e} {es} a m f p) h l = omega (arith, clues-few free p (omega arith) (omega arith))
 
-room : (k : Section) (free s : List ℕ) → Holds k free s → Room (width k) (length (candidates s))
-room Clues free s h = omega (arith, clues-few free (rises Clues free s h) refl (omega arith))
+pub room : (k : Section) (free s : List ℕ) → Holds k free s → Room (width k) (length (candidates s))
+room Digits free s h = omega (arith, clues-few free (rises Digits free s h) refl (omega arith))
 room Removed free s h = omega (arith, candidates-few s)
 
 split : (k : Section) (s t : List ℕ) → sectionBytes k s ++ t ≡ lowFirst (width k) (length (candidates s)) ++ (entryBytes (candidates s) ++ t)

@@ -13,14 +13,15 @@ use Rattle.stops.specs.declared.Stop.{Stop}
 use Rattle.stops.specs.declared.Stop.the-variants.{RecordBytes}
 use Rattle.candidates.proofs.Tests.{cond-true, cond-false}
 use Rattle.steps.specs.Boards as S
-use Rattle.steps.specs.Boards.{fresh, noEntries}
+use Rattle.steps.specs.Boards.{givensOf, together, fresh}
 use Rattle.board.specs.Boards.{noBoard}
+use Rattle.record.specs.declared.forms.Form.{Form}
 use Rattle.record.specs.declared.sections.Reading.{Reading}
 use Rattle.record.specs.declared.sections.Reading.the-variants.{Refused}
 use Rattle.record.specs.declared.sections.Section.{Section}
-use Rattle.record.specs.declared.sections.Section.the-variants.{Clues, Removed}
-use Rattle.record.specs.Records.{lacking, allSets, digitsIn, openSets, cluesFrom, boardFrom, readRemoved, readOf}
-use Rattle.record.specs.Sections.{width, after, readingAnswer, numberAt, entryAt, with, Entries, withSets, readEntries, noSets, readSection}
+use Rattle.record.specs.declared.sections.Section.the-variants.{Digits, Removed}
+use Rattle.record.specs.Records.{lacking, allSets, openSets, numbersIn, boardFrom, readEntrySection, readRemoved, readEntered, readIn}
+use Rattle.record.specs.Sections.{width, after, readingAnswer, numberAt, entryAt, with, SectionRead, withSets, readEntries, noSets, readSection}
 
 -- ---- a reading r, and which of its cases it is
 
@@ -28,7 +29,7 @@ module _ {r q : Reading} (is : r ≡ q) where
   pub entry-told : {k : Answer ℕ} → readingAnswer r ≡ k → readingAnswer q ≡ k
   entry-told e = ap readingAnswer (sym is) ∙ e
 
-  pub section-told : (s : List ℕ) {k : Answer Entries} → map (withSets s) (readingAnswer r) ≡ k → map (withSets s) (readingAnswer q) ≡ k
+  pub section-told : (s : List ℕ) {k : Answer SectionRead} → map (withSets s) (readingAnswer r) ≡ k → map (withSets s) (readingAnswer q) ≡ k
   section-told s e = ap (λ (x : Reading). map (withSets s) (readingAnswer x)) (sym is) ∙ e
 
 -- what stands beside a reading that is the stop of a
@@ -66,36 +67,51 @@ module _ (k : Section) (free bs : List ℕ) where
 
 -- ---- the record
 
-module _ (g bs : List ℕ) (i : ℕ) where
-  abbrev after-removed : Entries → Answer S.Board
-  after-removed r = cond (leb (length bs) (r .next)) (gives (boardFrom g (r .sets))) (stop (RecordBytes (pos (r .next))))
+module _ (clues entries : List ℤ) (bs : List ℕ) (i : ℕ) where
+  abbrev joint : List ℕ
+  joint = givensOf (together clues entries)
+
+  abbrev after-removed : SectionRead → Answer S.Board
+  after-removed r = cond (leb (length bs) (r .next)) (gives (boardFrom clues entries (r .sets))) (stop (RecordBytes (pos (r .next))))
 
   -- the removed section, read or refused
-  pub from-removed : {a : Answer Entries} → a ≡ readSection Removed (openSets g (fresh g)) bs i → then a after-removed ≡ readRemoved g bs i
+  pub from-removed : {a : Answer SectionRead} → a ≡ readSection Removed (openSets joint (fresh joint)) bs i → then a after-removed ≡ readRemoved clues entries bs i
   unfolding readRemoved
-  from-removed e = ap (λ (a : Answer Entries). then a after-removed) e
+  from-removed e = ap (λ (a : Answer SectionRead). then a after-removed) e
 
-  module _ {s : List ℕ} {n : ℕ} (e : gives (withSets s n) ≡ readSection Removed (openSets g (fresh g)) bs i) where
-    pub removed-over : n < length bs → stop (RecordBytes (pos n)) ≡ readRemoved g bs i
-    removed-over h = sym (cond-false (leb (length bs) n) (gives (boardFrom g s)) (stop (RecordBytes (pos n))) (lt-leb (length bs) n h)) ∙ from-removed e
+  module _ {s : List ℕ} {n : ℕ} (e : gives (withSets s n) ≡ readSection Removed (openSets joint (fresh joint)) bs i) where
+    pub removed-over : n < length bs → stop (RecordBytes (pos n)) ≡ readRemoved clues entries bs i
+    removed-over h = sym (cond-false (leb (length bs) n) (gives (boardFrom clues entries s)) (stop (RecordBytes (pos n))) (lt-leb (length bs) n h)) ∙ from-removed e
 
-    pub removed-read : length bs ≤ n → gives (boardFrom g s) ≡ readRemoved g bs i
-    removed-read h = sym (cond-true (leb (length bs) n) (gives (boardFrom g s)) (stop (RecordBytes (pos n))) (le-leb (length bs) n h)) ∙ from-removed e
+    pub removed-read : length bs ≤ n → gives (boardFrom clues entries s) ≡ readRemoved clues entries bs i
+    removed-read h = sym (cond-true (leb (length bs) n) (gives (boardFrom clues entries s)) (stop (RecordBytes (pos n))) (le-leb (length bs) n h)) ∙ from-removed e
 
-pub board-from : (g s : List ℕ) {f : List ℕ} → f ≡ fresh g → {c : List ℤ} {m : List ℕ} → c ≡ cluesFrom g → m ≡ lacking f s → _≡_ {A = S.Board} (record { clues = c; entries = noEntries; masks = m }) (boardFrom g s)
+pub board-from : (clues entries : List ℤ) (s : List ℕ) {f m : List ℕ} → f ≡ fresh (givensOf (together clues entries)) → m ≡ lacking f s → _≡_ {A = S.Board} (record { clues = clues; entries = entries; masks = m }) (boardFrom clues entries s)
 unfolding boardFrom
-board-from g s {f} p q r =
-    let w : lacking f s ≡ lacking (fresh g) s = ap (λ (x : List ℕ). lacking x s) p in
-    cc
+board-from clues entries s p r =
+    let w = r ∙ ap (λ (x : List ℕ). lacking x s) p in
+    λ i. record { clues = clues; entries = entries; masks = w i }
 
-module _ (bs : List ℕ) where
-  abbrev after-clues : Entries → Answer S.Board
-  after-clues c = readRemoved (digitsIn (c .sets)) bs (c .next)
+-- the entry section, read or refused
+module _ (k : Form) (clues : List ℤ) (bs : List ℕ) (i : ℕ) where
+  abbrev after-entered : SectionRead → Answer S.Board
+  after-entered e = readRemoved clues (numbersIn (e .sets)) bs (e .next)
 
-  -- the clue section, read or refused
-  pub from-clues : {a : Answer Entries} → a ≡ readSection Clues allSets bs 0 → then a after-clues ≡ readOf bs
-  unfolding readOf
-  from-clues e = ap (λ (a : Answer Entries). then a after-clues) e
+  pub from-entered : {a : Answer SectionRead} → a ≡ readEntrySection k clues bs i → then a after-entered ≡ readEntered k clues bs i
+  unfolding readEntered
+  from-entered e = ap (λ (a : Answer SectionRead). then a after-entered) e
 
-  pub clues-read : {s : List ℕ} {n : ℕ} {g : List ℕ} → gives (withSets s n) ≡ readSection Clues allSets bs 0 → g ≡ digitsIn s → readRemoved g bs n ≡ readOf bs
-  clues-read {n = n} e p = ap (λ (x : List ℕ). readRemoved x bs n) p ∙ from-clues e
+  pub entered-read : {s : List ℕ} {n : ℕ} {es : List ℤ} → gives (withSets s n) ≡ readEntrySection k clues bs i → es ≡ numbersIn s → readRemoved clues es bs n ≡ readEntered k clues bs i
+  entered-read {n = n} e p = ap (λ (x : List ℤ). readRemoved clues x bs n) p ∙ from-entered e
+
+-- the clue section, read or refused
+module _ (k : Form) (bs : List ℕ) where
+  abbrev after-clues : SectionRead → Answer S.Board
+  after-clues c = readEntered k (numbersIn (c .sets)) bs (c .next)
+
+  pub from-clues : {a : Answer SectionRead} → a ≡ readSection Digits allSets bs 0 → then a after-clues ≡ readIn k bs
+  unfolding readIn
+  from-clues e = ap (λ (a : Answer SectionRead). then a after-clues) e
+
+  pub clues-read : {s : List ℕ} {n : ℕ} {cs : List ℤ} → gives (withSets s n) ≡ readSection Digits allSets bs 0 → cs ≡ numbersIn s → readEntered k cs bs n ≡ readIn k bs
+  clues-read {n = n} e p = ap (λ (x : List ℤ). readEntered k x bs n) p ∙ from-clues e

@@ -1,3 +1,5 @@
 pub mod Sections
 pub mod Records
+pub mod Moves
 pub mod Laws
+pub mod code

@@ -1,4 +1,4 @@
--- The sections of a record (module 14): a count, and then an entry of two bytes for each of its candidates. A section stands for 81 sets of
+-- The sections of a record (module 14; document 02, F-8): a count, and then an entry of two bytes for each of its candidates. A section stands for 81 sets of
 -- digits, one for each cell. A candidate is numbered 9 times its cell + the place of its digit, so that (cell, digit) rises as its number does.
 use mathlib.Core.Bool.{Bool, cond, _&&_}
 use mathlib.Core.List.{List, [], _∷_, _++_, map}
@@ -16,23 +16,23 @@ use Rattle.steps.specs.Loops.{select, upTo}
 use Rattle.record.specs.declared.sections.Reading.{Reading}
 use Rattle.record.specs.declared.sections.Reading.the-variants as reading
 use Rattle.record.specs.declared.sections.Section.{Section}
-use Rattle.record.specs.declared.sections.Section.the-variants.{Clues, Removed}
+use Rattle.record.specs.declared.sections.Section.the-variants.{Digits, Removed}
 
 -- ---- what the sections differ in
 
--- "clue count (1 byte)", "removed count (2 bytes, low first)"
+-- "clue count (1 byte)", of entries "the same form"; "removed count (2 bytes, low first)"
 abbrev pub width : Section → ℕ
-width Clues = 1
+width Digits = 1
 width Removed = 2
 
--- the lowest candidate that may follow: "cells rising" for clues, (cell, digit) "rising" for removals
+-- the lowest candidate that may follow: "cells rising" for clues and entries, (cell, digit) "rising" for removals
 abbrev pub after : Section → ℕ → ℕ
-after Clues k = 9 * (k / 9 + 1)
+after Digits k = 9 * (k / 9 + 1)
 after Removed k = k + 1
 
--- the stop of an entry whose candidate the section may not have, among removals "a candidate not fresh, or from a clue cell"
+-- the stop of an entry whose candidate the section may not have: "01's 8 also covers an entry on a clue cell and 01's 9 a removal on an entered one"
 abbrev pub outside : Section → ℤ → Stop
-outside Clues = RecordEntry
+outside Digits = RecordEntry
 outside Removed = NotFresh
 
 -- ---- writing
@@ -100,15 +100,15 @@ abbrev pub with : List ℕ → ℕ → List ℕ
 with s k = set s (k / 9) (union (at s (k / 9)) (single (k % 9)))
 
 -- the sets of a section that was read, and the offset after it
-pub record Entries : Type 0 where
+pub record SectionRead : Type 0 where
   pub sets : List ℕ
   pub next : ℕ
 
-abbrev pub withSets : List ℕ → ℕ → Entries
+abbrev pub withSets : List ℕ → ℕ → SectionRead
 withSets s i = record { sets = s; next = i }
 
 -- n more entries
-unfoldable pub readEntries : Section → List ℕ → List ℕ → ℕ → ℕ → ℕ → List ℕ → Answer Entries
+unfoldable pub readEntries : Section → List ℕ → List ℕ → ℕ → ℕ → ℕ → List ℕ → Answer SectionRead
 readEntries k free bs zero low i s = gives (withSets s i)
 readEntries k free bs (suc n) low i s = then (entryAt k free bs low i) λ e. readEntries k free bs n (after k e) (i + 2) (with s e)
 
@@ -116,6 +116,6 @@ readEntries k free bs (suc n) low i s = then (entryAt k free bs low i) λ e. rea
 abbrev pub noSets : List ℕ
 noSets = replicate 81 0
 
-unfoldable pub readSection : Section → List ℕ → List ℕ → ℕ → Answer Entries
+unfoldable pub readSection : Section → List ℕ → List ℕ → ℕ → Answer SectionRead
 readSection k free bs i =
     cond (leb (i + width k) (length bs)) (readEntries k free bs (numberAt (width k) bs i) 0 (i + width k) noSets) (stop (RecordBytes (pos (length bs))))

@@ -4,14 +4,16 @@ ghost use mathlib.Core.Path.{_≡_};
 ghost use Prim.Native.Nat.{_+_, _*_, _≤_, _<_};
 ghost use lib.ListN.{getD, length};
 ghost use Rattle.stops.specs.Answer.{map};
+ghost use Rattle.record.specs.code.Places.{cellCandidates};
 ghost use Rattle.record.specs.Sections.{width, after, outside, candidates, entryBytes, lowFirst, sectionBytes, numberAt, wellFormed, entryAt, with, withSets, readEntries, readSection, readingAnswer, noSets, stored};
 use candidates::masks;
 use cells::mask_at;
 use stops::Stop;
 use text::byte_at;
 
+// A digit for each of some cells, the clues or the entries; or candidates that were removed.
 pub enum Section {
-    Clues,
+    Digits,
     Removed,
 }
 
@@ -26,39 +28,49 @@ fn count_width(section: Section) -> usize
     ensures { λ r. ⌜ r ≡ width section ⌝ }
 {
     match section {
-        Section::Clues => 1,
+        Section::Digits => 1,
         Section::Removed => 2,
     }
 }
 
+// The entries of a cell's digits, rising, from `start` on; what is returned is the offset after them.
+fn put_cell(cell: usize, set: u16, bytes: &mut [u8; 4378], start: usize) -> usize
+    requires { ⌜ (cell < 81) × (start + 18 ≤ 4378) ⌝ }
+    ensures { λ r. ⌜ (now (bytes .exit) ≡ stored (now (bytes .entry)) start (entryBytes (cellCandidates cell set))) × (r ≡ start + 2 * length (cellCandidates cell set)) ⌝ }
+{
+    let mut at = start;
+    let mut left = masks::meet(set, 511);
+    while left != 0 {
+        bytes[at] = cell as u8;
+        bytes[at + 1] = (masks::lowest_digit(left) + 1) as u8;
+        left = masks::lose_lowest(left);
+        at += 2;
+    }
+    at
+}
+
 // The entries of the sets' candidates, rising, from `start` on; what is returned is the offset after them.
-fn put_entries(sets: &[u16; 81], bytes: &mut [u8; 2919], start: usize) -> usize
-    requires { ⌜ start + 1458 ≤ 2919 ⌝ }
+fn put_entries(sets: &[u16; 81], bytes: &mut [u8; 4378], start: usize) -> usize
+    requires { ⌜ start + 1458 ≤ 4378 ⌝ }
     ensures { λ r. ⌜ (now (bytes .exit) ≡ stored (now (bytes .entry)) start (entryBytes (candidates (now (sets .entry))))) × (r ≡ start + 2 * length (candidates (now (sets .entry)))) ⌝ }
 {
     let mut at = start;
-    let mut candidate: usize = 0;
-    while candidate < 729 {
-        let cell = candidate / 9;
-        let place = candidate % 9;
-        if masks::has_digit(sets[cell], place) {
-            bytes[at] = cell as u8;
-            bytes[at + 1] = (place + 1) as u8;
-            at += 2;
-        }
-        candidate += 1;
+    let mut cell: usize = 0;
+    while cell < 81 {
+        at = put_cell(cell, sets[cell], bytes, at);
+        cell += 1;
     }
     at
 }
 
 // The count, low byte first.
-fn put_count(section: Section, bytes: &mut [u8; 2919], start: usize, count: usize)
-    requires { ⌜ (start + 2 ≤ 2919) × (count < 65536) ⌝ }
+fn put_count(section: Section, bytes: &mut [u8; 4378], start: usize, count: usize)
+    requires { ⌜ (start + 2 ≤ 4378) × (count < 65536) ⌝ }
     ensures { λ _. ⌜ now (bytes .exit) ≡ stored (now (bytes .entry)) start (lowFirst (width section) count) ⌝ }
 {
     bytes[start] = (count % 256) as u8;
     match section {
-        Section::Clues => {}
+        Section::Digits => {}
         Section::Removed => bytes[start + 1] = (count / 256) as u8,
     }
 }
@@ -67,10 +79,10 @@ fn put_count(section: Section, bytes: &mut [u8; 2919], start: usize, count: usiz
 pub fn put_section(
     section: Section,
     sets: &[u16; 81],
-    bytes: &mut [u8; 2919],
+    bytes: &mut [u8; 4378],
     start: usize,
 ) -> usize
-    requires { ⌜ start + 1460 ≤ 2919 ⌝ }
+    requires { ⌜ start + 1460 ≤ 4378 ⌝ }
     ensures { λ r. ⌜ (now (bytes .exit) ≡ stored (now (bytes .entry)) start (sectionBytes section (now (sets .entry)))) × (r ≡ start + length (sectionBytes section (now (sets .entry)))) ⌝ }
 {
     let first = start + count_width(section);
@@ -93,7 +105,7 @@ fn count_at(section: Section, bytes: &[u8], at: usize) -> usize
 {
     let low = value_at(bytes, at);
     match section {
-        Section::Clues => low,
+        Section::Digits => low,
         Section::Removed => low + 256 * value_at(bytes, at + 1),
     }
 }
@@ -119,7 +131,7 @@ fn outside_stop(section: Section, at: i64) -> Stop
     ensures { λ r. ⌜ r ≡ outside section at ⌝ }
 {
     match section {
-        Section::Clues => Stop::RecordEntry(at),
+        Section::Digits => Stop::RecordEntry(at),
         Section::Removed => Stop::NotFresh(at),
     }
 }
@@ -151,7 +163,7 @@ fn next_low(section: Section, candidate: usize) -> usize
     ensures { λ r. ⌜ r ≡ after section candidate ⌝ }
 {
     match section {
-        Section::Clues => 9 * (candidate / 9 + 1),
+        Section::Digits => 9 * (candidate / 9 + 1),
         Section::Removed => candidate + 1,
     }
 }

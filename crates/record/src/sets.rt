@@ -1,13 +1,13 @@
-// A board as sets of digits for each cell: its clues, and what its masks lack of the fresh ones.
+// A board as sets of digits for each cell: its clues, its entries, and what its masks lack of the fresh ones.
 ghost use mathlib.Core.Path.{_≡_};
 ghost use lib.IntN.{pos};
-ghost use Rattle.record.specs.Records.{clueSets, lacking, digitIn, digitsIn, openSets, cluesFrom};
+ghost use Rattle.record.specs.Records.{digitSets, lacking, digitIn, digitsIn, openSets, cluesFrom};
 use board::fresh::given_mask;
 use candidates::masks;
 use cells::open_mask;
 
-pub fn clue_sets(givens: &[u8; 81]) -> [u16; 81]
-    ensures { λ r. ⌜ r ≡ clueSets (now (givens .entry)) ⌝ }
+pub fn digit_sets(givens: &[u8; 81]) -> [u16; 81]
+    ensures { λ r. ⌜ r ≡ digitSets (now (givens .entry)) ⌝ }
 {
     let mut sets = [0u16; 81];
     let mut cell: usize = 0;

@@ -2,7 +2,7 @@
 use Prim.Native.Nat.{ℕ}
 use lib.IntN.{ℤ, pos}
 use Rattle.stops.specs.declared.Stop.{Stop}
-use Rattle.stops.specs.declared.Stop.the-variants.{TextLength, OtherByte, BadClue, BadDigit, NoCell, TooFewBytes, RecordBytes, RecordEntry, NotFresh, BadMask, SheetLength, SheetCells, BadEntry, ClueCell, AlreadyEntered, NotEntered, BadPercentage, BadSolution}
+use Rattle.stops.specs.declared.Stop.the-variants.{TextLength, OtherByte, BadClue, BadDigit, NoCell, TooFewBytes, RecordBytes, RecordEntry, NotFresh, BadMask, SheetLength, SheetCells, BadEntry, ClueCell, AlreadyEntered, NotEntered, RecordEntries, BadPercentage, BadSolution}
 
 pub record Row : Type 0 where
   pub number : ℕ
@@ -30,6 +30,8 @@ rowOf (BadEntry z) = row 8 z
 rowOf (ClueCell n) = row 12 (pos n)
 rowOf (AlreadyEntered n) = row 13 (pos n)
 rowOf (NotEntered n) = row 13 (pos n)
+-- document 02, F-8: "14, a move back of a record with entries, with the offset of its entry count"
+rowOf (RecordEntries z) = row 14 z
 -- document 02, F-11: "percentage above 100, with the percentage"; "the solution does not pass the verifier, with detail 0"
 rowOf (BadPercentage n) = row 17 (pos n)
 rowOf BadSolution = row 18 (pos 0)

@@ -19,9 +19,9 @@ pub enum Stop {
     TooFewBytes(i64),
     // Where a record's bytes are missing, or left over.
     RecordBytes(i64),
-    // The offset of a record's entry that names no candidate, or does not rise.
+    // The offset of a record's entry that names no candidate, does not rise, or stands on a clue.
     RecordEntry(i64),
-    // The offset of the removal of a candidate that is not fresh, or from a clue cell.
+    // The offset of the removal of a candidate that is not fresh, or from a cell with a clue or an entry.
     NotFresh(i64),
     // The first cell whose mask holds what the fresh one lacks, or is a clue cell's and not its digit.
     BadMask(i64),
@@ -37,6 +37,8 @@ pub enum Stop {
     AlreadyEntered(u32),
     // A cell that is not entered, whose entry was to be rubbed out.
     NotEntered(u32),
+    // The offset of the entry count of a record with entries, which was to be moved back.
+    RecordEntries(i64),
     // A percentage above 100.
     BadPercentage(u32),
     // A solution that does not pass the verifier; nothing stands beside it.
@@ -82,6 +84,7 @@ pub fn number(stop: Stop) -> u8
         Stop::ClueCell(_) => 12,
         Stop::AlreadyEntered(_) => 13,
         Stop::NotEntered(_) => 13,
+        Stop::RecordEntries(_) => 14,
         Stop::BadPercentage(_) => 17,
         Stop::BadSolution => 18,
     }
@@ -108,6 +111,7 @@ pub fn detail(stop: Stop) -> i64
         Stop::ClueCell(cell) => cell as i64,
         Stop::AlreadyEntered(cell) => cell as i64,
         Stop::NotEntered(cell) => cell as i64,
+        Stop::RecordEntries(offset) => offset,
         Stop::BadPercentage(percentage) => percentage as i64,
         Stop::BadSolution => 0,
     }

@@ -44,6 +44,7 @@ struct Counts {
     entries: u64,
     records: u64,
     bytes: u64,
+    moves: u64,
     written: u64,
     sheets: u64,
     canonical: u64,
@@ -54,12 +55,12 @@ struct Counts {
 impl std::fmt::Display for Counts {
     fn fmt(&self, out: &mut std::fmt::Formatter) -> std::fmt::Result {
         let Counts { sets, grids, texts, lists, calls, entry_calls, boards, damaged, runs, pairs, fillings, entries, .. } = self;
-        let Counts { records, bytes, written, sheets, canonical, cards, rounds, .. } = self;
+        let Counts { records, bytes, moves, written, sheets, canonical, cards, rounds, .. } = self;
         write!(out, "{sets} set calls, {grids} filled grids, {texts} texts, ")?;
         write!(out, "{lists} lists of {calls} ported calls and {entry_calls} enterings and rubbings out, ")?;
         write!(out, "{boards} boards through the wide passes, {damaged} damaged boards, {runs} runs of lists, {pairs} pairs of lists settled, ")?;
         write!(out, "{fillings} lists with enterings held to a filling, {entries} pairs of lists that leave the same entries, ")?;
-        write!(out, "{records} boards written as records and read back, {bytes} damaged and random records read, ")?;
+        write!(out, "{records} boards written as records and read back, {bytes} damaged and random records read, {moves} old and new records moved, ")?;
         write!(out, "{written} texts written, {sheets} sheets read, {canonical} canonical sheets written, {cards} cards, {rounds} trial rounds")
     }
 }
@@ -333,10 +334,10 @@ fn two_lists_of_entry_calls(random: &mut Random, counts: &mut Counts) -> Result<
 
 // ---- what is written, and read from it
 
-/// A board written as a record and read back; that record damaged, and other bytes.
+/// A board written as a record and read back, and moved; that record damaged, an old one, and other bytes.
 fn a_record(random: &mut Random, counts: &mut Counts) -> Result<(), String> {
     let case = records::board_case(random);
-    let record = records::record(&case);
+    let (record, old) = (records::record(&case), records::old_record(&case));
     counts.records += 1;
     sound(&case, "a record written, engine and plain", &records::written_differs::<Engine, Plain>)?;
     sound(&case, "a board written and read", &records::returned_differs::<Engine>)?;
@@ -344,7 +345,10 @@ fn a_record(random: &mut Random, counts: &mut Counts) -> Result<(), String> {
     let mut others: Vec<_> = (0..4).map(|_| records::damaged(random, &record)).collect();
     others.push(records::loose(random));
     counts.bytes += others.len() as u64;
-    others.iter().try_for_each(|bytes| sound(bytes, "a record read, engine and plain", &records::read_differs::<Engine, Plain>))
+    others.iter().try_for_each(|bytes| sound(bytes, "a record read, engine and plain", &records::read_differs::<Engine, Plain>))?;
+    others.extend([record, records::damaged(random, &old), old]);
+    counts.moves += others.len() as u64;
+    others.iter().try_for_each(|bytes| sound(bytes, "a record moved, engine and plain", &records::moves_differ::<Engine, Plain>))
 }
 
 fn a_written_text(random: &mut Random, counts: &mut Counts) -> Result<(), String> {

@@ -15,7 +15,8 @@ use sudoku_host::oracle::{self, SudokuCandidateSet, SudokuSolver};
 use sudoku_host::random::Random;
 use sudoku_host::sheet_cases::{ruled, BOXED};
 use sudoku_host::sides::{Call, Original, Plain, Side};
-use sudoku_host::{card, clue_count, enter, grids, open, plain, read, read_record, read_sheet, records, rub_out, set, step, verify, write_record, write_sheet};
+use sudoku_host::records::{self, Form};
+use sudoku_host::{card, clue_count, enter, grids, open, plain, read, read_record, read_sheet, rub_out, set, step, verify, write_record, write_sheet};
 use sudoku_host::{Board, Clues, SetCall, NO_ENTRIES};
 
 const BOARDS: usize = 64;
@@ -222,16 +223,16 @@ fn canonical(side: &str, random: &mut Random, rounds: usize) {
 
 /// A record written and read again; the original has none.
 fn recording(side: &str, random: &mut Random, rounds: usize) {
-    let mut bytes = [0; 2919];
-    let (mut clues_read, mut masks_read) = ([0; 81], [0; 81]);
+    let mut bytes = [0; 2000];
     for board in boards(random) {
+        let mut read = board;
         for _ in 0..rounds {
             if side == "engine" {
                 let length = write_record(black_box(&board), &mut bytes).unwrap() as usize;
-                black_box(read_record(black_box(&bytes[..length]), &mut clues_read, &mut masks_read)).ok();
+                black_box(read_record(black_box(&bytes[..length]), &mut read)).ok();
             } else {
                 let length = records::write(black_box(&board), &mut bytes).unwrap();
-                black_box(records::read(black_box(&bytes[..length]))).ok();
+                black_box(records::read(Form::New, black_box(&bytes[..length]))).ok();
             }
         }
     }

@@ -1,11 +1,11 @@
 -- `record::read_removed` meets its contract. Assumes nothing.
-use mathlib.Core.Path.{_≡_, refl, ap, _∙_}
+use mathlib.Core.Path.{_≡_, refl, ap, ap₂, _∙_}
 use mathlib.Core.List.{List}
 use Prim.Native.Nat.{ℕ}
 use native.Mathlib.Omega.{arith}
 use Rattle.stops.specs.Answer.{gives, map, valueOr}
 use Rattle.stops.specs.declared.Stop.the-variants.{RecordBytes}
-use Rattle.steps.specs.Boards.{fresh}
+use Rattle.steps.specs.Boards.{givensOf, together, fresh}
 use Rattle.board.specs.Boards.{noBoard}
 use Rattle.record.specs.declared.sections.Section.the-variants.{Removed}
 use Rattle.record.specs.Records.{openSets}
@@ -15,6 +15,9 @@ use Rattle.record.proofs.SectionsRead.{section-told, refused-beside, fr
 use borrow.Author.Needs.{needs}
 use Rattle.record.proofs.read_removed.Statement.{statement}
 use Rattle.record.proofs.read_removed.Tie as tie
+
+givens-of-requires : tie.Need-givens-of-requires
+givens-of-requires c κs = search needs
 
 fresh-masks-requires : tie.Need-fresh-masks-requires
 fresh-masks-requires c κs = search needs
@@ -34,61 +37,74 @@ enum-told c = search needs
 refused-requires : tie.Need-refused-requires
 refused-requires c κs = search needs
 
+-- where the function began
+start : (c : tie.After-read-section) → tie.Start
+start c = c .before .before .before .before .before .before .before .before .before .before .before .before
+
+fresh-is : (c : tie.After-read-section) → c .before .before .before .before .before .before .fresh-masks .result ≡ fresh (givensOf (together (start c .args .t1) (start c .args .t2)))
+unfolding start
+fresh-is c =
+    let f = c .before .before .before .before .before .before in
+    f .fresh-masks .ensures ∙ ap fresh (f .before .before .givens-of .ensures)
+
 -- the section, measured from the fresh masks
-is-section : (c : tie.After-read-section) → map (withSets (c .read-section .last .1 .1 .1 .1 .0)) (readingAnswer (c .read-section .result)) ≡ readSection Removed (openSets (c .before .before .before .before .before .before .before .args .givens .now) (fresh (c .before .before .before .before .before .before .before .args .givens .now))) (c .before .before .before .before .before .before .before .args .bytes .now) (c .before .before .before .before .before .before .before .args .start)
+is-section : (c : tie.After-read-section) → map (withSets (c .read-section .last .1 .1 .1 .1 .0)) (readingAnswer (c .read-section .result))
+    ≡ readSection Removed (openSets (givensOf (together (start c .args .t1) (start c .args .t2))) (fresh (givensOf (together (start c .args .t1) (start c .args .t2))))) (start c .args .bytes .now) (start c .args .start)
+unfolding start
 is-section c =
     let o = c .before .before .before in
-    let f = o .before .before in
-    let a = f .before .before .args in
-    c .read-section .ensures ∙ ap (λ (x : List ℕ). readSection Removed x (a .bytes .now) (a .start)) (o .open-sets .ensures ∙ ap (openSets (a .givens .now)) (f .fresh-masks .ensures))
+    let f = o .before .before .before in
+    let a = start c .args in
+    c .read-section .ensures
+    ∙ ap (λ (x : List ℕ). readSection Removed x (a .bytes .now) (a .start))
+    (o .open-sets .ensures ∙ ap₂ openSets (f .before .before .givens-of .ensures) (fresh-is c))
 
 returns : tie.Need-returns
+unfolding start
 returns c =
     let is = c .before .enum-told .given .1 in
     let r = c .before .before .before in
-    let a = r .before .before .before .before .before .before .before .args in
-    refused-beside is (from-removed (a .givens .now) (a .bytes .now) (a .start) (section-told is (r .read-section .last .1 .1 .1 .1 .0) (is-section r))) (c .refused .ensures)
+    let a = start r .args in
+    refused-beside is (from-removed (a .t1) (a .t2) (a .bytes .now) (a .start) (section-told is (r .read-section .last .1 .1 .1 .1 .0) (is-section r))) (c .refused .ensures)
 
-cast-t18 : tie.Need-cast-t18
-cast-t18 c = search needs
+cast-t26 : tie.Need-cast-t26
+cast-t26 c = search needs
 
 refused-requires-2 : tie.Need-refused-requires-2
 refused-requires-2 c κs = search needs
 
 returns-2 : tie.Need-returns-2
+unfolding start
 returns-2 c =
     let t = c .before .before .before in
     let r = t .before .before in
-    let start = r .before .before .before .before .before .before .before in
-    let a = start .args in
+    let a = start r .args in
     refused-beside refl
-    (placed RecordBytes (omega (arith, start .good .1 .0 .1))
-    ∙ removed-over (a .givens .now) (a .bytes .now) (a .start) (section-told (t .reading .given .1) (r .read-section .last .1 .1 .1 .1 .0) (is-section r)) (c .before .if1 .taken))
+    (placed RecordBytes (omega (arith, start r .good .1 .1 .0 .1))
+    ∙ removed-over (a .t1) (a .t2) (a .bytes .now) (a .start) (section-told (t .reading .given .1) (r .read-section .last .1 .1 .1 .1 .0) (is-section r)) (c .before .if1 .taken))
     (c .refused2 .ensures)
-
-clues-from-requires : tie.Need-clues-from-requires
-clues-from-requires c κs = search needs
 
 lacking-sets-requires : tie.Need-lacking-sets-requires
 lacking-sets-requires c κs = search needs
 
 returns-3 : tie.Need-returns-3
+unfolding start
 returns-3 c =
     let k = c .before .before .before in
-    let t = k .before .before .before in
+    let t = k .before .before in
     let r = t .before .before in
-    let f = r .before .before .before .before .before in
-    let a = f .before .before .args in
+    let a = start r .args in
     let sets = r .read-section .last .1 .1 .1 .1 .0 in
     let e =
-    ap gives (board-from (a .givens .now) sets (f .fresh-masks .ensures) (k .clues-from .ensures) (c .lacking-sets .ensures))
-    ∙ removed-read (a .givens .now) (a .bytes .now) (a .start) (section-told (t .reading .given .1) sets (is-section r)) (k .before .if1 .left) in
+    ap gives (board-from (a .t1) (a .t2) sets (fresh-is r) (c .lacking-sets .ensures))
+    ∙ removed-read (a .t1) (a .t2) (a .bytes .now) (a .start) (section-told (t .reading .given .1) sets (is-section r)) (k .if1 .left) in
     (e, ap (valueOr noBoard) e)
 
 pub read-removed-spec : {M : Type 1} → statement M
 read-removed-spec =
     tie.close
     (tie.spec
+    givens-of-requires
     fresh-masks-requires
     open-sets-requires
     read-section-requires
@@ -96,9 +112,8 @@ read-removed-spec =
     enum-told
     refused-requires
     returns
-    cast-t18
+    cast-t26
     refused-requires-2
     returns-2
-    clues-from-requires
     lacking-sets-requires
     returns-3)

@@ -79,6 +79,9 @@ cast-result-5 c = search needs
 enum-known-stop-17 : tie.Need-enum-known-stop-17
 enum-known-stop-17 c = search needs
 
+enum-known-stop-18 : tie.Need-enum-known-stop-18
+enum-known-stop-18 c = search needs
+
 cast-result-6 : tie.Need-cast-result-6
 cast-result-6 c = search needs
 
@@ -134,10 +137,13 @@ returns-16 : tie.Need-returns-16
 returns-16 c = beside (c .before .stop16 .given .1) (small (omega (arith, c .known-told16 .given .0 .1))) refl
 
 returns-17 : tie.Need-returns-17
-returns-17 c = beside (c .before .stop17 .given .1) (small (omega (arith, c .known-told17 .given .0 .1))) refl
+returns-17 c = beside (c .before .stop17 .given .1) (search needs) refl
 
 returns-18 : tie.Need-returns-18
-returns-18 c = beside (c .enum-told .given .1) refl refl
+returns-18 c = beside (c .before .stop18 .given .1) (small (omega (arith, c .known-told18 .given .0 .1))) refl
+
+returns-19 : tie.Need-returns-19
+returns-19 c = beside (c .enum-told .given .1) refl refl
 
 pub detail-spec : {M : Type 1} → statement M
 detail-spec =
@@ -165,6 +171,7 @@ detail-spec =
     enum-known-stop-16
     cast-result-5
     enum-known-stop-17
+    enum-known-stop-18
     cast-result-6
     enum-told
     returns
@@ -184,4 +191,5 @@ detail-spec =
     returns-15
     returns-16
     returns-17
-    returns-18)
+    returns-18
+    returns-19)

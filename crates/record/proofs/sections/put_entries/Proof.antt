@@ -1,23 +1,25 @@
 -- `record::sections::put_entries` meets its contract. Assumes nothing.
 use mathlib.Core.Path.{_≡_, sym, ap, _∙_}
-use mathlib.Core.Logic.{⊎-elim}
 use mathlib.Core.List.{List}
 use Prim.Native.Nat.{ℕ, _+_, _-_, _*_, _≤_, _<_}
-use lib.ListN.{length}
+use lib.ListN.{length, length-append}
+use Rattle.steps.specs.Boards.{at}
+use Rattle.record.specs.code.Places.{cellCandidates}
 use Rattle.record.specs.Sections.{candidates, entryBytes, stored}
-use Rattle.record.proofs.Writing.{rest, rest-start, rest-held, rest-not, rest-end, entry-put, entry-passed}
+use Rattle.record.proofs.Places.{cell-few, cell-rest, cell-put}
+use Rattle.record.proofs.Writing.{rest, rest-start, rest-end}
 use borrow.Author.Needs.{needs}
 use native.Mathlib.Omega.{arith}
 use Rattle.record.proofs.sections.put_entries.Statement.{statement}
 use Rattle.record.proofs.sections.put_entries.Tie as tie
 
 abbrev Inv-loop : tie.InvT-loop
-Inv-loop sets bytes₀ start at₀ candidate₀ bytes at candidate =
-    (candidate ≤ 729) × (at ≤ start + 2 * candidate) × (at + 2 * length (rest sets candidate) ≡ start + 2 * length (candidates sets))
-    × (stored bytes at (entryBytes (rest sets candidate)) ≡ stored bytes₀ start (entryBytes (candidates sets)))
+Inv-loop sets bytes₀ start at₀ cell₀ bytes at cell =
+    (cell ≤ 81) × (at ≤ start + 18 * cell) × (at + 2 * length (rest sets (9 * cell)) ≡ start + 2 * length (candidates sets))
+    × (stored bytes at (entryBytes (rest sets (9 * cell))) ≡ stored bytes₀ start (entryBytes (candidates sets)))
 
 abbrev μ-loop : tie.MeasureT-loop
-μ-loop sets bytes₀ start at₀ candidate₀ bytes at candidate = 729 - candidate
+μ-loop sets bytes₀ start at₀ cell₀ bytes at cell = 81 - cell
 
 loop-holds : tie.Need-loop-holds Inv-loop μ-loop
 loop-holds c =
@@ -28,38 +30,19 @@ loop-holds c =
       ap (λ (ks : List ℕ). stored (c .args .bytes .now) (c .args .start) (entryBytes ks)) (rest-start s),
     )
 
-mul-has-digit : tie.Need-mul-has-digit Inv-loop μ-loop
-mul-has-digit c = omega arith
+mul-put-cell : tie.Need-mul-put-cell Inv-loop μ-loop
+mul-put-cell c = omega arith
 
-element-copy-out-has-digit : tie.Need-element-copy-out-has-digit Inv-loop μ-loop
-element-copy-out-has-digit c = omega arith
+element-copy-out-put-cell : tie.Need-element-copy-out-put-cell Inv-loop μ-loop
+element-copy-out-put-cell c = omega arith
 
-has-digit-requires : tie.Need-has-digit-requires Inv-loop μ-loop
-has-digit-requires c κs = search needs
+put-cell-requires : tie.Need-put-cell-requires Inv-loop μ-loop
+put-cell-requires c κs =
+    let i = c .before .before in
+    (omega arith, omega (arith, i .before .before .pre, i .before .loop .inv .1))
 
-cast-bytes : tie.Need-cast-bytes Inv-loop μ-loop
-cast-bytes c = omega arith
-
-element-write-bytes : tie.Need-element-write-bytes Inv-loop μ-loop
-element-write-bytes c = omega (arith, c .before .before .before .before .before .pre)
-
-add-bytes : tie.Need-add-bytes Inv-loop μ-loop
-add-bytes c = omega arith
-
-cast-bytes-2 : tie.Need-cast-bytes-2 Inv-loop μ-loop
-cast-bytes-2 c = omega arith
-
-add-bytes-2 : tie.Need-add-bytes-2 Inv-loop μ-loop
-add-bytes-2 c = omega (arith, c .before .before .before .before .before .pre)
-
-element-write-bytes-2 : tie.Need-element-write-bytes-2 Inv-loop μ-loop
-element-write-bytes-2 c = omega (arith, c .before .before .before .before .before .pre)
-
-add-at : tie.Need-add-at Inv-loop μ-loop
-add-at c = omega (arith, c .before .before .before .before .before .pre)
-
-add-candidate : tie.Need-add-candidate Inv-loop μ-loop
-add-candidate c = omega arith
+add-cell : tie.Need-add-cell Inv-loop μ-loop
+add-cell c = omega arith
 
 loop-less : tie.Need-loop-less Inv-loop μ-loop
 loop-less c = omega arith
@@ -68,24 +51,22 @@ loop-again : tie.Need-loop-again Inv-loop μ-loop
 loop-again c =
     let l = c .before .before .before .before in
     let s = l .before .args .sets .now in
-    let k = l .loop .candidate in
-    let h : k < 729 = omega arith in
-    ⊎-elim
-    (λ w.
-    let t = sym (c .before .has-digit .ensures) ∙ w .0 .taken in
-    let n = ap length (rest-held s k h t) in
-    (omega arith, omega arith, omega arith, entry-put s k h (l .loop .bytes) (l .loop .at) (l .loop .inv .3) t (w .1) (w .2)))
-    (λ w.
-    let t = sym (c .before .has-digit .ensures) ∙ w .0 .left in
-    let n = ap length (rest-not s k h t) in
-    (omega arith, omega arith, omega arith, entry-passed s k h (l .loop .bytes) (l .loop .at) (l .loop .inv .3) t (w .1) (w .2)))
-    (c .if1 .came)
+    let k = l .loop .cell in
+    let h : k < 81 = omega arith in
+    let w = cell-rest s k h in
+    let n = ap length w ∙ length-append (cellCandidates k (at s k)) (rest s (9 * (k + 1))) in
+    let m = c .put-cell .ensures .1 in (
+      omega arith,
+      omega (arith, cell-few k (at s k), l .loop .inv .1),
+      omega (arith, l .loop .inv .2),
+      cell-put s k h (l .loop .bytes) (l .loop .at) (l .loop .inv .3) (c .put-cell .ensures .0) m,
+    )
 
 returns : tie.Need-returns Inv-loop μ-loop
 returns c =
     let l = c .before in
     let s = l .before .args .sets .now in
-    let e = rest-end s (l .loop .candidate) (c .loop-test .left) in (
+    let e = rest-end s (9 * l .loop .cell) (omega (arith, c .loop-test .left)) in (
       sym (ap (λ (ks : List ℕ). stored (l .loop .bytes) (l .loop .at) (entryBytes ks)) e) ∙ l .loop .inv .3,
       omega (arith, ap length e, l .loop .inv .2),
     )
@@ -97,17 +78,10 @@ put-entries-spec =
     Inv-loop
     μ-loop
     loop-holds
-    mul-has-digit
-    element-copy-out-has-digit
-    has-digit-requires
-    cast-bytes
-    element-write-bytes
-    add-bytes
-    cast-bytes-2
-    add-bytes-2
-    element-write-bytes-2
-    add-at
-    add-candidate
+    mul-put-cell
+    element-copy-out-put-cell
+    put-cell-requires
+    add-cell
     loop-less
     loop-again
     returns)

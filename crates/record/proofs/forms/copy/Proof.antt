@@ -1,4 +1,4 @@
--- `record::copy` meets its contract. Assumes nothing.
+-- `record::forms::copy` meets its contract. Assumes nothing.
 use mathlib.Core.Path.{_≡_, refl, _∙_}
 use mathlib.Core.List.{_++_}
 use Prim.Native.Nat.{_-_}
@@ -6,8 +6,8 @@ use lib.ListN.{length, getD, drop, length-set}
 use Rattle.grid.proofs.Fills.{filled, fill-front, fill-on, fill-end}
 use Rattle.record.specs.Sections.{leading}
 use native.Mathlib.Omega.{arith}
-use Rattle.record.proofs.copy.Statement.{statement}
-use Rattle.record.proofs.copy.Tie as tie
+use Rattle.record.proofs.forms.copy.Statement.{statement}
+use Rattle.record.proofs.forms.copy.Tie as tie
 
 abbrev Inv-loop : tie.InvT-loop
 Inv-loop bytes count out₀ at₀ out at = (length out ≡ length out₀) × (filled (λ i. getD bytes i 0) count at out ≡ leading count bytes ++ drop count out₀)

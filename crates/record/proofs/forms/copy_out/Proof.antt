@@ -1,17 +1,17 @@
--- `record::copy_out` meets its contract. Assumes nothing.
+-- `record::forms::copy_out` meets its contract. Assumes nothing.
 use mathlib.Core.Path.{ap, _∙_}
 use Prim.Native.Nat.{ℕ}
 use lib.ListN.{length}
 use Rattle.stops.specs.Answer.{Answer}
 use Rattle.stops.specs.declared.Stop.the-variants.{TooFewBytes}
-use Rattle.record.specs.Records.{written}
+use Rattle.text.specs.Texts.{written}
 use Rattle.record.specs.Sections.{leading}
 use Rattle.record.proofs.Entries.{placed}
 use Rattle.record.proofs.Writing.{write-short, write-whole}
 use borrow.Author.Needs.{needs}
 use native.Mathlib.Omega.{arith}
-use Rattle.record.proofs.copy_out.Statement.{statement}
-use Rattle.record.proofs.copy_out.Tie as tie
+use Rattle.record.proofs.forms.copy_out.Statement.{statement}
+use Rattle.record.proofs.forms.copy_out.Tie as tie
 
 cast-t7 : tie.Need-cast-t7
 cast-t7 c = search needs
