@@ -37,6 +37,8 @@ ORDER = [
     ("steps/specs/Wide", "module 8 in plain words, and the promise that the steps are these"),
     ("steps/specs/XChains", "document 02, F-9: X-chains in words, their search, and the promise that it finds just these"),
     ("steps/specs/SinglesHold", "beyond the demands: what a reported single means"),
+    ("symmetries/specs/Changes", "document 02, F-13: changes of cells and digits, and the six kinds"),
+    ("symmetries/specs/OtherClothes", "the promise on grids in other clothes"),
     ("board/specs/Answers", "what the board's enums answer"),
     ("board/specs/Boards", "opener, accessors, verdict"),
     ("board/specs/Entering", "what entering and rubbing out hand back"),

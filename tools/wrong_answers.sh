@@ -5,6 +5,7 @@
 # For each edit it prints where the refusal stands; all that the prover said is kept in target/wrong_answers/CRATE/NAME.log.
 # Status 0 only if every edit is refused, and none because the proof's text no longer fits the code.
 set -euo pipefail
+shopt -s nullglob
 cd "$(dirname "$0")/.."
 if [ $# -eq 0 ]; then
     for folder in tools/wrong_answers/*/; do set -- "$@" "$(basename "$folder")"; done

@@ -1,6 +1,7 @@
 //! The engine for Rust: a safe wrapper over the archive of crate `host` (README.md has the ABI), and what it is compared with.
 
 pub mod cases;
+pub mod clothes_cases;
 pub mod grids;
 pub mod oracle;
 pub mod plain;

@@ -1,12 +1,15 @@
 //! The comparison has teeth: each misreading of document 01 or 02 below is found within some thousand cases, and made small.
 
+use std::fmt::Display;
+
 use sudoku_host::cases::{accessors_differ, damaged_case, differ, ported_case, ported_with_entries, run_case, run_differs, Case, Runner};
+use sudoku_host::clothes_cases::{clothes, lists_apart, relabelled, settled_apart, Change, Clothes};
 use sudoku_host::plain::{self, bit, block, col, row, see, unit, Outcome};
 use sudoku_host::random::Random;
 use sudoku_host::record_cases::{board_case, damaged, moves_differ, old_record, read_differs, record, written_differs, Record};
 use sudoku_host::records::{bytes, read, Form};
 use sudoku_host::sheet_cases::{sheet, sheet_differs};
-use sudoku_host::shrink::shrunk;
+use sudoku_host::shrink::{shrunk, Smaller};
 use sudoku_host::sides::{Accessors, Asked, Call, Engine, Original, Plain, Records, Side, CHAIN};
 use sudoku_host::text_cases::Input;
 use sudoku_host::{counted, run, Board, Clues, Masks, Stop, NO_ENTRIES};
@@ -152,7 +155,7 @@ fn enter(clues: &Clues, masks: &mut Masks, digit: i32, path: &mut Vec<usize>, ce
 }
 
 /// A case of a seeded run on which the misreading shows, made small.
-fn smallest_case(cases: fn(&mut Random) -> Case, fault: &dyn Fn(&Case) -> Option<String>) -> Case {
+fn smallest_case<T: Smaller + Display>(cases: fn(&mut Random) -> T, fault: &dyn Fn(&T) -> Option<String>) -> T {
     let case = (0..20_000).map(|at| cases(&mut Random::of_case(7, at))).find(|case| fault(case).is_some());
     let (smallest, shows) = shrunk(case.expect("the misreading is found"), fault);
     println!("{smallest}{shows}");
@@ -336,6 +339,61 @@ impl Accessors for CountsEntries {
 fn clue_count_with_entries() {
     let smallest = smallest_case(ported_with_entries, &accessors_differ::<Engine, CountsEntries>);
     assert_eq!((counted(&smallest.clues), counted(&smallest.entries)), (0, 1));
+}
+
+// ---- other clothes
+
+/// A board under one change.
+fn with_change(random: &mut Random, change: Change) -> Clothes {
+    let clothes = clothes(random);
+    Clothes { changes: vec![change], ..clothes }
+}
+
+#[test]
+fn rows_of_two_bands_exchanged() {
+    let smallest = smallest_case(|random| with_change(random, Change::Rows(2, 3)), &settled_apart::<Engine>);
+    assert!(counted(&smallest.case.clues) <= 1);
+}
+
+const TWO_TO_ONE: Change = Change::Labels([0, 2, 2, 3, 4, 5, 6, 7, 8, 9]);
+
+#[test]
+fn labels_not_one_to_one() {
+    smallest_case(|random| with_change(random, TWO_TO_ONE), &settled_apart::<Engine>);
+    let smallest = smallest_case(|random| Clothes { changes: vec![TWO_TO_ONE], ..relabelled(random) }, &lists_apart::<Engine>);
+    assert_eq!(smallest.case.calls.len(), 1);
+}
+
+/// The plain implementation, whose chain pass ends with the first digit that loses anything.
+struct FirstDigitAlone(Board);
+
+impl Side for FirstDigitAlone {
+    fn start(board: &Board) -> Self {
+        FirstDigitAlone(*board)
+    }
+
+    fn call(&mut self, call: Call) -> Result<Outcome, Stop> {
+        let mut side = Plain::start(&self.0);
+        let mut outcome = side.call(call)?;
+        let changed = |digit: &i32| (0..81).any(|cell| (outcome.masks[cell] ^ self.0.masks[cell]) & bit(*digit) != 0);
+        if let (Call::Step(CHAIN), Some(digit)) = (call, (1..=9).find(changed)) {
+            for (mask, before) in outcome.masks.iter_mut().zip(self.0.masks) {
+                *mask = *mask & bit(digit) | before & !bit(digit);
+            }
+        }
+        self.0.masks = outcome.masks;
+        Ok(outcome)
+    }
+
+    fn board(&self) -> Board {
+        self.0
+    }
+}
+
+#[test]
+fn chain_pass_of_one_digit() {
+    let smallest = smallest_case(relabelled, &lists_apart::<FirstDigitAlone>);
+    assert_eq!(smallest.case.calls, [Call::Step(CHAIN)]);
 }
 
 // ---- the record

@@ -730,3 +730,36 @@ fn trial_rounds() {
     assert_eq!(trial_round(0, u32::MAX, &solution), stop(17, 4_294_967_295));
     assert_eq!(trial_round(0, 100, &OPEN), stop(18, 0));
 }
+
+// ---- document 02, F-13
+
+fn turned(clues: &Clues) -> Clues {
+    std::array::from_fn(|cell| clues[9 * (cell % 9) + cell / 9])
+}
+
+/// Rows with columns exchanged, a grid settles in three sweeps where it took two, to the same masks turned.
+fn sweeps_in_other_clothes<S: Side>() {
+    let clues = of_text(CLOTHED);
+    let settled = |clues: &Clues| stepped_by::<S>(12, clues, &fresh(clues)).unwrap();
+    let (one, two) = (settled(&clues), settled(&turned(&clues)));
+    assert_eq!((one.sweeps, two.sweeps, one.removed), (2, 3, two.removed));
+    assert_eq!(std::array::from_fn(|cell| one.masks[9 * (cell % 9) + cell / 9]), two.masks);
+}
+
+const CLOTHED: &str = "..3.19...8..36249......8.........63.....9.....8..2...914.......5..2....4.329....7";
+
+#[test]
+fn f13_sweeps_may_differ() {
+    sweeps_in_other_clothes::<Plain>();
+    sweeps_in_other_clothes::<Engine>();
+}
+
+/// Grid A with cells 1 and 9 open: 2 in cell 1, then 4 in cell 9; turned, 4 in cell 1, then 2 in cell 9.
+#[test]
+fn f13_order_of_reports_may_differ() {
+    let mut clues = of_text(GRID_A);
+    (clues[1], clues[9]) = (0, 0);
+    let reports = |clues: &Clues| stepped_by::<Engine>(4, clues, &fresh(clues)).unwrap().reports;
+    assert_eq!(reports(&clues), [(1, 2), (9, 4)]);
+    assert_eq!(reports(&turned(&clues)), [(1, 4), (9, 2)]);
+}

@@ -10,6 +10,7 @@ use Rattle.cases.proofs.Full.{full-holds}
 use Rattle.cases.proofs.Claimed.{claimed-holds}
 use Rattle.cases.proofs.Entered.{entries-hold, equal-holds}
 use Rattle.cases.proofs.Recorded.{records-hold}
+use Rattle.cases.proofs.Clothed.{clothes-hold}
 
 pub cases : Cases
 cases =
@@ -30,4 +31,5 @@ cases =
       entries = entries-hold;
       equal = equal-holds;
       records = records-hold;
+      clothes = clothes-hold;
     }

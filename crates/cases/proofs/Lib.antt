@@ -12,5 +12,6 @@ pub mod Full
 pub mod Claimed
 pub mod Entered
 pub mod Recorded
+pub mod Clothed
 pub mod Cases
 pub mod Misread

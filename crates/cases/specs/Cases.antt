@@ -17,6 +17,7 @@ use Rattle.steps.specs.Calls.{Call, Outcome, nakedPairsCall, boxLineCall, xWing
 use Rattle.steps.specs.Entries.{enter, rubOut, entryAnswer, step, entry, play}
 use Rattle.steps.specs.Passes.{Kind, Claiming, removedBy}
 use Rattle.steps.specs.Singles.{Report}
+use Rattle.symmetries.specs.Changes.{changedClues, turned}
 use Rattle.board.specs.Boards.{clueCount, handed, openOf, verdictOf}
 use Rattle.board.specs.declared.Verdict.the-variants.{Dead}
 use Rattle.text.specs.Texts.{parseOf}
@@ -25,7 +26,7 @@ use Rattle.record.specs.Moves.{movedOf}
 use Rattle.record.specs.Records.{bytesIn, recordOf, readOf}
 use Rattle.card.specs.Cards.{cardOf, printed}
 use Rattle.cases.specs.Bytes.{ended, p3Text, p10Text, digitText, p2Line, p3Line, p10Card, fullCard, finishedWord, deadWord}
-use Rattle.cases.specs.Grids.{gridA, p1, p4Low, p4High, p5, exchanged, p7, p8, p10, p11, claimed}
+use Rattle.cases.specs.Grids.{gridA, p1, p4Low, p4High, p5, exchanged, p7, p8, p10, p11, claimed, clothed, twoOpen}
 
 -- the fresh masks of a grid
 abbrev pub freshMasks : List ℤ → List ℕ
@@ -206,6 +207,13 @@ pub record CaseRecords : Type 0 where
   pub onClue : readOf (1 ∷ 0 ∷ 5 ∷ 1 ∷ 0 ∷ 5 ∷ 0 ∷ 0 ∷ []) ≡ stop (RecordEntry (pos 4))
   pub onEntry : readOf (0 ∷ 1 ∷ 0 ∷ 5 ∷ 1 ∷ 0 ∷ 0 ∷ 5 ∷ []) ≡ stop (NotFresh (pos 6))
 
+-- Document 02, F-13: "Sweep counts and the order of reports may differ between the two." A grid settles in two sweeps and, with rows and columns exchanged, in three; of A with cells 1 and 9 open, 2 is reported in cell 1 before 4 in cell 9, and with rows and columns exchanged 4 before 2.
+pub record CaseClothes : Type 0 where
+  pub sweeps : onFresh settlingCall clothed .sweeps ≡ 2
+  pub turnedSweeps : onFresh settlingCall (changedClues turned clothed) .sweeps ≡ 3
+  pub reports : onFresh nakedSinglesCall twoOpen .reports ≡ record { cell = 1; digit = 2 } ∷ record { cell = 9; digit = 4 } ∷ []
+  pub turnedReports : onFresh nakedSinglesCall (changedClues turned twoOpen) .reports ≡ record { cell = 1; digit = 4 } ∷ record { cell = 9; digit = 2 } ∷ []
+
 -- The cases as a group.
 pub record Cases : Type 0 where
   pub one : Case1
@@ -224,3 +232,4 @@ pub record Cases : Type 0 where
   pub entries : CaseEntries
   pub equal : CaseEqual
   pub records : CaseRecords
+  pub clothes : CaseClothes

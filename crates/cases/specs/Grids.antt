@@ -63,3 +63,13 @@ p11 = gridOf (550000000 ∷ openRows 8)
 -- document 02, F-5: row 0 `...456789`, rest open
 unfoldable pub claimed : List ℤ
 claimed = gridOf (000456789 ∷ openRows 8)
+
+-- document 02, F-13: rows `..3.19...`, `8..36249.`, `.....8...`, `......63.`, `....9....`, `.8..2...9`, `14.......`, `5..2....4`, `.329....7`
+unfoldable pub clothed : List ℤ
+clothed =
+    gridOf
+    (003019000 ∷ 800362490 ∷ 000008000 ∷ 000000630 ∷ 000090000 ∷ 080020009 ∷ 140000000 ∷ 500200004 ∷ 032900007 ∷ [])
+
+-- A with cells 1 and 9 open
+unfoldable pub twoOpen : List ℤ
+twoOpen = set (set gridA 1 (pos 0)) 9 (pos 0)

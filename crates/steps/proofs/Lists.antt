@@ -55,7 +55,7 @@ call-leaves chainCall g m n ok a = absurd (true≢false n)
 call-leaves xChainCall g m n ok a = absurd (true≢false n)
 
 -- every call leaves masks that the next one takes
-call-admissible : (k : Call) (g m : List ℕ) → Givens g → Admissible g m → Admissible g (outcome k g m .masks)
+pub call-admissible : (k : Call) (g m : List ℕ) → Givens g → Admissible g m → Admissible g (outcome k g m .masks)
 unfolding outcome
 call-admissible updateCandidates g m ok a = fresh-admissible g
 call-admissible nakedPairsCall g m ok a = reach-admissible g (nakedPairs-reach g m ok a) a
@@ -119,7 +119,7 @@ Starts P = (g : List ℕ) → P g (fresh g)
 abbrev pub Reached : List ℕ → List ℕ → Type 0
 Reached g m = Reach g (fresh g) m
 
-board-givens : (b : Board) → Givens (givens b)
+pub board-givens : (b : Board) → Givens (givens b)
 board-givens b = clues-givens (together (b .clues) (b .entries))
 
 pub reached-admissible : {b : Board} → Good Reached b → Good Admissible b
@@ -131,7 +131,7 @@ keeping-admissible r = record { clues = r .clues; entries = r .entries; masks = 
 pub admitted-good : (b : Board) → Admitted b → Good Admissible b
 admitted-good b a = let w = admits b a in record { clues = w .0; entries = w .1; masks = w .2 }
 
-accepted : (b : Board) → Good Admissible b → checkOf b ≡ gives tt
+pub accepted : (b : Board) → Good Admissible b → checkOf b ≡ gives tt
 accepted b r = admitted b (r .clues) (r .entries) (r .masks)
 
 pub opened-good : (P : List ℕ → List ℕ → Type 0) → Starts P → (clues entries : List ℤ) → Clues clues → Entries clues entries → Good P (openedWith clues entries)
@@ -144,7 +144,7 @@ unfolding answer
 call-board P k b r p =
     subst (λ (w : Answer (Unit {0})). Good P (left b (passing w (outcome k (givens b) (b .masks))))) (sym (accepted b r)) (record { clues = r .clues; entries = r .entries; masks = p })
 
-call-admits : (k : Call) (b : Board) → Good Admissible b → Good Admissible (left b (answer k b))
+pub call-admits : (k : Call) (b : Board) → Good Admissible b → Good Admissible (left b (answer k b))
 call-admits k b r = call-board Admissible k b r (call-admissible k (givens b) (b .masks) (board-givens b) (r .masks))
 
 call-reached : (k : Call) (b : Board) → isChain k ≡ false → Good Reached b → Good Reached (left b (answer k b))

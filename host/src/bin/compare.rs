@@ -11,6 +11,7 @@ use std::io::{IsTerminal, Write};
 use std::time::{Duration, Instant};
 
 use sudoku_host::cases::{self, Case};
+use sudoku_host::clothes_cases as clothes;
 use sudoku_host::oracle::{self, SudokuCandidateSet, SudokuSolver};
 use sudoku_host::random::Random;
 use sudoku_host::record_cases as records;
@@ -50,18 +51,22 @@ struct Counts {
     canonical: u64,
     cards: u64,
     rounds: u64,
+    changed: u64,
+    sweeps: u64,
+    relabelled: u64,
 }
 
 impl std::fmt::Display for Counts {
     fn fmt(&self, out: &mut std::fmt::Formatter) -> std::fmt::Result {
         let Counts { sets, grids, texts, lists, calls, entry_calls, boards, damaged, runs, pairs, fillings, entries, .. } = self;
-        let Counts { records, bytes, moves, written, sheets, canonical, cards, rounds, .. } = self;
+        let Counts { records, bytes, moves, written, sheets, canonical, cards, rounds, changed, sweeps, relabelled, .. } = self;
         write!(out, "{sets} set calls, {grids} filled grids, {texts} texts, ")?;
         write!(out, "{lists} lists of {calls} ported calls and {entry_calls} enterings and rubbings out, ")?;
         write!(out, "{boards} boards through the wide passes, {damaged} damaged boards, {runs} runs of lists, {pairs} pairs of lists settled, ")?;
         write!(out, "{fillings} lists with enterings held to a filling, {entries} pairs of lists that leave the same entries, ")?;
         write!(out, "{records} boards written as records and read back, {bytes} damaged and random records read, {moves} old and new records moved, ")?;
-        write!(out, "{written} texts written, {sheets} sheets read, {canonical} canonical sheets written, {cards} cards, {rounds} trial rounds")
+        write!(out, "{written} texts written, {sheets} sheets read, {canonical} canonical sheets written, {cards} cards, {rounds} trial rounds, ")?;
+        write!(out, "{changed} boards settled in other clothes, {sweeps} of them in another number of sweeps, {relabelled} lists relabelled")
     }
 }
 
@@ -143,6 +148,11 @@ fn a_round(round: u64, random: &mut Random, counts: &mut Counts) -> Result<(), S
         0 => a_written_text(random, counts).and_then(|()| some_sheets(random, counts))?,
         2 => a_card(random, counts)?,
         _ => a_record(random, counts)?,
+    }
+    match round % 4 {
+        0 => a_changed_board(random, counts)?,
+        2 => a_relabelled_list(random, counts)?,
+        _ => {}
     }
     a_trial_round(random, counts)
 }
@@ -330,6 +340,20 @@ fn two_lists_of_entry_calls(random: &mut Random, counts: &mut Counts) -> Result<
     counts.entries += 1;
     sound(&case, "engine and plain", &cases::differ::<Engine, Plain>)?;
     sound(&case, "entries on the engine", &cases::entries_differ::<Engine>)
+}
+
+// ---- other clothes
+
+fn a_changed_board(random: &mut Random, counts: &mut Counts) -> Result<(), String> {
+    let case = clothes::clothes(random);
+    counts.changed += 1;
+    counts.sweeps += clothes::sweeps_apart::<Engine>(&case) as u64;
+    sound(&case, "the settled board in other clothes", &clothes::settled_apart::<Engine>)
+}
+
+fn a_relabelled_list(random: &mut Random, counts: &mut Counts) -> Result<(), String> {
+    counts.relabelled += 1;
+    sound(&clothes::relabelled(random), "a list on the relabelled board", &clothes::lists_apart::<Engine>)
 }
 
 // ---- what is written, and read from it
