@@ -1,9 +1,10 @@
 -- The check of a handed board as the code makes it: a mask beside the fresh one, and the first cells of stops 3, 8 and 9. Assumes nothing.
-use mathlib.Core.Path.{_≡_, sym, ap, ap₂, _∙_}
-use mathlib.Core.Bool.{true, false, not, and-true, and-false, or-true}
+use mathlib.Core.Path.{_≡_, refl, sym, ap, ap₂, _∙_}
+use mathlib.Core.Bool.{true, false, not, _&&_, and-true, and-false, or-true}
 use mathlib.Core.List.{List}
 use mathlib.Core.Option.{Option}
 use Prim.Native.Nat.{ℕ}
+use native.Mathlib.Decide.{ℕ-discrete}
 use borrow.Author.Tests.{eq-eqb, ne-eqb}
 use lib.Dec.{eqb}
 use lib.IntN.{ℤ, pos}
@@ -27,11 +28,12 @@ module _ (x f d : ℕ) where
   pub open-misfit : d ≡ 0 → not (eqb (minus x f) 0) ≡ misfitOf x f d
   open-misfit e = rw (eq-eqb d 0 e) (sym (ap not (and-true (eqb (minus x f) 0))))
 
-  pub same-misfit : x ≡ f → false ≡ misfitOf x f d
-  same-misfit e = rw (eq-eqb (minus x f) 0 (rw e (minus-of-sub (sub-refl f))), eq-eqb x f e) (sym (ap not (or-true (eqb d 0))))
-
-  pub clue-misfit : (d ≡ 0 → ⊥) → (x ≡ f → ⊥) → true ≡ misfitOf x f d
-  clue-misfit n m = rw (ne-eqb d 0 n, ne-eqb x f m) (sym (ap not (and-false (eqb (minus x f) 0))))
+  pub clue-misfit : (d ≡ 0 → ⊥) → not (eqb x f) ≡ misfitOf x f d
+  clue-misfit n = rw (ne-eqb d 0 n) (go (ℕ-discrete x f))
+    where
+      go : Dec (x ≡ f) → not (eqb x f) ≡ not (eqb (minus x f) 0 && eqb x f)
+      go (yes e) = rw (eq-eqb (minus x f) 0 (rw e (minus-of-sub (sub-refl f)))) refl
+      go (no m) = rw (ne-eqb x f m) (sym (ap not (and-false (eqb (minus x f) 0))))
 
 -- ---- the searches
 

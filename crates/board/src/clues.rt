@@ -5,6 +5,7 @@ ghost use Rattle.steps.specs.Boards.{digitOf, givensOf};
 ghost use Rattle.stops.specs.Answer.{checkAnswer, stopAt};
 ghost use Rattle.stops.specs.declared.Stop.the-variants.{BadClue};
 ghost use Rattle.steps.specs.Calls.{badClue, firstBadClue};
+ghost use Rattle.board.specs.code.Checks.{isFound};
 use stops::Check;
 use stops::Stop;
 
@@ -43,10 +44,26 @@ pub fn givens_of(clues: &[i32; 81]) -> [u8; 81]
     givens
 }
 
+// Whether any clue is bad. It does not end at the first, so that the compiler tests several at once; the checks for the other stops go the same way.
+fn any_bad(clues: &[i32; 81]) -> bool
+    ensures { λ r. ⌜ r ≡ isFound (firstBadClue (now (clues .entry))) ⌝ }
+{
+    let mut any = false;
+    let mut cell: usize = 0;
+    while cell < 81 {
+        any = any | is_bad(clues[cell]);
+        cell += 1;
+    }
+    any
+}
+
 // Stop 3 with its first cell.
 pub fn check_clues(clues: &[i32; 81]) -> Check
     ensures { λ r. ⌜ checkAnswer r ≡ stopAt BadClue (firstBadClue (now (clues .entry))) ⌝ }
 {
+    if !any_bad(clues) {
+        return Check::Passed;
+    }
     let mut cell: usize = 0;
     while cell < 81 {
         if is_bad(clues[cell]) {

@@ -5,11 +5,11 @@ ghost use mathlib.Core.Path.{_≡_};
 ghost use Rattle.stops.specs.Answer.{checkAnswer, passing, stopAt, then, valueOr};
 ghost use Rattle.stops.specs.declared.Stop.the-variants.{BadClue, BadEntry, BadMask};
 ghost use Rattle.grid.specs.Cells.{cells};
-ghost use Rattle.steps.specs.Boards.{givensOf};
+ghost use Rattle.steps.specs.Boards.{givensOf, together};
 ghost use Rattle.steps.specs.Calls.{answer, checkOf, firstBadClue, firstBadEntry, left, openedWith, updateCandidates};
 ghost use Rattle.board.specs.Answers.{cellMaskAnswer, countingAnswer, verdictAnswer};
 ghost use Rattle.board.specs.Boards.{boardOf, cellMask, clueCount, handed, noBoard, noClues, noMasks, openOf, openWithOf, verdictOf};
-ghost use Rattle.board.specs.code.Checks.{firstMisfit, misfitOf};
+ghost use Rattle.board.specs.code.Checks.{firstMisfit, isFound, misfitOf};
 use candidates::masks;
 use stops::Check;
 use stops::Stop;
@@ -85,19 +85,31 @@ pub enum BoardVerdict {
 fn misfits(mask: u16, fresh: u16, given: u8) -> bool
     ensures { λ r. ⌜ r ≡ misfitOf mask fresh given ⌝ }
 {
-    if mask == fresh {
-        return false;
-    }
     if given == 0 {
         return masks::lose(mask, fresh) != 0;
     }
-    true
+    mask != fresh
+}
+
+fn any_misfit(givens: &[u8; 81], fresh: &[u16; 81], masks: &[u16; 81]) -> bool
+    ensures { λ r. ⌜ r ≡ isFound (firstMisfit (now (givens .entry)) (now (fresh .entry)) (now (masks .entry))) ⌝ }
+{
+    let mut any = false;
+    let mut cell: usize = 0;
+    while cell < 81 {
+        any = any | misfits(masks[cell], fresh[cell], givens[cell]);
+        cell += 1;
+    }
+    any
 }
 
 // Stop 9 with its first cell, beside the fresh masks.
 fn check_masks(givens: &[u8; 81], fresh: &[u16; 81], masks: &[u16; 81]) -> Check
     ensures { λ r. ⌜ checkAnswer r ≡ stopAt BadMask (firstMisfit (now (givens .entry)) (now (fresh .entry)) (now (masks .entry))) ⌝ }
 {
+    if !any_misfit(givens, fresh, masks) {
+        return Check::Passed;
+    }
     let mut cell: usize = 0;
     while cell < 81 {
         if misfits(masks[cell], fresh[cell], givens[cell]) {
@@ -125,13 +137,26 @@ fn check_beside(
     stops::then(clues::check_clues(clues), later)
 }
 
-// The check of a handed board: stop 3, then stop 8, then stop 9, each with its first cell.
+// The check of a handed board whose givens are worked out already: stop 3, then stop 8, then stop 9, each with its first cell.
+pub fn check_given(
+    clues: &[i32; 81],
+    entries: &[i32; 81],
+    givens: &[u8; 81],
+    masks: &[u16; 81],
+) -> Check
+    requires { ⌜ now givens ≡ givensOf (together (now clues) (now entries)) ⌝ }
+    ensures { λ r. ⌜ checkAnswer r ≡ checkOf (handed (now (clues .entry)) (now (entries .entry)) (now (masks .entry))) ⌝ }
+{
+    let fresh = fresh::fresh_masks(givens);
+    check_beside(clues, entries, givens, &fresh, masks)
+}
+
+// The check of a handed board.
 pub fn check(clues: &[i32; 81], entries: &[i32; 81], masks: &[u16; 81]) -> Check
     ensures { λ r. ⌜ checkAnswer r ≡ checkOf (handed (now (clues .entry)) (now (entries .entry)) (now (masks .entry))) ⌝ }
 {
     let givens = entries::givens_of(clues, entries);
-    let fresh = fresh::fresh_masks(&givens);
-    check_beside(clues, entries, &givens, &fresh, masks)
+    check_given(clues, entries, &givens, masks)
 }
 
 // How many cells have a clue.

@@ -2,3 +2,4 @@ pub mod StepNumbers
 pub mod Replays
 pub mod Demand3
 pub mod Verdicts
+pub mod code

@@ -1,15 +1,21 @@
 // Lists of step numbers: the first byte that is none, and a list run from a board.
 ghost use mathlib.Core.Path.{_≡_};
-ghost use Rattle.steps.specs.Calls.{run};
+ghost use Rattle.steps.specs.Calls.{Admitted, run};
 ghost use Rattle.board.specs.Answers.{foundCell};
 ghost use Rattle.board.specs.Boards.{boardOf, noBoard};
 ghost use Rattle.calls.specs.Replays.{callsOf, firstNoStep};
 ghost use Rattle.calls.specs.StepNumbers.{isStep};
+ghost use Rattle.calls.specs.code.Unchecked.{stepMasks};
 use crate::Replayed;
 use crate::Replaying;
-use crate::step;
 use board::Board;
 use board::Found;
+use board::entries::givens_of;
+use board::fresh::fresh_masks;
+use eliminations::Elimination;
+use eliminations::eliminate;
+use passes::settle;
+use techniques::advance;
 
 // Steps are numbered from 0.
 const STEPS: u8 = 16;
@@ -34,19 +40,54 @@ pub fn first_no_step(steps: &[u8]) -> Found
     Found::Nothing
 }
 
-// The steps one after the other, each on the board that the last handed back.
+// What a step leaves of masks that its check would admit; singles leave them as they are, and so does a number that is no step's.
+fn step_masks(number: u8, givens: &[u8; 81], masks: &mut [u16; 81])
+    ensures { λ _. ⌜ now (masks .exit) ≡ stepMasks number (now (givens .entry)) (now (masks .entry)) ⌝ }
+{
+    match number {
+        0 => *masks = fresh_masks(givens),
+        1 => eliminate(Elimination::NakedPairs, givens, masks),
+        2 => eliminate(Elimination::BoxLine, givens, masks),
+        3 => eliminate(Elimination::XWing, givens, masks),
+        4 => {}
+        5 => {}
+        6 => {
+            advance(givens, masks);
+        }
+        7 => eliminate(Elimination::Lone, givens, masks),
+        8 => eliminate(Elimination::Place, givens, masks),
+        9 => eliminate(Elimination::Pair, givens, masks),
+        10 => eliminate(Elimination::Pointing, givens, masks),
+        11 => eliminate(Elimination::Cross, givens, masks),
+        12 => {
+            settle(givens, masks);
+        }
+        13 => eliminate(Elimination::Chains, givens, masks),
+        14 => eliminate(Elimination::Claiming, givens, masks),
+        15 => eliminate(Elimination::XChains, givens, masks),
+        _ => {}
+    }
+}
+
+// The steps one after the other, each on the masks that the last left. No step can be refused on the way, so none checks its board.
 pub fn run(steps: &[u8], opened: Board) -> Board
+    requires { ⌜ Admitted (boardOf opened) ⌝ }
     ensures { λ r. ⌜ boardOf r ≡ run (callsOf (now (steps .entry))) (boardOf opened) ⌝ }
 {
-    let mut board = opened;
+    let clues = opened.clues;
+    let entries = opened.entries;
+    let mut masks = opened.masks;
+    let givens = givens_of(&clues, &entries);
     let mut index = 0;
     while index < steps.len() {
-        let done = step(steps[index], board);
-        let next = done.board;
-        board = next;
+        step_masks(steps[index], &givens, &mut masks);
         index += 1;
     }
-    board
+    Board {
+        clues,
+        entries,
+        masks,
+    }
 }
 
 // Zeros beside the answer.

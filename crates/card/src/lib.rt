@@ -12,7 +12,6 @@ use board::fresh::fresh_masks;
 use board::verdicts::verdict_of;
 use layout::Card;
 use layout::card_lines;
-use layout::copy_out;
 use layout::refusal_lines;
 use passes::settle;
 use stops::Check;
@@ -65,7 +64,8 @@ pub fn write_card(input: &[u8], out: &mut [u8; 256]) -> Writing
         return stops::written(answer, 0);
     };
     let clues = parsed.clues;
-    Writing::Written(copy_out(card_lines(card_of(&clues)), out))
+    let card = card_of(&clues);
+    Writing::Written(card_lines(out, card))
 }
 
 // The line of a refusal, in the first lent bytes, and how many it has; none for an answer that is no refusal.
@@ -73,7 +73,7 @@ pub fn write_refusal(answer: Writing, out: &mut [u8; 256]) -> usize
     ensures { λ r. ⌜ (r ≡ length (refusalLine (writingAnswer answer))) × (now (out .exit) ≡ over (refusalLine (writingAnswer answer)) (now (out .entry))) × (r ≤ 256) ⌝ }
 {
     match answer {
-        Writing::Refused(stop) => copy_out(refusal_lines(stop), out),
+        Writing::Refused(stop) => refusal_lines(out, stop),
         Writing::Written(_) => 0,
     }
 }

@@ -1,72 +1,57 @@
-// Lines of bytes with room for 256, more than any card or refusal has: words, numbers in decimal and cells, one after the other.
+// Bytes after those that are written: `at` is how many these are, and what is handed back how many there are then. Words, numbers in decimal and cells.
 ghost use mathlib.Core.Path.{_≡_};
-ghost use mathlib.Core.List.{[]};
 ghost use Rattle.output.specs.Decimals.{decimal};
 ghost use Rattle.card.specs.Layout.{cellByte, gridBytes, signed};
-ghost use Rattle.card.specs.code.Lines.{linesOf, pushed, append};
+ghost use Rattle.output.specs.code.Tapes.{tape, pushed, append};
 use candidates::SingleCandidate;
 use candidates::SudokuCandidateSet;
 
-// The bytes of lines, the first first, and how many; unused ones are 0.
-pub struct Lines {
-    pub bytes: [u8; 256],
-    pub count: usize,
-}
+// Room for any card and any refusal.
+pub type Lines = [u8; 256];
 
-impl Lines {
-    pub fn new() -> Self
-        ensures { λ r. ⌜ r ≡ linesOf [] ⌝ }
-    {
-        Self {
-            bytes: [0u8; 256],
-            count: 0,
-        }
-    }
-
-    // One more byte; full lines stay as they are.
-    pub fn push(mut self, byte: u8) -> Self
-        ensures { λ r. ⌜ r ≡ pushed self byte ⌝ }
-    {
-        let at = self.count;
-        if at < 256 {
-            self.bytes[at] = byte;
-            self.count = at + 1;
-        }
-        self
-    }
-}
-
-pub fn push_word(lines: Lines, word: &[u8]) -> Lines
-    ensures { λ r. ⌜ r ≡ append (now (word .entry)) lines ⌝ }
+// One more byte; full lines stay as they are.
+pub fn push(lines: &mut Lines, at: usize, byte: u8) -> usize
+    ensures { λ r. ⌜ tape (now (lines .exit)) r ≡ pushed 256 (tape (now (lines .entry)) at) byte ⌝ }
 {
-    let mut longer = lines;
+    if at < 256 {
+        lines[at] = byte;
+        return at + 1;
+    }
+    at
+}
+
+pub fn push_word(lines: &mut Lines, at: usize, word: &[u8]) -> usize
+    ensures { λ r. ⌜ tape (now (lines .exit)) r ≡ append 256 (now (word .entry)) (tape (now (lines .entry)) at) ⌝ }
+{
+    let mut end = at;
     let mut i: usize = 0;
     while i < word.len() {
-        let next = longer.push(word[i]);
-        longer = next;
+        end = push(lines, end, word[i]);
         i += 1;
     }
-    longer
+    end
 }
 
 // A number in decimal: what stands before its last digit, and that digit.
-pub fn push_number(lines: Lines, n: usize) -> Lines
-    ensures { λ r. ⌜ r ≡ append (decimal n) lines ⌝ }
+pub fn push_number(lines: &mut Lines, at: usize, n: usize) -> usize
+    ensures { λ r. ⌜ tape (now (lines .exit)) r ≡ append 256 (decimal n) (tape (now (lines .entry)) at) ⌝ }
 {
     if n < 10 {
-        return lines.push(b'0' + n as u8);
+        return push(lines, at, b'0' + n as u8);
     }
-    push_number(lines, n / 10).push(b'0' + (n % 10) as u8)
+    let end = push_number(lines, at, n / 10);
+    push(lines, end, b'0' + (n % 10) as u8)
 }
 
 // A number with its sign.
-pub fn push_signed(lines: Lines, z: i64) -> Lines
-    ensures { λ r. ⌜ r ≡ append (signed z) lines ⌝ }
+pub fn push_signed(lines: &mut Lines, at: usize, z: i64) -> usize
+    ensures { λ r. ⌜ tape (now (lines .exit)) r ≡ append 256 (signed z) (tape (now (lines .entry)) at) ⌝ }
 {
     if z < 0 {
-        return push_number(lines.push(b'-'), (-1 - z) as usize + 1);
+        let sign = push(lines, at, b'-');
+        return push_number(lines, sign, (-1 - z) as usize + 1);
     }
-    push_number(lines, z as usize)
+    push_number(lines, at, z as usize)
 }
 
 // A cell's only digit, `!` where it has no candidate, else `.`.
@@ -81,15 +66,14 @@ fn cell_byte(mask: u16) -> u8
 }
 
 // The cells of a grid, rising.
-pub fn push_grid(lines: Lines, masks: &[u16; 81]) -> Lines
-    ensures { λ r. ⌜ r ≡ append (gridBytes (now (masks .entry))) lines ⌝ }
+pub fn push_grid(lines: &mut Lines, at: usize, masks: &[u16; 81]) -> usize
+    ensures { λ r. ⌜ tape (now (lines .exit)) r ≡ append 256 (gridBytes (now (masks .entry))) (tape (now (lines .entry)) at) ⌝ }
 {
-    let mut longer = lines;
+    let mut end = at;
     let mut cell: usize = 0;
     while cell < 81 {
-        let next = longer.push(cell_byte(masks[cell]));
-        longer = next;
+        end = push(lines, end, cell_byte(masks[cell]));
         cell += 1;
     }
-    longer
+    end
 }

@@ -76,7 +76,7 @@ module _ (u k : ℕ) (hu : u < 27) (hk : k < meetings u) where
   unfolding unit units meetings metPlaces metUnit boxUnit lineUnit agree
   on-met i h = agreed (has (metPlaces k) i) (inUnit (metUnit u k) (unitCell u i)) (tested (λ u k i. agree (has (metPlaces k) i) (inUnit (metUnit u k) (unitCell u i))) tt i h)
 
-  off-met : (i : ℕ) → i < 9 → has (outside u k) i ≡ not (inUnit u (unitCell (metUnit u k) i))
+  pub off-met : (i : ℕ) → i < 9 → has (outside u k) i ≡ not (inUnit u (unitCell (metUnit u k) i))
   unfolding unit units meetings metPlaces metBack outside metUnit boxUnit lineUnit agree
   off-met i h =
       agreed (has (outside u k) i) (not (inUnit u (unitCell (metUnit u k) i)))

@@ -1,6 +1,8 @@
 // The givens and masks of a board as lent arrays: reading cells, and losing digits in place. The passes are loops over these.
 // Every function is total: a number above 80 is no cell, has no candidate and is not open.
 ghost use mathlib.Core.Path.{_≡_};
+ghost use mathlib.Core.Bool.{not};
+ghost use lib.Dec.{eqb};
 ghost use Rattle.steps.specs.Boards.{isOpen, total};
 ghost use Rattle.steps.specs.Passes.{changed};
 ghost use Rattle.cells.specs.code.Places.{maskAt, openAt, loseIn, losePlaces, openMask, unitMasks, allMasks, spotsIn, heldPlaces, lineSpots, allBut};
@@ -135,29 +137,34 @@ pub fn all_but(first: usize, second: usize) -> u16
     masks::lose_digit(masks::lose_digit(511, first), second)
 }
 
-// Whether any mask differs: "whether it removed anything", once a pass is over.
+fn differ(mask: u16, other: u16) -> bool
+    ensures { λ r. ⌜ r ≡ not (eqb mask other) ⌝ }
+{
+    mask != other
+}
+
+// Whether any mask differs: "whether it removed anything", once a pass is over. All are compared, with no early end, so that the compiler compares many at once.
 pub fn changed(before: [u16; 81], after: [u16; 81]) -> bool
     ensures { λ r. ⌜ r ≡ changed before after ⌝ }
 {
+    let mut any = false;
     let mut cell: usize = 0;
     while cell < 81 {
-        if before[cell] != after[cell] {
-            return true;
-        }
+        any = any | differ(before[cell], after[cell]);
         cell += 1;
     }
-    false
+    any
 }
 
-// How many candidates there are in all.
+// How many candidates there are in all, summed as wide as the masks are, so that the compiler counts many at once.
 pub fn total(masks: [u16; 81]) -> usize
     ensures { λ r. ⌜ r ≡ total masks ⌝ }
 {
-    let mut sum: usize = 0;
+    let mut sum: u16 = 0;
     let mut cell: usize = 0;
     while cell < 81 {
-        sum += masks::digit_count(masks[cell]);
+        sum += masks::digit_count(masks[cell]) as u16;
         cell += 1;
     }
-    sum
+    sum as usize
 }

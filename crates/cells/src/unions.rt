@@ -1,13 +1,9 @@
 // Unions of nine masks: what they hold, what two of them hold, and what those hold that have more than one digit.
 ghost use mathlib.Core.Path.{_≡_};
 ghost use mathlib.Core.Bool.{cond};
-ghost use Prim.Native.Nat.{_<_};
 ghost use Rattle.candidates.specs.Masks.{has};
-ghost use Rattle.grid.specs.Units as definitions;
-ghost use Rattle.cells.specs.code.Places.{allMasks};
-ghost use Rattle.cells.specs.code.Unions.{joined, joinedAt, sharedOf, sharedSets, severalIn, severalOf};
+ghost use Rattle.cells.specs.code.Unions.{joined, joinedAt, sharedOf, severalIn, severalOf};
 use candidates::masks;
-use grid::unit_table;
 
 pub fn join_all(nine: &[u16; 9]) -> u16
     ensures { λ r. ⌜ r ≡ joined (now (nine .entry)) ⌝ }
@@ -57,36 +53,6 @@ pub fn shared(nine: &[u16; 9]) -> u16
         place += 1;
     }
     both
-}
-
-// The masks of the unit's cells, clue cells too, by place. `units` is the unit table.
-fn listed_masks(units: &[[u8; 9]; 27], masks: &[u16; 81], unit: usize) -> [u16; 9]
-    requires { ⌜ (unit < 27) × (now units ≡ definitions.units) ⌝ }
-    ensures { λ r. ⌜ r ≡ allMasks (now (masks .entry)) unit ⌝ }
-{
-    let cells = units[unit];
-    let mut nine = [0u16; 9];
-    let mut place: usize = 0;
-    while place < 9 {
-        nine[place] = masks[cells[place] as usize];
-        place += 1;
-    }
-    nine
-}
-
-// The digits that two or more cells of each unit hold. All units are met, so their cells are read off the table, taken once.
-pub fn shared_sets(masks: &[u16; 81]) -> [u16; 27]
-    ensures { λ r. ⌜ r ≡ sharedSets (now (masks .entry)) ⌝ }
-{
-    let units = unit_table();
-    let mut sets = [0u16; 27];
-    let mut unit: usize = 0;
-    while unit < 27 {
-        let nine = listed_masks(&units, masks, unit);
-        sets[unit] = shared(&nine);
-        unit += 1;
-    }
-    sets
 }
 
 // A mask, or none if it has one digit.

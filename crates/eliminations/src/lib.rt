@@ -7,7 +7,7 @@ ghost use Rattle.board.specs.Boards.{boardOf};
 ghost use Rattle.eliminations.specs.Eliminations.{Eliminates};
 ghost use Rattle.eliminations.specs.code.Calls.{callOf};
 use board::Board;
-use board::check;
+use board::check_given;
 use board::entries::givens_of;
 use cells::changed;
 use chains::chains;
@@ -30,7 +30,8 @@ pub struct Eliminated {
     pub board: Board,
 }
 
-enum Elimination {
+// The calls that remove candidates.
+pub enum Elimination {
     NakedPairs,
     BoxLine,
     XWing,
@@ -44,7 +45,8 @@ enum Elimination {
     XChains,
 }
 
-fn eliminate(elimination: Elimination, givens: &[u8; 81], masks: &mut [u16; 81])
+// What such a call leaves, over lent masks that are not checked.
+pub fn eliminate(elimination: Elimination, givens: &[u8; 81], masks: &mut [u16; 81])
     ensures { λ _. ⌜ now (masks .exit) ≡ outcome (callOf elimination) (now (givens .entry)) (now (masks .entry)) .masks ⌝ }
 {
     match elimination {
@@ -69,7 +71,8 @@ fn apply(elimination: Elimination, board: Board) -> Eliminated
     let entries = board.entries;
     let before = board.masks;
     let mut masks = board.masks;
-    match check(&clues, &entries, &before) {
+    let givens = givens_of(&clues, &entries);
+    match check_given(&clues, &entries, &givens, &before) {
         Check::Refused(stop) => Eliminated {
             answer: Progress::Refused(stop),
             board: Board {
@@ -79,7 +82,7 @@ fn apply(elimination: Elimination, board: Board) -> Eliminated
             },
         },
         Check::Passed => {
-            eliminate(elimination, &givens_of(&clues, &entries), &mut masks);
+            eliminate(elimination, &givens, &mut masks);
             Eliminated {
                 answer: Progress::Made(changed(before, masks)),
                 board: Board {

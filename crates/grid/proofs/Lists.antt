@@ -30,12 +30,6 @@ place-mem [] d i h = absurd (not-suc-le-zero h)
 place-mem (x ∷ xs) d zero h = List·Memᴰ·head refl
 place-mem (x ∷ xs) d (suc i) h = List·Memᴰ·tail (place-mem xs d i (le-of-suc-le-suc h))
 
--- past which number a list is read does not matter inside it
-pub getD-any {ℓ} : {A : Type ℓ} (l : List A) (i : ℕ) (d e : A) → i < length l → getD l i d ≡ getD l i e
-getD-any [] i d e h = absurd (not-suc-le-zero h)
-getD-any (x ∷ xs) zero d e h = refl
-getD-any (x ∷ xs) (suc i) d e h = getD-any xs i d e (le-of-suc-le-suc h)
-
 -- ---- ranges and selections
 
 at-range {ℓ} : {A : Type ℓ} (f : ℕ → A) (z : A) (n k i : ℕ) → i < n → getD (map f (range n k)) i z ≡ f (k + i)

@@ -3,7 +3,6 @@ use mathlib.Core.Path.{_≡_, sym, ap, _∙_, subst}
 use mathlib.Core.Logic.{_↔_}
 use mathlib.Core.List.{List, [], List·Memᴰ}
 use Prim.Native.Nat.{ℕ, _<_}
-use native.Mathlib.Omega.{arith}
 use lib.Dec.{ltb, ltb→lt}
 use lib.ListN.{length, getD}
 use Rattle.candidates.proofs.Tests.{allBelow, below, below-both}
@@ -11,19 +10,11 @@ use Rattle.grid.specs.Cells.{cells, peers, peerTable}
 use Rattle.grid.specs.Units.{ShareUnit}
 use Rattle.grid.specs.PeerRows.{PeerRows}
 use Rattle.grid.proofs.Cells.{at-cells, cells-size, twenty, peer-sees, sees-peer, sees-shared, shared-sees}
-use Rattle.grid.proofs.Lists.{place-mem}
 use Rattle.grid.proofs.Units.{member-below}
 
 pub peer-row : (c : ℕ) → c < 81 → getD peerTable c [] ≡ peers c
 unfolding peerTable
 peer-row c h = at-cells [] peers c h
-
--- a row of a lent table, and a cell of it
-pub lent-row : {table : List (List ℕ)} (c : ℕ) → table ≡ peerTable → c < 81 → getD table c [] ≡ peers c
-lent-row c e h = ap (λ (t : List (List ℕ)). getD t c []) e ∙ peer-row c h
-
-pub peer-below : (c i : ℕ) → c < 81 → i < 20 → getD (peers c) i 0 < 81
-peer-below c i h k = peer-sees c (getD (peers c) i 0) (place-mem (peers c) 0 i (omega (arith, twenty c h))) .0
 
 peers-rise : (c i j : ℕ) → c < 81 → i < j → j < 20 → getD (peers c) i 0 < getD (peers c) j 0
 unfolding peers cells

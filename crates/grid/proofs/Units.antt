@@ -13,7 +13,7 @@ use lib.ListN.{length, getD, List·getD-eq-default}
 use Rattle.grid.specs.Lists.{range, select}
 use Rattle.grid.specs.Cells.{row, col, box, cells}
 use Rattle.grid.specs.Units.{units, unit, unitCell, inUnit, Member}
-use Rattle.grid.proofs.Lists.{getD-any, at-upTo, mem-place, place-mem}
+use Rattle.grid.proofs.Lists.{at-upTo, mem-place, place-mem}
 use Rattle.candidates.proofs.Tests.{allBelow, below, below-both, implies, implied, T-true, cond-true, cond-false}
 
 -- ---- a unit is the list of the cells that the rule names
@@ -65,15 +65,6 @@ module _ (u i : ℕ) (l : i < 9) where
 
 pub past-cell : (u i : ℕ) → 27 ≤ u → 81 ≡ unitCell u i
 past-cell u i h = sym (ap (λ (l : List ℕ). getD l i 81) (past-table u h))
-
--- a row of the table, as an array holds it
-pub table-cell : (u i : ℕ) → u < 27 → i < 9 → getD (unit u) i 0 ≡ unitCell u i
-table-cell u i h k = getD-any (unit u) i 0 81 (omega (arith, unit-length u h))
-
--- and of a table that is lent
-pub lent-cell : {table : List (List ℕ)} (u i : ℕ) → table ≡ units → u < 27 → i < 9 → getD (getD table u []) i 0 ≡ unitCell u i
-unfolding unit
-lent-cell u i e h k = ap (λ (t : List (List ℕ)). getD (getD t u []) i 0) e ∙ table-cell u i h k
 
 -- ---- places: where in a unit a cell of it stands
 

@@ -27,7 +27,7 @@ use Rattle.record.specs.declared.forms.Form.the-variants.{New}
 use Rattle.record.specs.Moves.{other, movable, movedOf, moveOf}
 use Rattle.record.specs.Records as R
 use Rattle.record.specs.Records.{bytesIn, recordOf, writeIn}
-use Rattle.record.proofs.Writing.{record-few}
+use Rattle.record.proofs.Rooms.{record-few}
 use Rattle.card.specs.Cards.{cardBytes, cardFor, cardOf, textIn}
 use Rattle.card.proofs.Cards.{read-short}
 use Rattle.calls.specs.Replays.{Run, callsOf, firstNoStep, replayOf, runOr}

@@ -1,2 +1,4 @@
 pub mod LockedTurns
 pub mod LockedDue
+pub mod RestTable
+pub mod RestDue

@@ -1,19 +1,22 @@
 // Pointing and Claiming, two of the wide passes (module 8; document 02, F-5), over lent givens and masks. Nothing is asked of either: the contracts hold for any of them.
 // Both are one step over a unit and those that meet it: Pointing a box and its six lines, Claiming a line and its three boxes.
 ghost use mathlib.Core.Path.{_≡_};
-ghost use Prim.Native.Nat.{_-_, _<_, _≤_};
+ghost use mathlib.Core.Bool.{Bool};
+ghost use Prim.Native.Nat.{_-_, _<_};
 ghost use Rattle.steps.specs.Loops.{each, range};
 ghost use Rattle.steps.specs.Passes.{pass, Pointing, Claiming};
-ghost use Rattle.locked.specs.code.Locked.{lockedDigit, lockedUnit, dueOn, dueAmong, unitDue};
+ghost use Rattle.lanes.specs.code.Lanes.{InLanes, laid};
+ghost use Rattle.locked.specs.code.Locked.{lockedDigit, lockedUnit, DigitSkips, BoxesOrLines};
+
+mod rests;
+
 use candidates::masks;
-use cells::all_masks;
 use cells::held_places;
 use cells::meets::lose_boxes;
 use cells::meets::lose_lines;
-use cells::meets::met_places;
-use cells::meets::met_unit;
-use cells::meets::outside;
-use cells::unions::join_places;
+use lanes::doors;
+use lanes::lanes_of;
+use lanes::lay;
 
 // The instances of a digit. None of them changes which places of the unit hold it.
 fn locked_digit(givens: &[u8; 81], masks: &mut [u16; 81], unit: usize, digit: usize)
@@ -28,63 +31,11 @@ fn locked_digit(givens: &[u8; 81], masks: &mut [u16; 81], unit: usize, digit: us
     }
 }
 
-// The digits that the nth unit that meets this one holds outside it, and this one in that alone; `nine` are this one's masks.
-fn due_on(masks: &[u16; 81], nine: &[u16; 9], unit: usize, nth: usize) -> u16
-    ensures { λ r. ⌜ r ≡ dueOn (now (masks .entry)) (now (nine .entry)) unit nth ⌝ }
-{
-    let off = join_places(nine, masks::lose(511, met_places(nth)));
-    let across = all_masks(masks, met_unit(unit, nth));
-    let out = join_places(&across, outside(unit, nth));
-    masks::lose(out, off)
-}
-
-// The same for all six lines of a box.
-fn due_lines(masks: &[u16; 81], unit: usize) -> u16
-    ensures { λ r. ⌜ r ≡ dueAmong (now (masks .entry)) unit 6 ⌝ }
-{
-    let nine = all_masks(masks, unit);
-    let mut due: u16 = 0;
-    let mut nth: usize = 0;
-    while nth < 6 {
-        due = masks::join(due, due_on(masks, &nine, unit, nth));
-        nth += 1;
-    }
-    due
-}
-
-// The same for all three boxes of a line. A loop of its own, so that the compiler knows how often it turns.
-fn due_boxes(masks: &[u16; 81], unit: usize) -> u16
-    ensures { λ r. ⌜ r ≡ dueAmong (now (masks .entry)) unit 3 ⌝ }
-{
-    let nine = all_masks(masks, unit);
-    let mut due: u16 = 0;
-    let mut nth: usize = 0;
-    while nth < 3 {
-        due = masks::join(due, due_on(masks, &nine, unit, nth));
-        nth += 1;
-    }
-    due
-}
-
-// The digits of a unit whose instances may lose anything.
-fn due_digits(masks: &[u16; 81], unit: usize) -> u16
-    ensures { λ r. ⌜ r ≡ unitDue (now (masks .entry)) unit ⌝ }
-{
-    if unit < 18 {
-        return due_boxes(masks, unit);
-    }
-    due_lines(masks, unit)
-}
-
-// The instances of a unit. Those of a digit are passed over where none of them loses anything; which digits these are is asked once, since the instances of a digit change no other.
-fn locked_unit(givens: &[u8; 81], masks: &mut [u16; 81], unit: usize)
-    requires { ⌜ unit < 27 ⌝ }
+// The due instances of a unit. Which digits are due is asked once, since the instances of a digit change no other.
+fn locked_unit(givens: &[u8; 81], masks: &mut [u16; 81], unit: usize, due: u16)
+    requires { ⌜ (unit < 27) × DigitSkips (now givens) (now masks) unit due ⌝ }
     ensures { λ _. ⌜ now (masks .exit) ≡ lockedUnit (now (givens .entry)) unit (now (masks .entry)) ⌝ }
 {
-    let due = due_digits(masks, unit);
-    if masks::is_none(due) {
-        return;
-    }
     let mut digit: usize = 0;
     while digit < 9 {
         if masks::has_digit(due, digit) {
@@ -94,28 +45,76 @@ fn locked_unit(givens: &[u8; 81], masks: &mut [u16; 81], unit: usize)
     }
 }
 
-// The instances of the units from the first to before the end.
-fn locked_units(givens: &[u8; 81], masks: &mut [u16; 81], first: usize, end: usize)
-    requires { ⌜ (first ≤ end) × (end ≤ 27) ⌝ }
+// The instances of the units from the first to before the end, which are boxes or lines. A unit of which nothing is due is passed over; a loss at one may make others due.
+fn locked_lanes(
+    givens: &[u8; 81],
+    masks: &mut [u16; 81],
+    doors: &[u16; 432],
+    lanes: &mut [u16; 432],
+    first: usize,
+    end: usize,
+    boxes: bool,
+)
+    requires { ⌜ InLanes (now givens) (now masks) (now doors) (now lanes) × BoxesOrLines first end boxes ⌝ }
     ensures { λ _. ⌜ now (masks .exit) ≡ each (lockedUnit (now (givens .entry))) (range (end - first) first) (now (masks .entry)) ⌝ }
+    ensures { λ _. ⌜ now (lanes .exit) ≡ laid (now (masks .exit)) ⌝ }
 {
+    let mut rests = [0u16; 288];
+    rests::put_rests(lanes, doors, &mut rests, boxes);
     let mut unit = first;
     while unit < end {
-        locked_unit(givens, masks, unit);
+        let due = rests::due_digits(&rests, unit);
+        if due != 0 {
+            locked_unit(givens, masks, unit, due);
+            lay(masks, lanes);
+            rests::put_rests(lanes, doors, &mut rests, boxes);
+        }
         unit += 1;
     }
+}
+
+// Pointing, where the masks and the doors of the givens stand in lanes too.
+pub fn pointing_lanes(
+    givens: &[u8; 81],
+    masks: &mut [u16; 81],
+    doors: &[u16; 432],
+    lanes: &mut [u16; 432],
+)
+    requires { ⌜ InLanes (now givens) (now masks) (now doors) (now lanes) ⌝ }
+    ensures { λ _. ⌜ now (masks .exit) ≡ pass (now (givens .entry)) Pointing (now (masks .entry)) ⌝ }
+    ensures { λ _. ⌜ now (lanes .exit) ≡ laid (now (masks .exit)) ⌝ }
+{
+    locked_lanes(givens, masks, doors, lanes, 18, 27, true);
+}
+
+// Claiming, likewise.
+pub fn claiming_lanes(
+    givens: &[u8; 81],
+    masks: &mut [u16; 81],
+    doors: &[u16; 432],
+    lanes: &mut [u16; 432],
+)
+    requires { ⌜ InLanes (now givens) (now masks) (now doors) (now lanes) ⌝ }
+    ensures { λ _. ⌜ now (masks .exit) ≡ pass (now (givens .entry)) Claiming (now (masks .entry)) ⌝ }
+    ensures { λ _. ⌜ now (lanes .exit) ≡ laid (now (masks .exit)) ⌝ }
+{
+    locked_lanes(givens, masks, doors, lanes, 0, 18, false);
 }
 
 // Pointing: all cells of a box that hold d are on one line: the line's cells outside the box lose d.
 pub fn pointing(givens: &[u8; 81], masks: &mut [u16; 81])
     ensures { λ _. ⌜ now (masks .exit) ≡ pass (now (givens .entry)) Pointing (now (masks .entry)) ⌝ }
 {
-    locked_units(givens, masks, 18, 27);
+    let doors = lanes_of(&doors(givens));
+    let mut lanes = lanes_of(masks);
+    pointing_lanes(givens, masks, &doors, &mut lanes);
 }
 
 // Claiming: all cells of a row or column that hold d are in one box: the other cells of that box lose d.
 pub fn claiming(givens: &[u8; 81], masks: &mut [u16; 81])
     ensures { λ _. ⌜ now (masks .exit) ≡ pass (now (givens .entry)) Claiming (now (masks .entry)) ⌝ }
 {
-    locked_units(givens, masks, 0, 18);
+    let doors = lanes_of(&doors(givens));
+    let mut lanes = lanes_of(masks);
+    claiming_lanes(givens, masks, &doors, &mut lanes);
 }

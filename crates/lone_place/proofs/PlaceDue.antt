@@ -11,10 +11,11 @@ use lib.Dec.{eqb}
 use Rattle.candidates.specs.Masks.{has, minus, count, single}
 use Rattle.candidates.proofs.Counts.{count-zero, and-except}
 use Rattle.candidates.proofs.FewDigits.{count-without}
-use Rattle.candidates.proofs.Held.{Held, has-minus, held-power, held-sub}
+use Rattle.candidates.proofs.Held.{Held, none-held, has-minus, held-minus, held-power, held-sub, held-all, held-ext}
 use Rattle.candidates.proofs.Order.{apart-sub, sub-of-minus}
 use Rattle.candidates.proofs.Tests.{by-test, cond-false}
 use Rattle.grid.specs.Units.{unitCell}
+use Rattle.grid.proofs.Lists.{at-upTo}
 use Rattle.steps.specs.Boards.{at, isOpen}
 use Rattle.steps.specs.Loops.{upTo}
 use Rattle.steps.specs.Steps.{loseAt}
@@ -24,15 +25,23 @@ use Rattle.cells.specs.code.Places.{allMasks, heldPlaces}
 use Rattle.cells.specs.code.Unions.{joined, sharedOf, severalOf}
 use Rattle.cells.proofs.Places.{all-mask}
 use Rattle.cells.proofs.HeldPlaces.{has-held}
-use Rattle.cells.proofs.NineBits.{has-except}
+use Rattle.cells.proofs.NineBits.{has-except, held-meet}
 use Rattle.cells.proofs.Shared.{Twice, shared-twice, joined-held, several-not}
+use Rattle.lanes.specs.code.Lanes.{nines}
 use Rattle.lone_place.specs.code.Turns.{placeTurn, placeDigit}
 use Rattle.lone_place.specs.code.Due.{dueOf}
 use Rattle.lone_place.proofs.PlaceTurns.{place-digit}
 
 -- ---- what is not due
 
+nines-at : (masks : List ℕ) (l : ℕ) → l < 9 → at (nines masks) l ≡ bitAnd (at masks l) 511
+unfolding nines
+nines-at masks l h = at-upTo (λ i. bitAnd (at masks i) 511) 0 9 l h
+
 module _ (nine : List ℕ) (d : ℕ) (l : d < 9) where
+  pub held-nine : (i : ℕ) → i < 9 → Held (at nine i) d → Held (at (nines nine) i) d
+  held-nine i n t = subst (λ (x : ℕ). Held x d) (sym (nines-at nine i n)) (held-meet (at nine i) 511 d .1 (t, held-all d l))
+
   cases : has (dueOf nine) d ≡ false → Held (sharedOf nine) d ⊎ (Held (joined nine) d × (Held (severalOf nine) d → ⊥))
   unfolding dueOf
   cases t = go (has (sharedOf nine) d) (has (joined nine) d) (has (severalOf nine) d) refl refl refl (sym says ∙ t)
@@ -82,7 +91,8 @@ module _ (g m : List ℕ) (u d : ℕ) (h : u < 27) (l : d < 9) where
       (sub-of-minus x (single d) (count-zero (minus x (single d)) (omega (arith, count-without x d t))))
       (and-except (single d))
 
-  alone-idle : (i : ℕ) → i < 9 → Held (at (allMasks m u) i) d → ((j : ℕ) → j < 9 → Held (at (allMasks m u) j) d → count (at (allMasks m u) j) ≡ 1) → placeDigit g u d m ≡ m
+  -- cells that hold d and lose nothing to it
+  alone-idle : (i : ℕ) → i < 9 → Held (at (allMasks m u) i) d → ((j : ℕ) → j < 9 → Held (at (allMasks m u) j) d → bitAnd (at (allMasks m u) j) (minus 511 (single d)) ≡ 0) → placeDigit g u d m ≡ m
   alone-idle i o t one =
       place-digit g u d h l m
       ∙ each-idle (placeTurn g u d (heldPlaces m u d)) (upTo 9) m
@@ -93,10 +103,40 @@ module _ (g m : List ℕ) (u d : ℕ) (h : u < 27) (l : d < 9) where
       none : (k : ℕ) → k < 9 → minus (heldPlaces m u d) (single k) ≡ 0 → bitAnd (at m (unitCell u k)) (minus 511 (single d)) ≡ 0
       none k n e =
           let q : Held (at (allMasks m u) k) d = subst (λ (j : ℕ). Held (at (allMasks m u) j) d) (alone k i n o e t) t in
-          subst (λ (x : ℕ). bitAnd x (minus 511 (single d)) ≡ 0) (all-mask m u k h n) (only-digit (at (allMasks m u) k) q (one k n q))
+          subst (λ (x : ℕ). bitAnd x (minus 511 (single d)) ≡ 0) (all-mask m u k h n) (one k n q)
 
   pub not-due : has (dueOf (allMasks m u)) d ≡ false → placeDigit g u d m ≡ m
   not-due t =
       ⊎-elim (λ s. twice-idle (shared-twice (allMasks m u) d s))
-      (λ p. let w = joined-held (allMasks m u) d (p .0) in alone-idle (w .0) (w .1) (w .2) (several-not (allMasks m u) d (p .1)))
+      (λ p. let w = joined-held (allMasks m u) d (p .0) in alone-idle (w .0) (w .1) (w .2) (λ j o q. only-digit (at (allMasks m u) j) q (several-not (allMasks m u) d (p .1) j o q)))
       (cases (allMasks m u) d l t)
+
+  -- the same of the nine digits of the masks
+  module _ (i : ℕ) (n : i < 9) where
+    of-nine : Held (at (nines (allMasks m u)) i) d → Held (at (allMasks m u) i) d
+    of-nine t = held-meet (at (allMasks m u) i) 511 d .0 (subst (λ (x : ℕ). Held x d) (nines-at (allMasks m u) i n) t) .0
+
+    to-nine : Held (at (allMasks m u) i) d → Held (at (nines (allMasks m u)) i) d
+    to-nine t = held-nine (allMasks m u) d l i n t
+
+    none-lost : count (at (nines (allMasks m u)) i) ≡ 1 → Held (at (allMasks m u) i) d → bitAnd (at (allMasks m u) i) (minus 511 (single d)) ≡ 0
+    none-lost e t =
+        held-ext (bitAnd (at (allMasks m u) i) (minus 511 (single d))) 0
+        (λ v. (
+          λ s. let w = held-meet (at (allMasks m u) i) (minus 511 (single d)) v .0 s in
+              subst (λ (x : ℕ). Held x v) (only-digit (at (nines (allMasks m u)) i) (to-nine t) e)
+              (held-meet (at (nines (allMasks m u)) i) (minus 511 (single d)) v .1
+              (subst (λ (x : ℕ). Held x v) (sym (nines-at (allMasks m u) i n)) (held-meet (at (allMasks m u) i) 511 v .1 (w .0, held-minus 511 (single d) v .0 (w .1) .0)), w .1)),
+          λ s. absurd (none-held v s),
+        ))
+
+  pub nine-not-due : has (dueOf (nines (allMasks m u))) d ≡ false → placeDigit g u d m ≡ m
+  nine-not-due t =
+      ⊎-elim
+      (λ s. let w = shared-twice (nines (allMasks m u)) d s in
+      let a = w .rise in
+      let b = w .below in
+      twice-idle (record { first = w .first; second = w .second; rise = a; below = b; held₁ = of-nine (w .first) (omega arith) (w .held₁); held₂ = of-nine (w .second) b (w .held₂) }))
+      (λ p. let w = joined-held (nines (allMasks m u)) d (p .0) in
+      alone-idle (w .0) (w .1) (of-nine (w .0) (w .1) (w .2)) (λ j o q. none-lost j o (several-not (nines (allMasks m u)) d (p .1) j o (to-nine j o q)) q))
+      (cases (nines (allMasks m u)) d l t)

@@ -1,101 +1,225 @@
-// Lone, by cells and instances.
+// Lone, by rows, cells and instances. What two cells of a unit hold is found for all lanes at once; a row is passed over where by that no cell of it can take anything from a peer.
 ghost use mathlib.Core.Path.{_≡_};
 ghost use Prim.Native.Nat.{_<_};
-ghost use Rattle.grid.specs.Cells.{peerTable};
+ghost use Rattle.steps.specs.Boards.{isOpen};
 ghost use Rattle.steps.specs.Instances.{lone};
-ghost use Rattle.steps.specs.Passes.{instanceTaken};
-ghost use Rattle.lone_place.specs.code.Turns.{peersLose, loneCell};
-ghost use Rattle.lone_place.specs.code.Due.{Covers, sharedNear, loneDue};
+ghost use Rattle.steps.specs.Passes.{instanceTaken, pass, Lone};
+ghost use Rattle.cells.specs.code.Places.{losePlaces};
+ghost use Rattle.lanes.specs.code.Lanes.{InLanes, laid};
+ghost use Rattle.lone_place.specs.code.Turns.{peersLose, loneCell, loneRow};
+ghost use Rattle.lone_place.specs.code.Due.{looseIn, looseNear, loneHeld, sharedLanes, nearRow, loneDue, dueFlag, dueRow, Near, NearRow, Covers, Kept};
 use candidates::masks;
 use cells::lose_at;
 use cells::mask_at;
+use cells::unions::join_all;
+use cells::unions::shared;
+use cells::unit_masks;
 use grid::box_of;
 use grid::col_of;
 use grid::row_of;
+use grid::unit_cell;
+use lanes::join_sets;
+use lanes::lane_masks;
+use lanes::lay;
+use lanes::loose;
 
-// The open peers of the cell lose the digits of `lost`. `peers` is the peer table.
-fn lose_peers(
-    givens: &[u8; 81],
-    masks: &mut [u16; 81],
-    peers: &[[u8; 20]; 81],
-    cell: usize,
-    lost: u16,
-)
-    requires { ⌜ (cell < 81) × (now peers ≡ peerTable) ⌝ }
-    ensures { λ _. ⌜ now (masks .exit) ≡ peersLose (now (givens .entry)) cell lost (now (masks .entry)) ⌝ }
+// The open cells of the unit lose the digits of `lost`.
+fn lose_unit(givens: &[u8; 81], masks: &mut [u16; 81], unit: usize, lost: u16)
+    ensures { λ _. ⌜ now (masks .exit) ≡ losePlaces (isOpen (now (givens .entry))) unit 511 lost (now (masks .entry)) ⌝ }
 {
-    let row = peers[cell];
-    let mut i: usize = 0;
-    while i < 20 {
-        lose_at(givens, masks, row[i] as usize, lost);
-        i += 1;
+    let mut place: usize = 0;
+    while place < 9 {
+        lose_at(givens, masks, unit_cell(unit, place), lost);
+        place += 1;
     }
 }
 
+// The open peers of the cell lose them: its row, its column and its box do, and the cell gets back what it held.
+fn lose_peers(givens: &[u8; 81], masks: &mut [u16; 81], cell: usize, lost: u16)
+    requires { ⌜ cell < 81 ⌝ }
+    ensures { λ _. ⌜ now (masks .exit) ≡ peersLose (now (givens .entry)) cell lost (now (masks .entry)) ⌝ }
+{
+    let own = masks[cell];
+    lose_unit(givens, masks, row_of(cell), lost);
+    lose_unit(givens, masks, 9 + col_of(cell), lost);
+    lose_unit(givens, masks, 18 + box_of(cell), lost);
+    masks[cell] = own;
+}
+
 // One instance.
-fn lone_at(
-    givens: &[u8; 81],
-    masks: &mut [u16; 81],
-    peers: &[[u8; 20]; 81],
-    cell: usize,
-    digit: usize,
-)
-    requires { ⌜ (cell < 81) × (digit < 9) × (now peers ≡ peerTable) ⌝ }
+fn lone_at(givens: &[u8; 81], masks: &mut [u16; 81], cell: usize, digit: usize)
+    requires { ⌜ (cell < 81) × (digit < 9) ⌝ }
     ensures { λ _. ⌜ now (masks .exit) ≡ instanceTaken (now (givens .entry)) (lone cell digit) (now (masks .entry)) ⌝ }
 {
     let one = masks::digit_mask(digit);
     if masks::is_none(masks::meet(mask_at(masks, cell), masks::lose(511, one))) {
-        lose_peers(givens, masks, peers, cell, one);
+        lose_peers(givens, masks, cell, one);
     }
 }
 
-// The instances of a cell.
-fn lone_digits(givens: &[u8; 81], masks: &mut [u16; 81], peers: &[[u8; 20]; 81], cell: usize)
-    requires { ⌜ (cell < 81) × (now peers ≡ peerTable) ⌝ }
+// What the open cells of a unit hold.
+fn loose_in(givens: &[u8; 81], masks: &[u16; 81], unit: usize) -> u16
+    ensures { λ r. ⌜ r ≡ looseIn (now (givens .entry)) (now (masks .entry)) unit ⌝ }
+{
+    let nine = unit_masks(givens, masks, unit);
+    join_all(&nine)
+}
+
+// What the open cells of its row, its column and its box hold.
+fn loose_near(givens: &[u8; 81], masks: &[u16; 81], cell: usize) -> u16
+    requires { ⌜ cell < 81 ⌝ }
+    ensures { λ r. ⌜ r ≡ looseNear (now (givens .entry)) (now (masks .entry)) cell ⌝ }
+{
+    let row = loose_in(givens, masks, row_of(cell));
+    let col = loose_in(givens, masks, 9 + col_of(cell));
+    let block = loose_in(givens, masks, 18 + box_of(cell));
+    masks::join(masks::join(row, col), block)
+}
+
+// The digits whose instances may lose anything, at a cell that holds one digit or none.
+fn lone_held(givens: &[u8; 81], masks: &[u16; 81], cell: usize) -> u16
+    requires { ⌜ cell < 81 ⌝ }
+    ensures { λ r. ⌜ r ≡ loneHeld (now (givens .entry)) (now (masks .entry)) cell ⌝ }
+{
+    let mask = masks::meet(masks[cell], 511);
+    if mask == 0 {
+        return loose_near(givens, masks, cell);
+    }
+    mask
+}
+
+// The instances of a cell, without those that lose nothing.
+fn lone_digits(givens: &[u8; 81], masks: &mut [u16; 81], cell: usize)
+    requires { ⌜ cell < 81 ⌝ }
     ensures { λ _. ⌜ now (masks .exit) ≡ loneCell (now (givens .entry)) cell (now (masks .entry)) ⌝ }
 {
+    let held = lone_held(givens, masks, cell);
     let mut digit: usize = 0;
     while digit < 9 {
-        lone_at(givens, masks, peers, cell, digit);
+        if masks::has_digit(held, digit) {
+            lone_at(givens, masks, cell, digit);
+        }
         digit += 1;
     }
 }
 
-// What two cells of its row, its column or its box hold.
-fn shared_near(sets: &[u16; 27], cell: usize) -> u16
-    requires { ⌜ cell < 81 ⌝ }
-    ensures { λ r. ⌜ r ≡ sharedNear (now (sets .entry)) cell ⌝ }
-{
-    let lines = masks::join(sets[row_of(cell)], sets[9 + col_of(cell)]);
-    masks::join(lines, sets[18 + box_of(cell)])
-}
-
-// Whether a cell's instances may lose anything: it holds no digit, or one that another cell may hold.
+// Whether a cell's instances may lose anything: it holds no digit, or one that is among these.
 fn lone_due(mask: u16, near: u16) -> bool
     ensures { λ r. ⌜ r ≡ loneDue mask near ⌝ }
 {
-    if masks::is_none(mask) {
-        return true;
-    }
-    if masks::is_one(mask) {
-        return !masks::is_none(masks::meet(mask, near));
-    }
-    false
+    masks::is_none(masks::join(masks::lose_lowest(mask), masks::lose(mask, near)))
 }
 
-// The instances of a cell, passed over where none of them loses anything. The sets may be of earlier masks, since masks only shrink.
-pub fn lone_cell(
-    givens: &[u8; 81],
-    masks: &mut [u16; 81],
-    peers: &[[u8; 20]; 81],
-    sets: &[u16; 27],
-    cell: usize,
-)
-    requires { ⌜ (cell < 81) × Covers (now sets) (now masks) × (now peers ≡ peerTable) ⌝ }
+// The instances of a cell, where every digit that it shares with a peer is among `near`.
+fn lone_cell(givens: &[u8; 81], masks: &mut [u16; 81], near: u16, cell: usize)
+    requires { ⌜ (cell < 81) × Near (now masks) cell near ⌝ }
     ensures { λ _. ⌜ now (masks .exit) ≡ loneCell (now (givens .entry)) cell (now (masks .entry)) ⌝ }
 {
-    let mask = masks::meet(mask_at(masks, cell), 511);
-    if lone_due(mask, shared_near(sets, cell)) {
-        lone_digits(givens, masks, peers, cell);
+    if lone_due(masks::meet(masks[cell], 511), near) {
+        lone_digits(givens, masks, cell);
+    }
+}
+
+fn lone_row(givens: &[u8; 81], masks: &mut [u16; 81], near: &[u16; 16], row: usize)
+    requires { ⌜ (row < 9) × NearRow (now masks) row (now near) ⌝ }
+    ensures { λ _. ⌜ now (masks .exit) ≡ loneRow (now (givens .entry)) row (now (masks .entry)) ⌝ }
+{
+    let mut nth: usize = 0;
+    while nth < 9 {
+        lone_cell(givens, masks, near[nth], 9 * row + nth);
+        nth += 1;
+    }
+}
+
+// 1 where the cell is due.
+fn due_flag(mask: u16, near: u16) -> u16
+    ensures { λ r. ⌜ r ≡ dueFlag mask near ⌝ }
+{
+    if lone_due(masks::meet(mask, 511), near) {
+        return 1;
+    }
+    0
+}
+
+// Not 0 where a cell of the row is due.
+fn due_row(masks: &[u16; 81], near: &[u16; 16], row: usize) -> u16
+    requires { ⌜ row < 9 ⌝ }
+    ensures { λ r. ⌜ r ≡ dueRow (now (masks .entry)) (now (near .entry)) row ⌝ }
+{
+    let mut due: u16 = 0;
+    let mut nth: usize = 0;
+    while nth < 9 {
+        due = masks::join(due, due_flag(masks[9 * row + nth], near[nth]));
+        nth += 1;
+    }
+    due
+}
+
+// The digits that two or more cells of each lane hold.
+fn shared_lanes(lanes: &[u16; 432]) -> [u16; 48]
+    ensures { λ r. ⌜ r ≡ sharedLanes (now (lanes .entry)) ⌝ }
+{
+    let mut sets = [0u16; 48];
+    let mut lane: usize = 0;
+    while lane < 48 {
+        let nine = lane_masks(lanes, lane);
+        sets[lane] = shared(&nine);
+        lane += 1;
+    }
+    sets
+}
+
+// What two cells of its row, its column or its box hold, for each cell of a row.
+fn near_row(sets: &[u16; 48], row: usize) -> [u16; 16]
+    requires { ⌜ row < 9 ⌝ }
+    ensures { λ r. ⌜ r ≡ nearRow (now (sets .entry)) row ⌝ }
+{
+    let mut near = [0u16; 16];
+    let mut nth: usize = 0;
+    while nth < 16 {
+        let lines = masks::join(sets[row], sets[16 + nth]);
+        near[nth] = masks::join(lines, sets[32 + 3 * (row / 3) + nth / 3]);
+        nth += 1;
+    }
+    near
+}
+
+// The rows in which a cell is due; whether there are any. The sets may be of earlier masks, since masks only shrink.
+fn lone_rows(givens: &[u8; 81], masks: &mut [u16; 81], sets: &[u16; 48]) -> bool
+    requires { ⌜ Covers (now sets) (now masks) ⌝ }
+    ensures { λ _. ⌜ now (masks .exit) ≡ pass (now (givens .entry)) Lone (now (masks .entry)) ⌝ }
+    ensures { λ r. ⌜ Kept r (now (masks .entry)) (now (masks .exit)) ⌝ }
+{
+    let mut any = false;
+    let mut row: usize = 0;
+    while row < 9 {
+        let near = near_row(sets, row);
+        if due_row(masks, &near, row) != 0 {
+            lone_row(givens, masks, &near, row);
+            any = true;
+        }
+        row += 1;
+    }
+    any
+}
+
+// Lone, where the masks and the doors of the givens stand in lanes too. Where no open cell holds anything, as on a dead board, nothing can be lost.
+pub fn lone_lanes(
+    givens: &[u8; 81],
+    masks: &mut [u16; 81],
+    doors: &[u16; 432],
+    lanes: &mut [u16; 432],
+)
+    requires { ⌜ InLanes (now givens) (now masks) (now doors) (now lanes) ⌝ }
+    ensures { λ _. ⌜ now (masks .exit) ≡ pass (now (givens .entry)) Lone (now (masks .entry)) ⌝ }
+    ensures { λ _. ⌜ now (lanes .exit) ≡ laid (now (masks .exit)) ⌝ }
+{
+    let free = loose(lanes, doors, 0);
+    if join_sets(&free) == 0 {
+        return;
+    }
+    let sets = shared_lanes(lanes);
+    if lone_rows(givens, masks, &sets) {
+        lay(masks, lanes);
     }
 }

@@ -1,9 +1,13 @@
 // Place, by units, digits and instances.
 ghost use mathlib.Core.Path.{_≡_};
-ghost use Prim.Native.Nat.{_<_};
+ghost use mathlib.Core.Bool.{cond};
+ghost use Prim.Native.Nat.{_<_, _≤_};
+ghost use lib.Dec.{eqb};
+ghost use Rattle.steps.specs.Passes.{pass, Place};
 ghost use Rattle.cells.specs.code.Places.{allMasks};
 ghost use Rattle.lone_place.specs.code.Turns.{placeTurn, placeDigit, placeUnit};
-ghost use Rattle.lone_place.specs.code.Due.{dueOf};
+ghost use Rattle.lanes.specs.code.Lanes.{InLanes, laid, laneMasks};
+ghost use Rattle.lone_place.specs.code.Due.{dueOf, placeDue, placeSets, placeFamily, Spares, PlaceSpares};
 use candidates::masks;
 use cells::all_masks;
 use cells::held_places;
@@ -12,6 +16,10 @@ use cells::unions::join_all;
 use cells::unions::several;
 use cells::unions::shared;
 use grid::unit_cell;
+use lanes::join_sets;
+use lanes::lane_masks;
+use lanes::lay;
+use lanes::loose;
 
 // One instance, where `held` are the places that hold the digit.
 fn place_at(
@@ -44,21 +52,27 @@ fn place_digit(givens: &[u8; 81], masks: &mut [u16; 81], unit: usize, digit: usi
     }
 }
 
-// The digits of a unit whose instances may lose anything: not held twice, and not held by cells alone that hold nothing else.
+// The digits of nine masks whose instances may lose anything: not held twice, and not held by cells alone that hold nothing else.
+fn due_of(nine: &[u16; 9]) -> u16
+    ensures { λ r. ⌜ r ≡ dueOf (now (nine .entry)) ⌝ }
+{
+    let single = masks::lose(join_all(nine), several(nine));
+    masks::lose(masks::lose(511, shared(nine)), single)
+}
+
 fn due_digits(masks: &[u16; 81], unit: usize) -> u16
     ensures { λ r. ⌜ r ≡ dueOf (allMasks (now (masks .entry)) unit) ⌝ }
 {
     let nine = all_masks(masks, unit);
-    let single = masks::lose(join_all(&nine), several(&nine));
-    masks::lose(masks::lose(511, shared(&nine)), single)
+    due_of(&nine)
 }
 
-// The instances of a unit. Those of a digit are passed over where none of them loses anything.
-pub fn place_unit(givens: &[u8; 81], masks: &mut [u16; 81], unit: usize)
-    requires { ⌜ unit < 27 ⌝ }
+// The instances of a unit. Those of a digit are passed over where none of them loses anything; `first` are the digits of which some may, as the masks are.
+fn place_unit(givens: &[u8; 81], masks: &mut [u16; 81], unit: usize, first: u16)
+    requires { ⌜ (unit < 27) × Spares (now givens) unit first (now masks) ⌝ }
     ensures { λ _. ⌜ now (masks .exit) ≡ placeUnit (now (givens .entry)) unit (now (masks .entry)) ⌝ }
 {
-    let mut due = due_digits(masks, unit);
+    let mut due = first;
     let mut digit: usize = 0;
     while digit < 9 {
         if masks::has_digit(due, digit) {
@@ -66,5 +80,90 @@ pub fn place_unit(givens: &[u8; 81], masks: &mut [u16; 81], unit: usize)
             due = due_digits(masks, unit);
         }
         digit += 1;
+    }
+}
+
+// What is due, or nothing where nothing can be lost.
+fn if_any(free: u16, due: u16) -> u16
+    ensures { λ r. ⌜ r ≡ cond (eqb free 0) 0 due ⌝ }
+{
+    if free == 0 {
+        return 0;
+    }
+    due
+}
+
+// What is due of a lane, where `free` is what its open cells hold.
+fn due_lane(lanes: &[u16; 432], lane: usize, free: u16) -> u16
+    requires { ⌜ lane < 48 ⌝ }
+    ensures { λ r. ⌜ r ≡ placeDue (laneMasks (now (lanes .entry)) lane) free ⌝ }
+{
+    let nine = lane_masks(lanes, lane);
+    if_any(free, due_of(&nine))
+}
+
+fn due_lanes(lanes: &[u16; 432], free: &[u16; 16], first: usize) -> [u16; 16]
+    requires { ⌜ first ≤ 32 ⌝ }
+    ensures { λ r. ⌜ r ≡ placeSets (now (lanes .entry)) (now (free .entry)) first ⌝ }
+{
+    let mut sets = [0u16; 16];
+    let mut nth: usize = 0;
+    while nth < 16 {
+        sets[nth] = due_lane(lanes, first + nth, free[nth]);
+        nth += 1;
+    }
+    sets
+}
+
+// The units of a family whose sets hold anything.
+fn place_due(givens: &[u8; 81], masks: &mut [u16; 81], due: &[u16; 16], family: usize)
+    requires { ⌜ (family < 3) × PlaceSpares (now givens) (now masks) family (now due) ⌝ }
+    ensures { λ _. ⌜ now (masks .exit) ≡ placeFamily (now (givens .entry)) family (now (masks .entry)) ⌝ }
+{
+    let mut nth: usize = 0;
+    while nth < 9 {
+        if due[nth] != 0 {
+            let unit = 9 * family + nth;
+            place_unit(givens, masks, unit, due[nth]);
+        }
+        nth += 1;
+    }
+}
+
+fn place_family(
+    givens: &[u8; 81],
+    masks: &mut [u16; 81],
+    doors: &[u16; 432],
+    lanes: &mut [u16; 432],
+    family: usize,
+)
+    requires { ⌜ (family < 3) × InLanes (now givens) (now masks) (now doors) (now lanes) ⌝ }
+    ensures { λ _. ⌜ now (masks .exit) ≡ placeFamily (now (givens .entry)) family (now (masks .entry)) ⌝ }
+    ensures { λ _. ⌜ now (lanes .exit) ≡ laid (now (masks .exit)) ⌝ }
+{
+    let free = loose(lanes, doors, 16 * family);
+    let due = due_lanes(lanes, &free, 16 * family);
+    if join_sets(&due) == 0 {
+        return;
+    }
+    place_due(givens, masks, &due, family);
+    lay(masks, lanes);
+}
+
+// Place, where the masks and the doors of the givens stand in lanes too. The units of a family are disjoint: where its lane shows at the family's start that a unit loses nothing, it loses nothing when its turn comes.
+pub fn place_lanes(
+    givens: &[u8; 81],
+    masks: &mut [u16; 81],
+    doors: &[u16; 432],
+    lanes: &mut [u16; 432],
+)
+    requires { ⌜ InLanes (now givens) (now masks) (now doors) (now lanes) ⌝ }
+    ensures { λ _. ⌜ now (masks .exit) ≡ pass (now (givens .entry)) Place (now (masks .entry)) ⌝ }
+    ensures { λ _. ⌜ now (lanes .exit) ≡ laid (now (masks .exit)) ⌝ }
+{
+    let mut family: usize = 0;
+    while family < 3 {
+        place_family(givens, masks, doors, lanes, family);
+        family += 1;
     }
 }

@@ -2,6 +2,15 @@ pub mod TwoNumbers
 pub mod TwoPlaces
 pub mod Frames
 pub mod Reach
+pub mod TwoTurns
+pub mod FrameSpots
 pub mod Passed
-pub mod Quiet
+pub mod Holders
+pub mod Lossless
+pub mod LivelyLines
+pub mod LivelyFrames
+pub mod LinesLeft
+pub mod PairLanes
+pub mod SpotLines
+pub mod CrossLanes
 pub mod FramePasses

@@ -1,15 +1,15 @@
 -- Settling, sweep by sweep: its count, and no more candidates than before. Assumes nothing.
-use mathlib.Core.Path.{_≡_, ap, _∙_}
-use mathlib.Core.Bool.{true, false}
+use mathlib.Core.Path.{_≡_, refl, sym, ap, _∙_}
+use mathlib.Core.Logic.{_≢_}
 use mathlib.Core.List.{List}
 use Prim.Native.Nat.{ℕ, zero, suc, _+_, _-_, _≤_, _<_}
 use native.Mathlib.Omega.{arith}
-use borrow.Author.Tests.{not-true, not-false}
-use Rattle.candidates.proofs.Tests.{cond-true, cond-false, by-test}
+use Rattle.candidates.proofs.Tests.{cond-true, by-test}
 use Rattle.steps.specs.Boards.{sameMasks, total}
-use Rattle.steps.specs.Passes.{sweep, changed, Sweeps, settleIn}
-use Rattle.steps.proofs.Masks.{total-under}
+use Rattle.steps.specs.Passes.{sweep, Sweeps, settleIn}
+use Rattle.steps.proofs.Masks.{total-under, same-refl, same-eq}
 use Rattle.steps.proofs.Reach.{Reach, start, reach-trans, reach-under, reach-length, sweep-reach}
+use Rattle.passes.specs.code.Rounds.{Swept}
 
 module _ (g : List ℕ) where
   -- ---- a sweep more
@@ -21,13 +21,25 @@ module _ (g : List ℕ) where
     one-more : 730 - i ≡ suc (730 - (i + 1))
     one-more = omega arith
 
-    pub settle-stops : changed m (sweep g m) ≡ false → settleIn (730 - i) g m ≡ record { sweeps = 1; left = sweep g m }
+    stops-at : sweep g m ≡ m → settleIn (730 - i) g m ≡ record { sweeps = 1; left = sweep g m }
     unfolding settleIn again
-    settle-stops t = ap (λ (n : ℕ). settleIn n g m) one-more ∙ cond-true (sameMasks m (sweep g m)) _ (again (730 - (i + 1)) m) (not-false (sameMasks m (sweep g m)) t)
+    stops-at e = ap (λ (n : ℕ). settleIn n g m) one-more ∙ cond-true (sameMasks m (sweep g m)) _ (again (730 - (i + 1)) m) (rw e (same-refl m))
 
-    pub settle-goes : changed m (sweep g m) ≡ true → settleIn (730 - i) g m ≡ record { sweeps = settleIn (730 - (i + 1)) g (sweep g m) .sweeps + 1; left = settleIn (730 - (i + 1)) g (sweep g m) .left }
+    goes-on : sweep g m ≢ m → settleIn (730 - i) g m ≡ again (730 - (i + 1)) m
     unfolding settleIn again
-    settle-goes t = ap (λ (n : ℕ). settleIn n g m) one-more ∙ cond-false (sameMasks m (sweep g m)) (record { sweeps = 1; left = sweep g m }) (again (730 - (i + 1)) m) (not-true (sameMasks m (sweep g m)) t)
+    goes-on d =
+        ap (λ (n : ℕ). settleIn n g m) one-more
+        ∙ by-test (λ (x : Sweeps). x ≡ again (730 - (i + 1)) m) (sameMasks m (sweep g m)) (record { sweeps = 1; left = sweep g m }) (again (730 - (i + 1)) m) (λ t. absurd (d (sym (same-eq m (sweep g m) t)))) (λ _. refl)
+
+    module _ {n : List ℕ} {idle : ℕ} (s : Swept g m n idle) where
+      pub settle-stops : idle ≡ 6 → settleIn (730 - i) g m ≡ record { sweeps = 1; left = n }
+      settle-stops e = stops-at (sym (s .swept) ∙ s .stops e) ∙ ap (λ (o : List ℕ). record { sweeps = 1; left = o }) (sym (s .swept))
+
+      pub settle-goes : idle < 6 → settleIn (730 - i) g m ≡ record { sweeps = settleIn (730 - (i + 1)) g n .sweeps + 1; left = settleIn (730 - (i + 1)) g n .left }
+      unfolding again
+      settle-goes l =
+          goes-on (λ e. s .goes l .0 (s .swept ∙ e))
+          ∙ ap (λ (o : List ℕ). record { sweeps = settleIn (730 - (i + 1)) g o .sweeps + 1; left = settleIn (730 - (i + 1)) g o .left }) (sym (s .swept))
 
   pub settle-ends : (i : ℕ) (m : List ℕ) → 730 ≤ i → settleIn (730 - i) g m ≡ record { sweeps = 0; left = m }
   unfolding settleIn

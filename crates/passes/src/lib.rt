@@ -1,46 +1,102 @@
 // A sweep of the six wide passes, and settling (module 9): over lent givens and masks, of which nothing is asked, and as a call on a board.
 ghost use mathlib.Core.Path.{_≡_};
-ghost use Rattle.steps.specs.Passes.{sweep, settle, removedBy};
+ghost use mathlib.Core.Bool.{cond};
+ghost use Prim.Native.Nat.{_+_, _<_};
+ghost use Rattle.steps.specs.Passes.{pass, changed, settle, removedBy};
 ghost use Rattle.board.specs.Boards.{boardOf};
+ghost use Rattle.lanes.specs.code.Lanes.{InLanes, laid};
 ghost use Rattle.passes.specs.Settlings.{Settles};
+ghost use Rattle.passes.specs.code.Rounds.{nthKind, LastIdle, Swept};
 use board::Board;
-use board::check;
+use board::check_given;
 use board::entries::givens_of;
 use cells::changed;
 use cells::total;
-use locked::claiming;
-use locked::pointing;
-use lone_place::lone;
-use lone_place::place;
-use pair_cross::cross;
-use pair_cross::pair;
+use lanes::doors;
+use lanes::lanes_of;
+use locked::claiming_lanes;
+use locked::pointing_lanes;
+use lone_place::lones::lone_lanes;
+use lone_place::places::place_lanes;
+use pair_cross::crosses::cross_lanes;
+use pair_cross::pairs::pair_lanes;
 use stops::Check;
 use stops::Stop;
 
-// The six passes in order.
-fn sweep(givens: &[u8; 81], masks: &mut [u16; 81])
-    ensures { λ _. ⌜ now (masks .exit) ≡ sweep (now (givens .entry)) (now (masks .entry)) ⌝ }
+// A wide pass by its number in a sweep. The masks stand in lanes too, and `doors` are those of the givens.
+fn nth_pass(
+    givens: &[u8; 81],
+    masks: &mut [u16; 81],
+    doors: &[u16; 432],
+    lanes: &mut [u16; 432],
+    nth: usize,
+)
+    requires { ⌜ InLanes (now givens) (now masks) (now doors) (now lanes) ⌝ }
+    ensures { λ _. ⌜ now (masks .exit) ≡ pass (now (givens .entry)) (nthKind nth) (now (masks .entry)) ⌝ }
+    ensures { λ _. ⌜ now (lanes .exit) ≡ laid (now (masks .exit)) ⌝ }
 {
-    lone(givens, masks);
-    place(givens, masks);
-    pair(givens, masks);
-    pointing(givens, masks);
-    claiming(givens, masks);
-    cross(givens, masks);
+    match nth {
+        0 => lone_lanes(givens, masks, doors, lanes),
+        1 => place_lanes(givens, masks, doors, lanes),
+        2 => pair_lanes(givens, masks, doors, lanes),
+        3 => pointing_lanes(givens, masks, doors, lanes),
+        4 => claiming_lanes(givens, masks, doors, lanes),
+        _ => cross_lanes(givens, masks, doors, lanes),
+    }
 }
 
-// Sweeps until one removes nothing; that last one is counted too. 730 are always enough.
+// How many passes in a row have removed nothing, with the one that made `after` of `before`.
+fn idle_after(idle: usize, before: [u16; 81], after: [u16; 81]) -> usize
+    requires { ⌜ idle < 6 ⌝ }
+    ensures { λ r. ⌜ r ≡ cond (changed before after) 0 (idle + 1) ⌝ }
+{
+    if changed(before, after) {
+        return 0;
+    }
+    idle + 1
+}
+
+// A sweep, the six passes in order, left as soon as six passes in a row, some of them of the sweep before, have removed nothing: then none of the six can.
+// `idle` is how many in a row had before it, and what is handed back how many have after it.
+fn sweep(
+    givens: &[u8; 81],
+    masks: &mut [u16; 81],
+    doors: &[u16; 432],
+    lanes: &mut [u16; 432],
+    idle: usize,
+) -> usize
+    requires { ⌜ InLanes (now givens) (now masks) (now doors) (now lanes) × (idle < 6) × LastIdle (now givens) idle (now masks) ⌝ }
+    ensures { λ r. ⌜ Swept (now (givens .entry)) (now (masks .entry)) (now (masks .exit)) r ⌝ }
+    ensures { λ _. ⌜ now (lanes .exit) ≡ laid (now (masks .exit)) ⌝ }
+{
+    let mut still = idle;
+    let mut nth: usize = 0;
+    while nth < 6 {
+        if still == 6 {
+            return 6;
+        }
+        let before = *masks;
+        nth_pass(givens, masks, doors, lanes, nth);
+        let after = *masks;
+        still = idle_after(still, before, after);
+        nth += 1;
+    }
+    still
+}
+
+// Sweeps until one removes nothing; that last one is counted too, though it is not always run to its end. 730 are always enough.
 fn sweep_on(givens: &[u8; 81], masks: &mut [u16; 81]) -> usize
     ensures { λ r. ⌜ r ≡ settle (now (givens .entry)) (now (masks .entry)) .sweeps ⌝ }
     ensures { λ _. ⌜ now (masks .exit) ≡ settle (now (givens .entry)) (now (masks .entry)) .left ⌝ }
 {
+    let doors = lanes_of(&doors(givens));
+    let mut lanes = lanes_of(masks);
+    let mut idle: usize = 0;
     let mut sweeps: usize = 0;
     while sweeps < 730 {
-        let before = *masks;
-        sweep(givens, masks);
+        idle = sweep(givens, masks, &doors, &mut lanes, idle);
         sweeps += 1;
-        let after = *masks;
-        if !changed(before, after) {
+        if idle == 6 {
             return sweeps;
         }
     }
@@ -89,7 +145,8 @@ pub fn apply_settling(board: Board) -> SettledBoard
     let clues = board.clues;
     let entries = board.entries;
     let mut masks = board.masks;
-    match check(&clues, &entries, &masks) {
+    let givens = givens_of(&clues, &entries);
+    match check_given(&clues, &entries, &givens, &masks) {
         Check::Refused(stop) => SettledBoard {
             answer: Settling::Refused(stop),
             board: Board {
@@ -99,7 +156,7 @@ pub fn apply_settling(board: Board) -> SettledBoard
             },
         },
         Check::Passed => {
-            let counts = settle(&givens_of(&clues, &entries), &mut masks);
+            let counts = settle(&givens, &mut masks);
             SettledBoard {
                 answer: Settling::Counted(counts.sweeps, counts.removed),
                 board: Board {

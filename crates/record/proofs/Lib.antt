@@ -6,6 +6,7 @@ pub mod CandidateLists
 pub mod Places
 pub mod SectionLaws
 pub mod BoardSets
+pub mod Rooms
 pub mod Laws
 pub mod Moving
 pub mod MoveLaws

@@ -7,7 +7,7 @@ use native.Mathlib.Omega.{arith}
 use borrow.Author.Tests.{ne-eqb, eq-eqb}
 use lib.Bits.{bitAnd, and-le-r}
 use lib.Dec.{eqb}
-use lib.ListN.{length, set, length-map, length-append}
+use lib.ListN.{length, set, length-append}
 use lib.Seq.{sets}
 use Rattle.candidates.specs.Masks.{bit, has, lowest, tail, firstPlace}
 use Rattle.candidates.proofs.FewDigits.{lowest-in}
@@ -22,7 +22,7 @@ use Rattle.record.specs.code.Places.{places, cellCandidates}
 use Rattle.record.specs.Sections.{inSets, entryBytes, stored}
 use Rattle.record.proofs.CandidateLists.{in-cell}
 use Rattle.record.proofs.Stores.{stored-append}
-use Rattle.record.proofs.Writing.{rest, select-length, entries-length, entries-append}
+use Rattle.record.proofs.Writing.{rest, entries-length, entries-append}
 
 -- ---- one cell
 
@@ -34,12 +34,6 @@ places-on x p h =
     (T-true (sameMasks (places x) (lowest x ∷ places (tail x)))
     (implied (not (eqb x 0)) (sameMasks (places x) (lowest x ∷ places (tail x)))
     (below 512 (λ x. implies (not (eqb x 0)) (sameMasks (places x) (lowest x ∷ places (tail x)))) tt x h) (ap not (ne-eqb x 0 (λ e. absurd (omega arith))))))
-
-pub places-few : (x : ℕ) → length (places x) ≤ 9
-places-few x = select-length (has x) 9 0
-
-pub cell-few : (c x : ℕ) → length (cellCandidates c x) ≤ 9
-cell-few c x = omega (arith, length-map (places x) (λ d. 9 * c + d), places-few x)
 
 pub lowest-place : (x : ℕ) → 0 < x → x < 512 → lowest x < 9
 lowest-place x p h = held-below x 9 (lowest x) h (lowest-in x p (omega arith))
@@ -112,7 +106,7 @@ module _ (s : List ℕ) (c : ℕ) where
       go true q = ap (λ (a : ℕ). a ∷ select (inSets s) (range n (suc k))) e ∙ ap (λ (l : List ℕ). (9 * c + d) ∷ l) q
       go false q = q
 
-  pub cell-rest : c < 81 → rest s (9 * c) ≡ cellCandidates c (at s c) ++ rest s (9 * (c + 1))
+  cell-rest : c < 81 → rest s (9 * c) ≡ cellCandidates c (at s c) ++ rest s (9 * (c + 1))
   unfolding rest
   cell-rest h =
       let n : 729 - 9 * c ≡ 9 + (729 - 9 * (c + 1)) = omega arith in
@@ -123,6 +117,9 @@ module _ (s : List ℕ) (c : ℕ) where
       ∙ select-append (inSets s) (range 9 (9 * c)) (range (729 - 9 * (c + 1)) (9 * c + 9))
       ∙ ap (λ (l : List ℕ). l ++ select (inSets s) (range (729 - 9 * (c + 1)) (9 * c + 9))) (in-places 9 0 (9 * c) z (omega arith))
       ∙ ap (λ (a : ℕ). cellCandidates c (at s c) ++ select (inSets s) (range (729 - 9 * (c + 1)) a)) m
+
+  pub cell-rest-length : c < 81 → length (rest s (9 * c)) ≡ length (cellCandidates c (at s c)) + length (rest s (9 * (c + 1)))
+  cell-rest-length h = ap length (cell-rest h) ∙ length-append (cellCandidates c (at s c)) (rest s (9 * (c + 1)))
 
   -- one turn of the loop over cells, from the bytes l and the offset i to b and j
   pub cell-put : c < 81 → (l : List ℕ) (i : ℕ) {b w : List ℕ} {j : ℕ} → stored l i (entryBytes (rest s (9 * c))) ≡ w

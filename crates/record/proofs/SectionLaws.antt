@@ -260,8 +260,11 @@ clues-few : (free : List ℕ) {low : ℕ} {es : List ℕ} → Rises Digits free 
 clues-few free none h l = omega arith
 clues-few free (next {low} {e} {es} a m f p) h l = omega (arith, clues-few free p (omega arith) (omega arith))
 
+pub digits-few : (free s : List ℕ) → Holds Digits free s → length (candidates s) ≤ 81
+digits-few free s h = omega (arith, clues-few free (rises Digits free s h) refl (omega arith))
+
 pub room : (k : Section) (free s : List ℕ) → Holds k free s → Room (width k) (length (candidates s))
-room Digits free s h = omega (arith, clues-few free (rises Digits free s h) refl (omega arith))
+room Digits free s h = omega (arith, digits-few free s h)
 room Removed free s h = omega (arith, candidates-few s)
 
 split : (k : Section) (s t : List ℕ) → sectionBytes k s ++ t ≡ lowFirst (width k) (length (candidates s)) ++ (entryBytes (candidates s) ++ t)

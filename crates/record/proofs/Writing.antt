@@ -13,16 +13,16 @@ use lib.ListN.{length, set, length-append}
 use Rattle.stops.specs.Answer.{gives, stop}
 use Rattle.stops.specs.declared.Stop.the-variants.{TooFewBytes}
 use Rattle.candidates.proofs.Tests.{by-test, cond-true, cond-false}
-use Rattle.grid.proofs.Lists.{range-on, range-end}
+use Rattle.grid.proofs.Lists.{range-end}
 use Rattle.steps.specs.Boards.{Board, givens, givensOf, fresh}
 use Rattle.steps.specs.Loops.{range, select}
 use Rattle.record.specs.declared.forms.Form.{Form}
-use Rattle.record.specs.declared.forms.Form.the-variants.{Old, New}
+use Rattle.record.specs.declared.forms.Form.the-variants.{New}
 use Rattle.record.specs.declared.sections.Section.{Section}
 use Rattle.record.specs.declared.sections.Section.the-variants.{Digits, Removed}
 use Rattle.record.specs.Records.{digitSets, lacking, entrySection, bytesIn, writeIn}
-use Rattle.record.specs.Sections.{width, inSets, candidates, entryBytes, lowFirst, sectionBytes, stored, leading}
-use Rattle.record.proofs.Stores.{stored-append, stored-apart, leading-stored}
+use Rattle.record.specs.Sections.{width, inSets, candidates, entryBytes, lowFirst, sectionBytes, stored}
+use Rattle.record.proofs.Stores.{stored-append, stored-apart}
 
 -- ---- the candidates from k on
 
@@ -96,10 +96,6 @@ module _ (l : List ℕ) (i n : ℕ) where
 
 -- ---- the record
 
-pub entered-length : (k : Form) (s : List ℕ) → length (entrySection k s) ≤ 1459
-entered-length Old s = omega arith
-entered-length New s = omega (arith, section-length Digits s, candidates-few s)
-
 pub record-size : (b : Board) → length (bytesIn New b)
     ≡ 4 + 2 * length (candidates (digitSets (givensOf (b .clues)))) + 2 * length (candidates (digitSets (givensOf (b .entries)))) + 2 * length (candidates (lacking (fresh (givens b)) (b .masks)))
 unfolding bytesIn
@@ -123,28 +119,6 @@ module _ (k : Form) (b : Board) where
   record-is p q r e t =
       let w = t ∙ ap (λ (x : List ℕ). lacking x (b .masks)) (q ∙ ap fresh p) in
       λ i. sectionBytes Digits (r i) ++ (entrySection k (e i) ++ sectionBytes Removed (w i))
-
-  pub record-few : length (bytesIn k b) ≤ 4378
-  unfolding bytesIn
-  record-few =
-      let cs = digitSets (givensOf (b .clues)) in
-      let es = digitSets (givensOf (b .entries)) in
-      let ls = lacking (fresh (givens b)) (b .masks) in
-      omega (
-        arith,
-        length-append (sectionBytes Digits cs) (entrySection k es ++ sectionBytes Removed ls),
-        length-append (entrySection k es) (sectionBytes Removed ls),
-        section-length Digits cs,
-        candidates-few cs,
-        entered-length k es,
-        section-length Removed ls,
-        candidates-few ls,
-      )
-
-  -- what the writer copies
-  pub record-leads : (l : List ℕ) {n : ℕ} {bs : List ℕ} → 4378 ≤ length l → n ≡ length (bytesIn k b) → bs ≡ stored l 0 (bytesIn k b) → leading n bs ≡ bytesIn k b
-  record-leads l {n} {bs} h p q =
-      ap (λ (m : ℕ). leading m bs) p ∙ ap (leading (length (bytesIn k b))) q ∙ leading-stored l (bytesIn k b) (omega (arith, record-few))
 
 module _ (n lent : ℕ) where
   pub write-short : lent < n → stop (TooFewBytes (pos lent)) ≡ writeIn n lent

@@ -25,8 +25,8 @@ pub enum Form {
 }
 
 // The entry section, from `start` on, where the form has one; what is returned is the offset after it.
-fn put_entered(form: Form, sets: &[u16; 81], bytes: &mut [u8; 4378], start: usize) -> usize
-    requires { ⌜ start + 1460 ≤ 4378 ⌝ }
+fn put_entered(form: Form, sets: &[u16; 81], bytes: &mut [u8; 1786], start: usize) -> usize
+    requires { ⌜ start + length (entrySection form (now sets)) ≤ 1786 ⌝ }
     ensures { λ r. ⌜ (now (bytes .exit) ≡ stored (now (bytes .entry)) start (entrySection form (now (sets .entry)))) × (r ≡ start + length (entrySection form (now (sets .entry)))) ⌝ }
 {
     match form {
@@ -41,9 +41,9 @@ fn put_record(
     clues: &[i32; 81],
     entries: &[i32; 81],
     masks: &[u16; 81],
-    bytes: &mut [u8; 4378],
+    bytes: &mut [u8; 1786],
 ) -> usize
-    ensures { λ r. ⌜ (now (bytes .exit) ≡ stored (now (bytes .entry)) 0 (bytesIn form (handed (now (clues .entry)) (now (entries .entry)) (now (masks .entry))))) × (r ≡ length (bytesIn form (handed (now (clues .entry)) (now (entries .entry)) (now (masks .entry))))) × (r ≤ 4378) ⌝ }
+    ensures { λ r. ⌜ (now (bytes .exit) ≡ stored (now (bytes .entry)) 0 (bytesIn form (handed (now (clues .entry)) (now (entries .entry)) (now (masks .entry))))) × (r ≡ length (bytesIn form (handed (now (clues .entry)) (now (entries .entry)) (now (masks .entry))))) × (r ≤ 1786) ⌝ }
 {
     let fresh = fresh_masks(&givens_of(clues, entries));
     let printed = sets::digit_sets(&clues::givens_of(clues));
@@ -54,8 +54,8 @@ fn put_record(
     put_section(Section::Removed, &removed, bytes, third)
 }
 
-fn copy(bytes: &[u8; 4378], count: usize, out: &mut [u8])
-    requires { ⌜ (count ≤ 4378) × (count ≤ length (now out)) ⌝ }
+fn copy(bytes: &[u8; 1786], count: usize, out: &mut [u8])
+    requires { ⌜ (count ≤ 1786) × (count ≤ length (now out)) ⌝ }
     ensures { λ _. ⌜ now (out .exit) ≡ leading count (now (bytes .entry)) ++ drop count (now (out .entry)) ⌝ }
 {
     let mut at: usize = 0;
@@ -66,8 +66,8 @@ fn copy(bytes: &[u8; 4378], count: usize, out: &mut [u8])
 }
 
 // The first `count` bytes in the lent ones, which stay as they are where they are too few.
-fn copy_out(bytes: &[u8; 4378], count: usize, out: &mut [u8]) -> Writing
-    requires { ⌜ count ≤ 4378 ⌝ }
+fn copy_out(bytes: &[u8; 1786], count: usize, out: &mut [u8]) -> Writing
+    requires { ⌜ count ≤ 1786 ⌝ }
     ensures { λ r. ⌜ (writingAnswer r ≡ writeIn count (length (now (out .entry)))) × (now (out .exit) ≡ written (writeIn count (length (now (out .entry)))) (leading count (now (bytes .entry))) (now (out .entry))) ⌝ }
 {
     if out.len() < count {
@@ -87,7 +87,8 @@ pub fn write_checked(check: Check, form: Form, board: Board, out: &mut [u8]) -> 
     match check {
         Check::Refused(stop) => Writing::Refused(stop),
         Check::Passed => {
-            let mut bytes = [0u8; 4378];
+            // Room for a clue and an entry in each cell and for 729 removals, with the counts.
+            let mut bytes = [0u8; 1786];
             let count = put_record(form, &clues, &entries, &masks, &mut bytes);
             copy_out(&bytes, count, out)
         }

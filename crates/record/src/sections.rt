@@ -34,8 +34,8 @@ fn count_width(section: Section) -> usize
 }
 
 // The entries of a cell's digits, rising, from `start` on; what is returned is the offset after them.
-fn put_cell(cell: usize, set: u16, bytes: &mut [u8; 4378], start: usize) -> usize
-    requires { ⌜ (cell < 81) × (start + 18 ≤ 4378) ⌝ }
+fn put_cell(cell: usize, set: u16, bytes: &mut [u8; 1786], start: usize) -> usize
+    requires { ⌜ (cell < 81) × (start + 2 * length (cellCandidates cell set) ≤ 1786) ⌝ }
     ensures { λ r. ⌜ (now (bytes .exit) ≡ stored (now (bytes .entry)) start (entryBytes (cellCandidates cell set))) × (r ≡ start + 2 * length (cellCandidates cell set)) ⌝ }
 {
     let mut at = start;
@@ -50,8 +50,8 @@ fn put_cell(cell: usize, set: u16, bytes: &mut [u8; 4378], start: usize) -> usiz
 }
 
 // The entries of the sets' candidates, rising, from `start` on; what is returned is the offset after them.
-fn put_entries(sets: &[u16; 81], bytes: &mut [u8; 4378], start: usize) -> usize
-    requires { ⌜ start + 1458 ≤ 4378 ⌝ }
+fn put_entries(sets: &[u16; 81], bytes: &mut [u8; 1786], start: usize) -> usize
+    requires { ⌜ start + 2 * length (candidates (now sets)) ≤ 1786 ⌝ }
     ensures { λ r. ⌜ (now (bytes .exit) ≡ stored (now (bytes .entry)) start (entryBytes (candidates (now (sets .entry))))) × (r ≡ start + 2 * length (candidates (now (sets .entry)))) ⌝ }
 {
     let mut at = start;
@@ -64,8 +64,8 @@ fn put_entries(sets: &[u16; 81], bytes: &mut [u8; 4378], start: usize) -> usize
 }
 
 // The count, low byte first.
-fn put_count(section: Section, bytes: &mut [u8; 4378], start: usize, count: usize)
-    requires { ⌜ (start + 2 ≤ 4378) × (count < 65536) ⌝ }
+fn put_count(section: Section, bytes: &mut [u8; 1786], start: usize, count: usize)
+    requires { ⌜ (start + width section ≤ 1786) × (count < 65536) ⌝ }
     ensures { λ _. ⌜ now (bytes .exit) ≡ stored (now (bytes .entry)) start (lowFirst (width section) count) ⌝ }
 {
     bytes[start] = (count % 256) as u8;
@@ -79,10 +79,10 @@ fn put_count(section: Section, bytes: &mut [u8; 4378], start: usize, count: usiz
 pub fn put_section(
     section: Section,
     sets: &[u16; 81],
-    bytes: &mut [u8; 4378],
+    bytes: &mut [u8; 1786],
     start: usize,
 ) -> usize
-    requires { ⌜ start + 1460 ≤ 4378 ⌝ }
+    requires { ⌜ start + length (sectionBytes section (now sets)) ≤ 1786 ⌝ }
     ensures { λ r. ⌜ (now (bytes .exit) ≡ stored (now (bytes .entry)) start (sectionBytes section (now (sets .entry)))) × (r ≡ start + length (sectionBytes section (now (sets .entry)))) ⌝ }
 {
     let first = start + count_width(section);

@@ -1,3 +1,2 @@
-mod Tapes
 mod Numbers
 mod Texts

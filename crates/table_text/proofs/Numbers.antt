@@ -13,8 +13,9 @@ use Rattle.output.specs.Decimals.{digitByte, decimal}
 use Rattle.output.proofs.Decimals.{decimal-one, decimal-more}
 use Rattle.steps.specs.Loops.{each, for, range, select}
 use Rattle.table_text.specs.Tables.{later, numbers}
-use Rattle.table_text.specs.code.Pushes.{Tape, tape, append, entry, entries, inRow}
-use Rattle.table_text.proofs.Tapes.{joined}
+use Rattle.output.specs.code.Tapes.{Tape, tape, append}
+use Rattle.table_text.specs.code.Pushes.{entry, entries, inRow}
+use Rattle.output.proofs.Tapes.{joined}
 
 -- a number of two digits
 pub two-digits : (n : ℕ) → 10 ≤ n → n < 100 → (digitByte (n / 10) ∷ []) ++ (digitByte (n % 10) ∷ []) ≡ decimal n
@@ -39,22 +40,22 @@ module _ (f : ℕ → Bool) (c : ℕ) where
   next = select f (range (81 - (c + 1)) (c + 1))
 
   module _ (first : Bool) (t : Tape) (h : c < 81) {text x : List ℕ} {end y : ℕ} {more : Bool} (p : text ≡ x) (q : end ≡ y) where
-    pub taken : f c ≡ true → more ≡ false → tape x y ≡ append (entry first c) t → append (entries more next) (tape text end) ≡ append (entries first left) t
+    pub taken : f c ≡ true → more ≡ false → tape x y ≡ append 7515 (entry first c) t → append 7515 (entries more next) (tape text end) ≡ append 7515 (entries first left) t
     taken e r s =
         rw (p, q, r)
-        (joined (entry first c) (entries false next) t s refl
-        ∙ ap (λ (ns : List ℕ). append ns t) (one-more first c next)
-        ∙ ap (λ (ns : List ℕ). append (entries first ns) t) (sym (ap (select f) (range-on 81 c h) ∙ cond-true (f c) (c ∷ next) next e)))
+        (joined 7515 (entry first c) (entries false next) t s refl
+        ∙ ap (λ (ns : List ℕ). append 7515 ns t) (one-more first c next)
+        ∙ ap (λ (ns : List ℕ). append 7515 (entries first ns) t) (sym (ap (select f) (range-on 81 c h) ∙ cond-true (f c) (c ∷ next) next e)))
 
-    pub passed : f c ≡ false → more ≡ first → tape x y ≡ t → append (entries more next) (tape text end) ≡ append (entries first left) t
+    pub passed : f c ≡ false → more ≡ first → tape x y ≡ t → append 7515 (entries more next) (tape text end) ≡ append 7515 (entries first left) t
     passed e r s =
-        rw (p, q, r, s) (ap (λ (ns : List ℕ). append (entries first ns) t) (sym (ap (select f) (range-on 81 c h) ∙ cond-false (f c) (c ∷ next) next e)))
+        rw (p, q, r, s) (ap (λ (ns : List ℕ). append 7515 (entries first ns) t) (sym (ap (select f) (range-on 81 c h) ∙ cond-false (f c) (c ∷ next) next e)))
 
-  pub row-over : (first : Bool) (t : Tape) → 81 ≤ c → t ≡ append (entries first left) t
+  pub row-over : (first : Bool) (t : Tape) → 81 ≤ c → t ≡ append 7515 (entries first left) t
   unfolding append each
-  row-over first t h = sym (ap (λ (ns : List ℕ). append (entries first (select f ns)) t) (range-end 81 c h) ∙ ap (λ (ns : List ℕ). append ns t) (none-left first))
+  row-over first t h = sym (ap (λ (ns : List ℕ). append 7515 (entries first (select f ns)) t) (range-end 81 c h) ∙ ap (λ (ns : List ℕ). append 7515 ns t) (none-left first))
 
 -- all of them
-pub whole : (s : Scope) (t : Tape) → append (entries true (select (inScope s) (range 81 0))) t ≡ append (numbers (inRow s)) t
+pub whole : (s : Scope) (t : Tape) → append 7515 (entries true (select (inScope s) (range 81 0))) t ≡ append 7515 (numbers (inRow s)) t
 unfolding entries inRow cells
 whole s t = refl

@@ -8,25 +8,26 @@ use Rattle.grid.specs.Cells.{cells, peers, peerTable}
 use Rattle.output.specs.Decimals.{digitsIn, decimal}
 use Rattle.steps.specs.Loops.{each, for, upTo}
 use Rattle.table_text.specs.Tables.{later, numbers, rowLine, tableLines, unitsHeader, peersHeader, unitRows, tablesText}
-use Rattle.table_text.specs.code.Pushes.{Tape, append, inRow, rowsOf}
+use Rattle.output.specs.code.Tapes.{Tape, append}
+use Rattle.table_text.specs.code.Pushes.{inRow, rowsOf}
 use Rattle.table_text.specs.declared.Table.the-variants as table
-use Rattle.table_text.proofs.Tapes.{joined}
+use Rattle.output.proofs.Tapes.{joined}
 
 -- a row and a table, from what each push made of the tape before it
 module _ (t : Tape) {a b r : Tape} where
-  pub row-joined : (ns : List ℕ) → a ≡ append (91 ∷ []) t → b ≡ append (numbers ns) a → r ≡ append (93 ∷ 44 ∷ 10 ∷ []) b → r ≡ append (rowLine ns) t
+  pub row-joined : (ns : List ℕ) → a ≡ append 7515 (91 ∷ []) t → b ≡ append 7515 (numbers ns) a → r ≡ append 7515 (93 ∷ 44 ∷ 10 ∷ []) b → r ≡ append 7515 (rowLine ns) t
   unfolding rowLine
-  row-joined ns p q s = joined (91 ∷ numbers ns) (93 ∷ 44 ∷ 10 ∷ []) t (joined (91 ∷ []) (numbers ns) t p q) s
+  row-joined ns p q s = joined 7515 (91 ∷ numbers ns) (93 ∷ 44 ∷ 10 ∷ []) t (joined 7515 (91 ∷ []) (numbers ns) t p q) s
 
-  pub table-joined : (header : List ℕ) (rows : List (List ℕ)) → a ≡ append header t → b ≡ append (for rows rowLine) a → r ≡ append (93 ∷ 59 ∷ 10 ∷ []) b → r ≡ append (tableLines header rows) t
+  pub table-joined : (header : List ℕ) (rows : List (List ℕ)) → a ≡ append 7515 header t → b ≡ append 7515 (for rows rowLine) a → r ≡ append 7515 (93 ∷ 59 ∷ 10 ∷ []) b → r ≡ append 7515 (tableLines header rows) t
   unfolding tableLines
-  table-joined header rows p q s = joined (header ++ for rows rowLine) (93 ∷ 59 ∷ 10 ∷ []) t (joined header (for rows rowLine) t p q) s
+  table-joined header rows p q s = joined 7515 (header ++ for rows rowLine) (93 ∷ 59 ∷ 10 ∷ []) t (joined 7515 header (for rows rowLine) t p q) s
 
 -- rows row by row
-pub rows-each : (f : ℕ → List ℕ) (is : List ℕ) (t : Tape) → each (λ i t. append (rowLine (f i)) t) is t ≡ append (for (map f is) rowLine) t
+pub rows-each : (f : ℕ → List ℕ) (is : List ℕ) (t : Tape) → each (λ i t. append 7515 (rowLine (f i)) t) is t ≡ append 7515 (for (map f is) rowLine) t
 unfolding each for append
 rows-each f [] t = refl
-rows-each f (i ∷ is) t = rows-each f is (append (rowLine (f i)) t) ∙ joined (rowLine (f i)) (for (map f is) rowLine) t refl refl
+rows-each f (i ∷ is) t = rows-each f is (append 7515 (rowLine (f i)) t) ∙ joined 7515 (rowLine (f i)) (for (map f is) rowLine) t refl refl
 
 -- ---- the rows by their rule
 

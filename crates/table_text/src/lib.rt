@@ -5,7 +5,8 @@ ghost use lib.ListN.{length};
 ghost use Rattle.output.specs.Lent.{over};
 ghost use Rattle.steps.specs.Loops.{for};
 ghost use Rattle.table_text.specs.Tables.{rowLine, tableLines, tablesText};
-ghost use Rattle.table_text.specs.code.Pushes.{tape, append, scopeOf, rowsOf};
+ghost use Rattle.output.specs.code.Tapes.{tape, append};
+ghost use Rattle.table_text.specs.code.Pushes.{scopeOf, rowsOf};
 use grid::scopes::Scope;
 use rows::push_row;
 use words::push_word;
@@ -33,7 +34,7 @@ fn scope_of(table: Table, row: usize) -> Scope
 
 // The rows of a table, the first first.
 fn push_rows(text: &mut Text, at: usize, table: Table, rows: usize) -> usize
-    ensures { λ r. ⌜ tape (now (text .exit)) r ≡ append (for (rowsOf table rows) rowLine) (tape (now (text .entry)) at) ⌝ }
+    ensures { λ r. ⌜ tape (now (text .exit)) r ≡ append 7515 (for (rowsOf table rows) rowLine) (tape (now (text .entry)) at) ⌝ }
 {
     let mut end = at;
     let mut row: usize = 0;
@@ -46,7 +47,7 @@ fn push_rows(text: &mut Text, at: usize, table: Table, rows: usize) -> usize
 
 // A table: its first line, its rows, and `];`.
 fn push_table(text: &mut Text, at: usize, header: &[u8], table: Table, rows: usize) -> usize
-    ensures { λ r. ⌜ tape (now (text .exit)) r ≡ append (tableLines (now (header .entry)) (rowsOf table rows)) (tape (now (text .entry)) at) ⌝ }
+    ensures { λ r. ⌜ tape (now (text .exit)) r ≡ append 7515 (tableLines (now (header .entry)) (rowsOf table rows)) (tape (now (text .entry)) at) ⌝ }
 {
     let first = push_word(text, at, header);
     let end = push_rows(text, first, table, rows);

@@ -2,7 +2,8 @@
 ghost use mathlib.Core.Path.{_≡_};
 ghost use Prim.Native.Nat.{_<_};
 ghost use Rattle.table_text.specs.Tables.{numbers, rowLine};
-ghost use Rattle.table_text.specs.code.Pushes.{tape, append, entry, inRow};
+ghost use Rattle.output.specs.code.Tapes.{tape, append};
+ghost use Rattle.table_text.specs.code.Pushes.{entry, inRow};
 use crate::Text;
 use crate::words::push;
 use crate::words::push_number;
@@ -13,7 +14,7 @@ use grid::scopes::in_scope;
 // A number; the first of a row has nothing before it.
 fn push_entry(text: &mut Text, at: usize, first: bool, n: u8) -> usize
     requires { ⌜ n < 100 ⌝ }
-    ensures { λ r. ⌜ tape (now (text .exit)) r ≡ append (entry first n) (tape (now (text .entry)) at) ⌝ }
+    ensures { λ r. ⌜ tape (now (text .exit)) r ≡ append 7515 (entry first n) (tape (now (text .entry)) at) ⌝ }
 {
     if first {
         return push_number(text, at, n);
@@ -24,7 +25,7 @@ fn push_entry(text: &mut Text, at: usize, first: bool, n: u8) -> usize
 
 // The cells of the row, rising.
 fn push_cells(text: &mut Text, at: usize, scope: Scope) -> usize
-    ensures { λ r. ⌜ tape (now (text .exit)) r ≡ append (numbers (inRow scope)) (tape (now (text .entry)) at) ⌝ }
+    ensures { λ r. ⌜ tape (now (text .exit)) r ≡ append 7515 (numbers (inRow scope)) (tape (now (text .entry)) at) ⌝ }
 {
     let mut end = at;
     let mut first = true;
@@ -40,7 +41,7 @@ fn push_cells(text: &mut Text, at: usize, scope: Scope) -> usize
 }
 
 pub fn push_row(text: &mut Text, at: usize, scope: Scope) -> usize
-    ensures { λ r. ⌜ tape (now (text .exit)) r ≡ append (rowLine (inRow scope)) (tape (now (text .entry)) at) ⌝ }
+    ensures { λ r. ⌜ tape (now (text .exit)) r ≡ append 7515 (rowLine (inRow scope)) (tape (now (text .entry)) at) ⌝ }
 {
     let open = push(text, at, b'[');
     let end = push_cells(text, open, scope);

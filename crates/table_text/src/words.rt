@@ -2,12 +2,12 @@
 ghost use mathlib.Core.Path.{_≡_};
 ghost use Prim.Native.Nat.{_<_};
 ghost use Rattle.output.specs.Decimals.{decimal};
-ghost use Rattle.table_text.specs.code.Pushes.{tape, pushed, append};
+ghost use Rattle.output.specs.code.Tapes.{tape, pushed, append};
 use crate::Text;
 
 // One more byte; a full text stays as it is.
 pub fn push(text: &mut Text, at: usize, byte: u8) -> usize
-    ensures { λ r. ⌜ tape (now (text .exit)) r ≡ pushed (tape (now (text .entry)) at) byte ⌝ }
+    ensures { λ r. ⌜ tape (now (text .exit)) r ≡ pushed 7515 (tape (now (text .entry)) at) byte ⌝ }
 {
     if at < 7515 {
         text[at] = byte;
@@ -17,7 +17,7 @@ pub fn push(text: &mut Text, at: usize, byte: u8) -> usize
 }
 
 pub fn push_word(text: &mut Text, at: usize, word: &[u8]) -> usize
-    ensures { λ r. ⌜ tape (now (text .exit)) r ≡ append (now (word .entry)) (tape (now (text .entry)) at) ⌝ }
+    ensures { λ r. ⌜ tape (now (text .exit)) r ≡ append 7515 (now (word .entry)) (tape (now (text .entry)) at) ⌝ }
 {
     let mut end = at;
     let mut i: usize = 0;
@@ -31,7 +31,7 @@ pub fn push_word(text: &mut Text, at: usize, word: &[u8]) -> usize
 // A number of one digit or two, in decimal.
 pub fn push_number(text: &mut Text, at: usize, n: u8) -> usize
     requires { ⌜ n < 100 ⌝ }
-    ensures { λ r. ⌜ tape (now (text .exit)) r ≡ append (decimal n) (tape (now (text .entry)) at) ⌝ }
+    ensures { λ r. ⌜ tape (now (text .exit)) r ≡ append 7515 (decimal n) (tape (now (text .entry)) at) ⌝ }
 {
     if n < 10 {
         return push(text, at, b'0' + n);

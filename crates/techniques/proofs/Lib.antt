@@ -1,5 +1,8 @@
 pub mod NakedPairs
 pub mod BoxLines
 pub mod XWings
+pub mod HeldTwice
+pub mod WingsDue
 pub mod ReportLists
+pub mod HeldOnce
 pub mod SinglesFound

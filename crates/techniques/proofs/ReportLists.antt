@@ -8,7 +8,7 @@ use native.Mathlib.Omega.{arith}
 use borrow.Author.Tests.{lt-ltb}
 use lib.Dec.{eqb, ltb, lit≤}
 use lib.IntN.{ℤ}
-use lib.ListN.{length, set, length-append, length-map}
+use lib.ListN.{length, set, replicate, length-append, length-map}
 use Rattle.candidates.specs.Masks.{count, lowest}
 use Rattle.candidates.specs.Sets.{onlyOf}
 use Rattle.candidates.proofs.Tests.{cond-true}
@@ -21,8 +21,11 @@ use Rattle.steps.specs.Loops.{each, for, upTo}
 use Rattle.steps.specs.Ported.{spots}
 use Rattle.steps.specs.Singles.{Report, reportIf, reportOnly, nakedAt, nakedSingles, hiddenSingles}
 use Rattle.techniques.specs.declared.singles.Reports.{Reports}
+use Rattle.techniques.specs.declared.Search.{Search}
+use Rattle.techniques.specs.declared.Search.the-variants as search
 use Rattle.techniques.specs.Reports.{filled, reportsOf}
-use Rattle.techniques.specs.code.Pushes.{pushed, append}
+use Rattle.techniques.specs.code.Pushes.{pushed, append, stored}
+use Rattle.techniques.specs.code.Searches.{reportsFound}
 
 -- ---- one report
 
@@ -31,6 +34,15 @@ unfolding append each
 append-one true c d q = refl
 append-one false c d q = refl
 
+-- ---- reports in two arrays
+
+pub none-stored : stored (replicate 324 0) (replicate 324 0) 0 ≡ reportsOf []
+unfolding reportsOf filled
+none-stored = refl
+
+pub stored-same : {a b c d : List ℕ} {m n : ℕ} → a ≡ b → c ≡ d → m ≡ n → stored a c m ≡ stored b d n
+stored-same p q s = cc
+
 -- ---- a value that a list stands in
 
 push-on : (rs : List Report) (r : Report) → length rs < 324 → pushed (reportsOf rs) (r .cell) (r .digit) ≡ reportsOf (rs ++ (r ∷ []))
@@ -38,13 +50,10 @@ unfolding pushed reportsOf filled
 push-on rs r h =
     cond-true (ltb (length rs) 324) (record { cells = set (filled (map (λ r. r .cell) rs)) (length rs) (r .cell); digits = set (filled (map (λ r. r .digit) rs)) (length rs) (r .digit); count = length rs + 1 }) (reportsOf rs)
     (lt-ltb (length rs) 324 h)
-    ∙ same (field (λ r. r .cell)) (field (λ r. r .digit)) (sym (length-append rs (r ∷ [])))
+    ∙ stored-same (field (λ r. r .cell)) (field (λ r. r .digit)) (sym (length-append rs (r ∷ [])))
   where
     field : (f : Report → ℕ) → set (filled (map f rs)) (length rs) (f r) ≡ filled (map f (rs ++ (r ∷ [])))
     field f = fill-next 0 324 (map f rs) (length rs) (f r) (length-map rs f) h ∙ ap filled (sym (map-append f rs (r ∷ [])))
-
-    same : {a b c d : List ℕ} {m n : ℕ} → a ≡ b → c ≡ d → m ≡ n → _≡_ {A = Reports} (record { cells = a; digits = c; count = m }) (record { cells = b; digits = d; count = n })
-    same p q s = cc
 
 pub append-on : (rs ns : List Report) → length rs + length ns ≤ 324 → append ns (reportsOf rs) ≡ reportsOf (rs ++ ns)
 unfolding append each
@@ -93,6 +102,10 @@ module _ (g m : List ℕ) where
 
   pub both-stand : append (hiddenSingles g m) (reportsOf (nakedSingles g m)) ≡ reportsOf (nakedSingles g m ++ hiddenSingles g m)
   both-stand = append-on (nakedSingles g m) (hiddenSingles g m) (omega (arith, naked-few, hidden-few))
+
+pub found-stand : (s : Search) (g m : List ℕ) → append (reportsFound s g m) (reportsOf []) ≡ reportsOf (reportsFound s g m)
+found-stand search.Naked g m = naked-stand g m
+found-stand search.Hidden g m = hidden-stand g m
 
 -- "A report is progress."
 pub some-count : (rs : List Report) → ltb 0 (reportsOf rs .count) ≡ isSome rs

@@ -68,16 +68,16 @@ naked-loop g m q = sym (each-for (λ r q. pushed q (r .cell) (r .digit)) cells (
 
 -- ---- hidden singles
 
--- one turn of the loop
-module _ (u d : ℕ) (q : Reports) {s p : ℕ} (spot : s ≡ p) where
-  pub hidden-found : {c e : ℕ} → c ≡ unitCell u (lowest s) → e ≡ d + 1 → eqb (count s) 1 ≡ true → pushed q c e ≡ append (hiddenAt u p d) q
+-- one turn of the loop: s are the digit's places
+module _ (u d : ℕ) (q : Reports) (s : ℕ) where
+  pub hidden-found : {c e : ℕ} → c ≡ unitCell u (lowest s) → e ≡ d + 1 → eqb (count s) 1 ≡ true → pushed q c e ≡ append (hiddenAt u s d) q
   hidden-found {c} {e} a b t =
-      ap (λ (x : ℕ). pushed q x e) (a ∙ ap (λ (x : ℕ). unitCell u (lowest x)) spot) ∙ ap (pushed q (unitCell u (lowest p))) b
-      ∙ sym (append-one (eqb (count p) 1) (unitCell u (lowest p)) d q ∙ cond-true (eqb (count p) 1) (pushed q (unitCell u (lowest p)) (d + 1)) q (ap (λ (x : ℕ). eqb (count x) 1) (sym spot) ∙ t))
+      ap (λ (x : ℕ). pushed q x e) a ∙ ap (pushed q (unitCell u (lowest s))) b
+      ∙ sym (append-one (eqb (count s) 1) (unitCell u (lowest s)) d q ∙ cond-true (eqb (count s) 1) (pushed q (unitCell u (lowest s)) (d + 1)) q t)
 
-  pub hidden-none : eqb (count s) 1 ≡ false → q ≡ append (hiddenAt u p d) q
+  pub hidden-none : eqb (count s) 1 ≡ false → q ≡ append (hiddenAt u s d) q
   hidden-none t =
-      sym (append-one (eqb (count p) 1) (unitCell u (lowest p)) d q ∙ cond-false (eqb (count p) 1) (pushed q (unitCell u (lowest p)) (d + 1)) q (ap (λ (x : ℕ). eqb (count x) 1) (sym spot) ∙ t))
+      sym (append-one (eqb (count s) 1) (unitCell u (lowest s)) d q ∙ cond-false (eqb (count s) 1) (pushed q (unitCell u (lowest s)) (d + 1)) q t)
 
 pub hidden-loop : (g m : List ℕ) (u : ℕ) (q : Reports) → each (λ d. append (hiddenAt u (spotsIn (unitMasks g m u) d) d)) (upTo 9) q ≡ append (hiddenIn g m u) q
 unfolding append hiddenIn

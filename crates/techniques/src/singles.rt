@@ -1,17 +1,20 @@
 // Singles (module 6): open cells with one candidate, and units with one open cell for a digit. They report (cell, digit) and change no mask.
 ghost use mathlib.Core.Path.{_≡_};
 ghost use mathlib.Core.List.{[], _++_};
+ghost use Prim.Native.Nat.{_+_, _<_, _≤_};
 ghost use lib.IntN.{pos};
 ghost use Rattle.candidates.specs.Sets.{onlyOf, digitOr0};
 ghost use Rattle.steps.specs.Singles.{nakedSingles, hiddenSingles};
 ghost use Rattle.techniques.specs.Reports.{reportsOf};
-ghost use Rattle.techniques.specs.code.Pushes.{pushed, append};
-ghost use Rattle.techniques.specs.code.Singles.{hiddenIn};
+ghost use Rattle.techniques.specs.code.Pushes.{pushed, append, stored};
+ghost use Rattle.techniques.specs.code.Singles.{hiddenIn, onceOf};
 use candidates::SingleCandidate;
 use candidates::SudokuCandidateSet;
 use candidates::masks;
 use cells::open_mask;
 use cells::places_of;
+use cells::unions::join_all;
+use cells::unions::shared;
 use cells::unit_masks;
 use grid::unit_cell;
 
@@ -32,19 +35,17 @@ impl Reports {
             count: 0,
         }
     }
+}
 
-    // One more report; a full value stays as it is.
-    pub fn push(mut self, cell: u8, digit: u8) -> Self
-        ensures { λ r. ⌜ r ≡ pushed self cell digit ⌝ }
-    {
-        let at = self.count;
-        if at < 324 {
-            self.cells[at] = cell;
-            self.digits[at] = digit;
-            self.count = at + 1;
-        }
-        self
-    }
+// One more report in lent arrays that hold so many, and how many they hold then. A value would be copied at each push; that there is room is known
+// before, so that no push asks for it.
+fn push(cells: &mut [u8; 324], digits: &mut [u8; 324], count: usize, cell: u8, digit: u8) -> usize
+    requires { ⌜ count < 324 ⌝ }
+    ensures { λ r. ⌜ (stored (now (cells .exit)) (now (digits .exit)) r ≡ pushed (stored (now (cells .entry)) (now (digits .entry)) count) cell digit) × (r ≡ count + 1) ⌝ }
+{
+    cells[count] = cell;
+    digits[count] = digit;
+    count + 1
 }
 
 // The digit of a mask that holds just one, else 0.
@@ -58,59 +59,94 @@ fn only_digit(mask: u16) -> u8
     }
 }
 
-// Open cells with one candidate, rising, after the reports that are handed in.
-pub fn naked_singles(givens: &[u8; 81], masks: &[u16; 81], reports: Reports) -> Reports
-    ensures { λ r. ⌜ r ≡ append (nakedSingles (now (givens .entry)) (now (masks .entry))) reports ⌝ }
+// Open cells with one candidate, rising, after the reports that the lent arrays hold.
+pub fn naked_singles(
+    givens: &[u8; 81],
+    masks: &[u16; 81],
+    cells: &mut [u8; 324],
+    digits: &mut [u8; 324],
+    held: usize,
+) -> usize
+    requires { ⌜ held + 81 ≤ 324 ⌝ }
+    ensures { λ r. ⌜ (stored (now (cells .exit)) (now (digits .exit)) r ≡ append (nakedSingles (now (givens .entry)) (now (masks .entry))) (stored (now (cells .entry)) (now (digits .entry)) held)) × (r ≤ held + 81) ⌝ }
 {
-    let mut list = reports;
+    let mut count = held;
     let mut cell: usize = 0;
     while cell < 81 {
         let digit = only_digit(open_mask(givens, masks, cell));
         if digit != 0 {
-            let next = list.push(cell as u8, digit);
-            list = next;
+            count = push(cells, digits, count, cell as u8, digit);
         }
         cell += 1;
     }
-    list
+    count
+}
+
+// The digits that just one of the masks holds.
+fn held_once(nine: &[u16; 9]) -> u16
+    ensures { λ r. ⌜ r ≡ onceOf (now (nine .entry)) ⌝ }
+{
+    masks::lose(join_all(nine), shared(nine))
 }
 
 // The digits that one open cell of the unit holds, rising.
-fn hidden_in(givens: &[u8; 81], masks: &[u16; 81], unit: usize, reports: Reports) -> Reports
-    ensures { λ r. ⌜ r ≡ append (hiddenIn (now (givens .entry)) (now (masks .entry)) unit) reports ⌝ }
+fn hidden_in(
+    givens: &[u8; 81],
+    masks: &[u16; 81],
+    unit: usize,
+    cells: &mut [u8; 324],
+    digits: &mut [u8; 324],
+    held: usize,
+) -> usize
+    requires { ⌜ held + 9 ≤ 324 ⌝ }
+    ensures { λ r. ⌜ (stored (now (cells .exit)) (now (digits .exit)) r ≡ append (hiddenIn (now (givens .entry)) (now (masks .entry)) unit) (stored (now (cells .entry)) (now (digits .entry)) held)) × (r ≤ held + 9) ⌝ }
 {
     let nine = unit_masks(givens, masks, unit);
-    let mut list = reports;
+    let once = held_once(&nine);
+    let mut count = held;
     let mut digit: usize = 0;
     while digit < 9 {
-        let spots = places_of(&nine, digit);
-        if masks::is_one(spots) {
-            let cell = unit_cell(unit, masks::lowest_digit(spots));
-            let next = list.push(cell as u8, (digit + 1) as u8);
-            list = next;
+        if masks::has_digit(once, digit) {
+            let place = masks::lowest_digit(places_of(&nine, digit));
+            let cell = unit_cell(unit, place);
+            count = push(cells, digits, count, cell as u8, (digit + 1) as u8);
         }
         digit += 1;
     }
-    list
+    count
 }
 
 // The same for rows, columns and boxes, repeats kept.
-pub fn hidden_singles(givens: &[u8; 81], masks: &[u16; 81], reports: Reports) -> Reports
-    ensures { λ r. ⌜ r ≡ append (hiddenSingles (now (givens .entry)) (now (masks .entry))) reports ⌝ }
+pub fn hidden_singles(
+    givens: &[u8; 81],
+    masks: &[u16; 81],
+    cells: &mut [u8; 324],
+    digits: &mut [u8; 324],
+    held: usize,
+) -> usize
+    requires { ⌜ held + 243 ≤ 324 ⌝ }
+    ensures { λ r. ⌜ stored (now (cells .exit)) (now (digits .exit)) r ≡ append (hiddenSingles (now (givens .entry)) (now (masks .entry))) (stored (now (cells .entry)) (now (digits .entry)) held) ⌝ }
 {
-    let mut list = reports;
+    let mut count = held;
     let mut unit: usize = 0;
     while unit < 27 {
-        let next = hidden_in(givens, masks, unit, list);
-        list = next;
+        count = hidden_in(givens, masks, unit, cells, digits, count);
         unit += 1;
     }
-    list
+    count
 }
 
 // Naked singles and then hidden ones.
 pub fn singles(givens: &[u8; 81], masks: &[u16; 81]) -> Reports
     ensures { λ r. ⌜ r ≡ reportsOf (nakedSingles (now (givens .entry)) (now (masks .entry)) ++ hiddenSingles (now (givens .entry)) (now (masks .entry))) ⌝ }
 {
-    hidden_singles(givens, masks, naked_singles(givens, masks, Reports::new()))
+    let mut cells = [0u8; 324];
+    let mut digits = [0u8; 324];
+    let naked = naked_singles(givens, masks, &mut cells, &mut digits, 0);
+    let count = hidden_singles(givens, masks, &mut cells, &mut digits, naked);
+    Reports {
+        cells,
+        digits,
+        count,
+    }
 }

@@ -1,11 +1,13 @@
 //! Runs one call many times on a fixed mix of boards, for counting instructions.
 //!
-//!     measure SIDE CALL ROUNDS
+//!     measure SIDE CALL ROUNDS [BOARDS]
 //!
 //! SIDE is original, plain or engine; CALL a step number, 255 for no step, or one of `verify`, `repeat` (the verifier where the second cell
 //! repeats the first), `read`, `open`, `count`, `enter`, `rub_out`, `sheet`, `canonical` (a canonical sheet written), `record`, `card` and
-//! `setN` (0 insert, 1 remove, 2 contains, 3 len, 4 single_candidate). A round is 64 boards. What a call costs is the difference of two runs,
-//! divided by the difference of their calls; for a step also less what making the board costs, which 255 has alone:
+//! `setN` (0 insert, 1 remove, 2 contains, 3 len, 4 single_candidate). A round is 64 boards; for a step of the engine the boards of the file
+//! BOARDS in their place, where that is named: a line each, 81 clue characters, a space and 81 masks of three hexadecimal digits. What a call
+//! costs is the difference of two runs, divided by the difference of their calls; for a step also less what making the board costs, which 255
+//! has alone:
 //!
 //!     valgrind --tool=callgrind --callgrind-out-file=/dev/null target/release/measure original 1 100
 
@@ -23,7 +25,11 @@ const BOARDS: usize = 64;
 
 fn main() {
     let words: Vec<String> = std::env::args().skip(1).collect();
-    let [side, call, rounds] = &words[..] else { usage() };
+    let (side, call, rounds, file) = match &words[..] {
+        [side, call, rounds] => (side, call, rounds, None),
+        [side, call, rounds, file] => (side, call, rounds, Some(file)),
+        _ => usage(),
+    };
     let Ok(rounds) = rounds.parse::<usize>() else { usage() };
     let mut random = Random::new(1);
     match (side.as_str(), call.as_str()) {
@@ -41,13 +47,13 @@ fn main() {
         (_, call) if call.starts_with("set") => setting(side, call[3..].parse().unwrap_or_else(|_| usage()), rounds),
         ("original", step) => stepping::<Original>(&mut random, number(step), rounds),
         ("plain", step) => stepping::<Plain>(&mut random, number(step), rounds),
-        ("engine", step) => engine_stepping(&mut random, number(step), rounds),
+        ("engine", step) => engine_stepping(file.map_or_else(|| boards(&mut random), |file| boards_of(file)), number(step), rounds),
         _ => usage(),
     }
 }
 
 fn usage() -> ! {
-    eprintln!("measure original|plain|engine STEP|verify|repeat|read|open|count|enter|rub_out|sheet|canonical|record|card|setN ROUNDS");
+    eprintln!("measure original|plain|engine STEP|verify|repeat|read|open|count|enter|rub_out|sheet|canonical|record|card|setN ROUNDS [BOARDS]");
     std::process::exit(2)
 }
 
@@ -69,6 +75,18 @@ fn boards(random: &mut Random) -> Vec<Board> {
     mixed.collect()
 }
 
+/// The boards of a file, without entries.
+fn boards_of(file: &str) -> Vec<Board> {
+    let text = std::fs::read_to_string(file).expect("a file of boards");
+    let board = |line: &str| {
+        let (clues, masks) = line.split_once(' ').expect("clues, a space and masks");
+        let clue = |at: usize| clues.as_bytes()[at].checked_sub(b'0').map_or(0, i32::from);
+        let mask = |at: usize| u16::from_str_radix(&masks[3 * at..3 * at + 3], 16).expect("a mask of three digits");
+        Board { clues: std::array::from_fn(clue), entries: NO_ENTRIES, masks: std::array::from_fn(mask) }
+    };
+    text.lines().map(board).collect()
+}
+
 fn stepping<S: Side>(random: &mut Random, step: u8, rounds: usize) {
     for board in boards(random) {
         for _ in 0..rounds {
@@ -82,9 +100,9 @@ fn stepping<S: Side>(random: &mut Random, step: u8, rounds: usize) {
 }
 
 /// The export alone, its board check included.
-fn engine_stepping(random: &mut Random, number: u8, rounds: usize) {
+fn engine_stepping(boards: Vec<Board>, number: u8, rounds: usize) {
     let mut reports = [0; 648];
-    for mut board in boards(random) {
+    for mut board in boards {
         let before = board.masks;
         for _ in 0..rounds {
             board.masks = before;

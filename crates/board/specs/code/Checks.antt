@@ -1,13 +1,18 @@
 -- The check of a handed board beside its fresh masks, which the code makes once.
-use mathlib.Core.Bool.{Bool}
+use mathlib.Core.Bool.{Bool, true, false}
 use mathlib.Core.List.{List}
-use mathlib.Core.Option.{Option}
+use mathlib.Core.Option.{Option, none, some}
 use Prim.Native.Nat.{ℕ}
 use lib.Dec.{eqb}
 use Rattle.grid.specs.Cells.{cells}
 use Rattle.steps.specs.Boards.{at, given}
 use Rattle.steps.specs.Calls.{misfit}
 use Rattle.steps.specs.Loops.{first}
+
+-- whether a search finds anything
+abbrev pub isFound : Option ℕ → Bool
+isFound none = false
+isFound (some n) = true
 
 -- a mask beside the fresh one and the given digit
 abbrev pub misfitOf : ℕ → ℕ → ℕ → Bool

@@ -9,6 +9,7 @@ use Rattle.stops.specs.Answer.{checkAnswer, passing, gives}
 use Rattle.stops.specs.declared.Check.{Check}
 use Rattle.calls.specs.Replays.{ran, replayingAnswer}
 use Rattle.calls.proofs.Runs.{replays, run-replayed}
+use Rattle.calls.proofs.Unchecked.{open-admitted}
 use Rattle.calls.proofs.replay.Statement.{statement}
 use Rattle.calls.proofs.replay.Tie as tie
 
@@ -37,7 +38,13 @@ enum-told-2 : tie.Need-enum-told-2
 enum-told-2 c = search needs
 
 run-requires : tie.Need-run-requires
-run-requires c κs = search needs
+run-requires c κs =
+    let told = c .before .before .before in
+    let opened = told .before .before .before in
+    let a = opened .before .before .args in
+    let b = boardOf (opened .with-entries .result .board) in
+    open-admitted (a .clues) (a .entries) (search needs) (search needs)
+    (ap (λ (k : Check). passing (checkAnswer k) b) (sym (told .enum-told .given .1)) ∙ opened .with-entries .ensures .0)
 
 returns : tie.Need-returns
 returns c =

@@ -1,6 +1,6 @@
 -- `card::write_card` meets its contract: a text that is read has a card, and the card has room. Assumes nothing.
-use mathlib.Core.Path.{_≡_, refl, sym, ap, _∙_}
-use mathlib.Core.List.{List, []}
+use mathlib.Core.Path.{_≡_, sym, ap, _∙_}
+use mathlib.Core.List.{List}
 use Prim.Native.Nat.{ℕ}
 use native.Mathlib.Omega.{arith}
 use borrow.Author.Needs.{needs}
@@ -13,10 +13,10 @@ use Rattle.stops.proofs.Answers.{map-map}
 use Rattle.text.specs.Texts.{parseOf}
 use Rattle.card.specs.declared.layout.Card.{Card}
 use Rattle.card.specs.Cards.{textIn, cardFor, cardOf, cardBytes, cardLines}
-use Rattle.card.specs.code.Lines.{linesOf, append}
 use Rattle.output.specs.Lent.{over}
+use Rattle.output.specs.code.Tapes.{Tape, tape, append}
+use Rattle.output.proofs.Tapes.{stands}
 use Rattle.card.proofs.Cards.{read-short}
-use Rattle.card.proofs.Joins.{stands, room, copied}
 use Rattle.card.proofs.Newlines.{text-most}
 use Rattle.card.proofs.write_card.Statement.{statement}
 use Rattle.card.proofs.write_card.Tie as tie
@@ -37,12 +37,6 @@ is-case c {d} e =
   where
     go : (d : Check) (z : List ℤ) → passing (checkAnswer d) (cardFor z) ≡ map cardFor (passing (checkAnswer d) z)
     go d z = sym (map-map cardFor (λ _. z) (checkAnswer d))
-
--- the lines are those of the text's card
-lines : (c : tie.After-card-lines) → c .card-lines .result ≡ linesOf (cardBytes (cardFor (c .before .before .before .before .before .before .parse-string .result .clues)))
-lines c =
-    let z = c .before .before .before .before .before .before .parse-string .result .clues in
-    c .card-lines .ensures ∙ ap (λ (k : Card). append (cardBytes k) (linesOf [])) (c .before .card-of .ensures) ∙ stands (cardBytes (cardFor z)) (read-short z)
 
 text-length-requires : tie.Need-text-length-requires
 text-length-requires c κs = search needs
@@ -79,22 +73,16 @@ card-of-requires c κs = search needs
 card-lines-requires : tie.Need-card-lines-requires
 card-lines-requires c κs = search needs
 
-copy-out-requires : tie.Need-copy-out-requires
-copy-out-requires c κs =
-    let l = c .before in
-    let z = l .before .before .before .before .before .before .parse-string .result .clues in
-    room (cardBytes (cardFor z)) (lines l) (read-short z)
-
 returns-2 : tie.Need-returns-2
 returns-2 c =
-    let l = c .before .before in
-    let t = l .before .before .before .before in
+    let made = c .before .before in
+    let t = made .before .before .before in
     let p = t .before .before in
     let z = p .parse-string .result .clues in
     let lent = p .before .before .before .before .args .out .now in
     let e = is-case p (t .enum-told .given .1) in
-    let k = copied (cardBytes (cardFor z)) (lines l) lent (c .copy-out .ensures .0) (c .copy-out .ensures .1) in
-    (ap gives (k .0) ∙ ap (map (λ (k : Card). length (cardBytes k))) e, k .1 ∙ ap (λ (a : Answer Card). over (cardLines a) lent) e)
+    let lines = c .card-lines .ensures ∙ ap (λ (k : Card). append 256 (cardBytes k) (tape lent 0)) (made .card-of .ensures) ∙ stands 256 lent (cardBytes (cardFor z)) (read-short z) in
+    (ap (λ (t : Tape). gives (t .end)) lines ∙ ap (map (λ (k : Card). length (cardBytes k))) e, ap (λ (t : Tape). t .bytes) lines ∙ ap (λ (a : Answer Card). over (cardLines a) lent) e)
 
 pub write-card-spec : {M : Type 1} → statement M
 write-card-spec =
@@ -109,5 +97,4 @@ write-card-spec =
     returns
     card-of-requires
     card-lines-requires
-    copy-out-requires
     returns-2)

@@ -4,7 +4,8 @@ use native.Mathlib.Omega.{arith}
 use lib.ListN.{length}
 use Rattle.card.specs.Layout.{refusalBytes}
 use Rattle.output.specs.Lent.{over}
-use Rattle.card.proofs.Joins.{room, copied}
+use Rattle.output.specs.code.Tapes.{Tape}
+use Rattle.output.proofs.Tapes.{stands}
 use borrow.Author.Needs.{needs}
 use Rattle.stops.specs.Answer.{writingAnswer}
 use Rattle.stops.specs.declared.Writing.{Writing}
@@ -18,25 +19,19 @@ enum-known-answer c = search needs
 refusal-lines-requires : tie.Need-refusal-lines-requires
 refusal-lines-requires c κs = search needs
 
-copy-out-requires : tie.Need-copy-out-requires
-copy-out-requires c κs =
-    let l = c .before in
-    room (refusalBytes (l .before .before .answer .given .0 .0)) (l .refusal-lines .ensures .0) (l .refusal-lines .ensures .1)
-
 enum-told : tie.Need-enum-told
 enum-told c = search needs
 
 returns : tie.Need-returns
 returns c =
-    let l = c .before .before in
-    let a = l .before .before in
+    let a = c .before .before .before in
     let lent = a .before .before .args .out .now in
     let e = sym (a .answer .given .1) in
     let bytes = refusalBytes (a .answer .given .0 .0) in
-    let w = copied bytes (l .refusal-lines .ensures .0) lent (c .copy-out .ensures .0) (c .copy-out .ensures .1) in (
-      w .0 ∙ ap (λ (q : Writing). length (refusalLine (writingAnswer q))) e,
-      w .1 ∙ ap (λ (q : Writing). over (refusalLine (writingAnswer q)) lent) e,
-      omega (arith, w .0, l .refusal-lines .ensures .1),
+    let w = c .refusal-lines .ensures .0 ∙ stands 256 lent bytes (c .refusal-lines .ensures .1) in (
+      ap (λ (t : Tape). t .end) w ∙ ap (λ (q : Writing). length (refusalLine (writingAnswer q))) e,
+      ap (λ (t : Tape). t .bytes) w ∙ ap (λ (q : Writing). over (refusalLine (writingAnswer q)) lent) e,
+      omega (arith, ap (λ (t : Tape). t .end) w, c .refusal-lines .ensures .1),
     )
 
 returns-2 : tie.Need-returns-2
@@ -48,7 +43,6 @@ write-refusal-spec =
     (tie.spec
     enum-known-answer
     refusal-lines-requires
-    copy-out-requires
     enum-told
     returns
     returns-2)

@@ -1,41 +1,39 @@
--- `cells::changed` meets its contract. The invariant: the cells passed are equal, so those that are left decide. Assumes nothing.
-use mathlib.Core.Path.{_≡_, refl, sym, ap, _∙_}
-use mathlib.Core.Bool.{not}
+-- `cells::changed` meets its contract. The invariant: the flag is up, or the cells that are left differ, exactly where the masks do. Assumes nothing.
+use mathlib.Core.Path.{_≡_, refl, sym, _∙_}
+use mathlib.Core.Bool.{not, _||_}
 use Prim.Native.Nat.{_-_, _≤_}
 use native.Mathlib.Omega.{arith}
 use borrow.Author.Needs.{needs}
 use lib.ListN.{length, drop}
 use Rattle.steps.specs.Boards.{sameMasks}
-use Rattle.cells.proofs.Whole.{same-on, same-off, same-end}
+use Rattle.cells.proofs.Whole.{changed-on, changed-end}
 use Rattle.cells.proofs.changed.Statement.{statement}
 use Rattle.cells.proofs.changed.Tie as tie
 
 abbrev Inv-loop : tie.InvT-loop
-Inv-loop before after cell₀ cell =
-    (length before ≡ 81) × (length after ≡ 81) × (cell ≤ 81) × (sameMasks (drop cell before) (drop cell after) ≡ sameMasks before after)
+Inv-loop before after any₀ cell₀ any cell =
+    (length before ≡ 81) × (length after ≡ 81) × (cell ≤ 81) × ((any || not (sameMasks (drop cell before) (drop cell after))) ≡ not (sameMasks before after))
 
 abbrev μ-loop : tie.MeasureT-loop
-μ-loop before after cell₀ cell = 81 - cell
+μ-loop before after any₀ cell₀ any cell = 81 - cell
 
 loop-holds : tie.Need-loop-holds Inv-loop μ-loop
 loop-holds c = (search needs, search needs, omega arith, refl)
 
-mul-if1 : tie.Need-mul-if1 Inv-loop μ-loop
-mul-if1 c = omega arith
+mul-differ : tie.Need-mul-differ Inv-loop μ-loop
+mul-differ c = omega arith
 
-array-read-if1 : tie.Need-array-read-if1 Inv-loop μ-loop
-array-read-if1 c = omega arith
+array-read-differ : tie.Need-array-read-differ Inv-loop μ-loop
+array-read-differ c = omega arith
 
-mul-if1-2 : tie.Need-mul-if1-2 Inv-loop μ-loop
-mul-if1-2 c = omega arith
+mul-differ-2 : tie.Need-mul-differ-2 Inv-loop μ-loop
+mul-differ-2 c = omega arith
 
-array-read-if1-2 : tie.Need-array-read-if1-2 Inv-loop μ-loop
-array-read-if1-2 c = omega arith
+array-read-differ-2 : tie.Need-array-read-differ-2 Inv-loop μ-loop
+array-read-differ-2 c = omega arith
 
-returns : tie.Need-returns Inv-loop μ-loop
-returns c =
-    let a = c .before .before .before .args in
-    sym (ap not (sym (c .before .before .loop .inv .3) ∙ same-off (a .t1) (a .t2) (c .before .before .loop .cell) (omega arith) (omega arith) (c .if1 .taken)))
+differ-requires : tie.Need-differ-requires Inv-loop μ-loop
+differ-requires c κs = search needs
 
 add-cell : tie.Need-add-cell Inv-loop μ-loop
 add-cell c = omega arith
@@ -45,14 +43,16 @@ loop-less c = omega arith
 
 loop-again : tie.Need-loop-again Inv-loop μ-loop
 loop-again c =
-    let a = c .before .before .before .args in
-    let inv = c .before .before .loop .inv in
-    (inv .0, inv .1, omega arith, sym (same-on (a .t1) (a .t2) (c .before .before .loop .cell) (omega arith) (omega arith) (c .if1 .left)) ∙ inv .3)
+    let l = c .before .before in
+    let a = l .before .args in
+    let inv = l .loop .inv in
+    (inv .0, inv .1, omega arith, changed-on (a .t1) (a .t2) (l .loop .cell) (omega arith) (omega arith) (l .loop .any) (c .differ .ensures) ∙ inv .3)
 
-returns-2 : tie.Need-returns-2 Inv-loop μ-loop
-returns-2 c =
-    let a = c .before .before .args in
-    sym (ap not (sym (c .before .loop .inv .3) ∙ same-end (a .t1) (a .t2) (c .before .loop .cell) (omega arith) (omega arith)))
+returns : tie.Need-returns Inv-loop μ-loop
+returns c =
+    let l = c .before in
+    let a = l .before .args in
+    sym (changed-end (a .t1) (a .t2) (l .loop .cell) (l .loop .any) (omega arith) (omega arith)) ∙ l .loop .inv .3
 
 pub changed-spec : {M : Type 1} → statement M
 changed-spec =
@@ -61,12 +61,12 @@ changed-spec =
     Inv-loop
     μ-loop
     loop-holds
-    mul-if1
-    array-read-if1
-    mul-if1-2
-    array-read-if1-2
-    returns
+    mul-differ
+    array-read-differ
+    mul-differ-2
+    array-read-differ-2
+    differ-requires
     add-cell
     loop-less
     loop-again
-    returns-2)
+    returns)

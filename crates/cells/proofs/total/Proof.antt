@@ -30,10 +30,17 @@ array-read-digit-count c = omega arith
 digit-count-requires : tie.Need-digit-count-requires Inv-loop μ-loop
 digit-count-requires c κs = search needs
 
-add-sum : tie.Need-add-sum Inv-loop μ-loop
-add-sum c =
+-- a mask holds at most sixteen
+few : (c : tie.After-digit-count Inv-loop μ-loop) → c .digit-count .result ≤ 16
+few c =
     let small : Fits w16 (getD (c .before .before .before .args .t1) (c .before .before .loop .cell) 0) = search needs in
     omega (arith, c .digit-count .ensures, ones-le 16 _ (small .fits))
+
+cast-sum : tie.Need-cast-sum Inv-loop μ-loop
+cast-sum c = record { fits = omega (arith, few c) }
+
+add-sum : tie.Need-add-sum Inv-loop μ-loop
+add-sum c = omega (arith, few c)
 
 add-cell : tie.Need-add-cell Inv-loop μ-loop
 add-cell c = omega arith
@@ -43,10 +50,12 @@ loop-less c = omega arith
 
 loop-again : tie.Need-loop-again Inv-loop μ-loop
 loop-again c =
-    let small : Fits w16 (getD (c .before .before .before .args .t1) (c .before .before .loop .cell) 0) = search needs in
     let inv = c .before .before .loop .inv in
     let on = total-on (c .before .before .before .args .t1) (c .before .before .loop .cell) (omega arith) in
-    (inv .0, omega arith, omega (arith, c .digit-count .ensures, ones-le 16 _ (small .fits)), omega (arith, c .digit-count .ensures, on, inv .3))
+    (inv .0, omega arith, omega (arith, few c), omega (arith, c .digit-count .ensures, on, inv .3))
+
+cast-result : tie.Need-cast-result Inv-loop μ-loop
+cast-result c = omega arith
 
 returns : tie.Need-returns Inv-loop μ-loop
 returns c = omega (arith, total-end (c .before .before .args .t1) (c .before .loop .cell) (omega arith), c .before .loop .inv .3)
@@ -61,8 +70,10 @@ total-spec =
     mul-digit-count
     array-read-digit-count
     digit-count-requires
+    cast-sum
     add-sum
     add-cell
     loop-less
     loop-again
+    cast-result
     returns)

@@ -1,13 +1,12 @@
 -- Unions of nine masks: what they hold, what two of them hold, and what those hold that have more than one digit.
 use mathlib.Core.Bool.{cond}
-use mathlib.Core.List.{List, [], _∷_, map}
+use mathlib.Core.List.{List, [], _∷_}
 use Prim.Native.Nat.{ℕ}
 use lib.Bits.{bitAnd}
 use lib.Dec.{eqb}
 use Rattle.candidates.specs.Masks.{has, union, count}
 use Rattle.steps.specs.Boards.{at}
 use Rattle.steps.specs.Loops.{each, upTo}
-use Rattle.cells.specs.code.Places.{allMasks}
 
 unfoldable pub joined : List ℕ → ℕ
 joined nine = each (λ i k. union k (at nine i)) (upTo 9) 0
@@ -23,10 +22,6 @@ sharedFrom nine (i ∷ is) seen shared = sharedFrom nine is (union seen (at nine
 
 unfoldable pub sharedOf : List ℕ → ℕ
 sharedOf nine = sharedFrom nine (upTo 9) 0 0
-
--- the digits that two cells of each unit hold
-unfoldable pub sharedSets : List ℕ → List ℕ
-sharedSets m = map (λ u. sharedOf (allMasks m u)) (upTo 27)
 
 -- a mask, or none if it has one digit
 abbrev pub severalIn : ℕ → ℕ

@@ -31,17 +31,17 @@ flagged by.Cross g m = refl
 flagged by.Chains g m = refl
 flagged by.XChains g m = refl
 
-check-requires : tie.Need-check-requires
-check-requires c κs = search needs
+givens-of-requires : tie.Need-givens-of-requires
+givens-of-requires c κs = search needs
+
+check-given-requires : tie.Need-check-given-requires
+check-given-requires c κs = c .before .before .before .before .givens-of .ensures
 
 enum-known-stop : tie.Need-enum-known-stop
 enum-known-stop c = search needs
 
 enum-told : tie.Need-enum-told
 enum-told c = search needs
-
-givens-of-requires : tie.Need-givens-of-requires
-givens-of-requires c κs = search needs
 
 eliminate-requires : tie.Need-eliminate-requires
 eliminate-requires c κs = search needs
@@ -52,22 +52,23 @@ changed-requires c κs = search needs
 returns : tie.Need-returns
 returns c =
     let k = c .before .before .before in
-    let a = k .before .before .before .before .before .before .before .before .args in
+    let given = k .before .before .before .before .before in
+    let a = given .before .before .before .before .before .before .before .args in
     let b = boardOf (a .board) in
-    let e = answers (callOf (a .elimination)) b (told (k .check .ensures) (c .before .stop .given .1)) in
+    let e = answers (callOf (a .elimination)) b (told (k .check-given .ensures) (c .before .stop .given .1)) in
     record { flag = ap (map (λ (o : Outcome). o .flag)) e; board = ap (left b) e }
 
 returns-2 : tie.Need-returns-2
 returns-2 c =
     let m = c .before in
-    let given = m .before .before .before in
-    let t = given .before .before .before in
+    let t = m .before .before .before in
     let k = t .before .before in
-    let a = k .before .before .before .before .before .before .before .before .args in
+    let given = k .before .before .before .before .before in
+    let a = given .before .before .before .before .before .before .before .args in
     let b = boardOf (a .board) in
     let x = a .elimination in
     let masks = m .eliminate .ensures ∙ ap (λ (g : List ℕ). outcome (callOf x) g (b .masks) .masks) (given .givens-of .ensures) in
-    let e = answers (callOf x) b (told (k .check .ensures) (t .enum-told .given .1)) in
+    let e = answers (callOf x) b (told (k .check-given .ensures) (t .enum-told .given .1)) in
     record {
       flag = ap gives (c .changed .ensures ∙ ap (changed (b .masks)) masks ∙ flagged x (givens b) (b .masks)) ∙ ap (map (λ (o : Outcome). o .flag)) e;
       board = ap (withMasks b) masks ∙ ap (left b) e;
@@ -77,10 +78,10 @@ pub apply-spec : {M : Type 1} → statement M
 apply-spec =
     tie.close
     (tie.spec
-    check-requires
+    givens-of-requires
+    check-given-requires
     enum-known-stop
     enum-told
-    givens-of-requires
     eliminate-requires
     changed-requires
     returns

@@ -1,42 +1,24 @@
 -- `locked::locked_unit` meets its contract. The invariant: the digits that are left still make the whole, and of them the masks hold what they held. Assumes nothing.
-use mathlib.Core.Path.{_≡_, refl, sym, ap, _∙_}
+use mathlib.Core.Path.{sym, _∙_}
 use mathlib.Core.Logic.{⊎-elim}
-use mathlib.Core.List.{List}
-use Prim.Native.Nat.{ℕ, _-_, _≤_}
+use Prim.Native.Nat.{_-_}
 use native.Mathlib.Omega.{arith}
 use borrow.Author.Needs.{needs}
-use Rattle.candidates.specs.Masks.{has}
-use Rattle.grid.proofs.Lists.{turn-done, turns-over}
-use Rattle.steps.specs.Boards.{at}
-use Rattle.steps.specs.Loops.{each, range}
+use Rattle.lanes.specs.code.Lanes.{Alike}
+use Rattle.lanes.proofs.Turns.{Going, going-start, going-on, going-past, going-end}
 use Rattle.locked.specs.code.Locked.{lockedDigit, lockedUnit}
-use Rattle.locked.proofs.LockedDue.{Alike, not-due, none-due, digit-alike, due-alike}
+use Rattle.locked.proofs.LockedDue.{digits-parted}
 use Rattle.locked.proofs.locked_unit.Statement.{statement}
 use Rattle.locked.proofs.locked_unit.Tie as tie
 
 abbrev Inv-loop : tie.InvT-loop
-Inv-loop givens masks₀ unit due digit₀ masks digit =
-    (digit ≤ 9) × (each (lockedDigit givens unit) (range (9 - digit) digit) masks ≡ lockedUnit givens unit masks₀) × ((e : ℕ) → digit ≤ e → Alike e masks masks₀)
+Inv-loop givens masks₀ unit due digit₀ masks digit = Going Alike (lockedDigit givens unit) masks₀ masks digit
 
 abbrev μ-loop : tie.MeasureT-loop
 μ-loop givens masks₀ unit due digit₀ masks digit = 9 - digit
 
-due-digits-requires : tie.Need-due-digits-requires Inv-loop μ-loop
-due-digits-requires c κs = search needs
-
-is-none-requires : tie.Need-is-none-requires Inv-loop μ-loop
-is-none-requires c κs = search needs
-
-returns : tie.Need-returns Inv-loop μ-loop
-returns c =
-    let asked = c .before .before in
-    let start = asked .before .before in
-    let a = start .args in
-    sym (none-due (a .givens .now) (a .masks .now) (a .unit) (start .pre) (asked .due-digits .ensures) (sym (c .before .is-none .ensures) ∙ c .if1 .taken))
-
 loop-holds : tie.Need-loop-holds Inv-loop μ-loop
-unfolding lockedUnit
-loop-holds c = (omega arith, refl, λ e h c. refl)
+loop-holds c = going-start (digits-parted (c .args .givens .now) (c .args .unit)) (c .args .masks .now)
 
 has-digit-requires : tie.Need-has-digit-requires Inv-loop μ-loop
 has-digit-requires c κs = search needs
@@ -53,30 +35,16 @@ loop-less c = omega arith
 loop-again : tie.Need-loop-again Inv-loop μ-loop
 loop-again c =
     let l = c .before .before .before .loop in
-    let asked = c .before .before .before .before .before .before in
-    let start = asked .before .before in
+    let start = c .before .before .before .before in
     let a = start .args in
-    let d = l .digit in
-    let f = lockedDigit (a .givens .now) (a .unit) in
-    ⊎-elim
-    (λ w.
-    let is = w .3 ∙ w .2 .ensures in (
-      omega arith,
-      turn-done f 9 d (omega arith) is (l .inv .1),
-      λ e h x. ap (λ (n : List ℕ). has (at n x) e) is ∙ digit-alike (a .givens .now) (a .unit) d e (λ q. omega arith) (l .masks) x ∙ l .inv .2 e (omega arith) x,
-    ))
-    (λ w.
-    let free = due-alike d (l .masks) (a .masks .now) (l .inv .2 d (omega arith)) (a .unit) (start .pre) ∙ sym (ap (λ (x : ℕ). has x d) (asked .due-digits .ensures)) ∙ sym (c .before .has-digit .ensures) ∙ w .0 .left in (
-      omega arith,
-      turn-done f 9 d (omega arith) (w .1 ∙ sym (not-due (a .givens .now) (l .masks) (a .unit) d (start .pre) (omega arith) free)) (l .inv .1),
-      λ e h x. ap (λ (n : List ℕ). has (at n x) e) (w .1) ∙ l .inv .2 e (omega arith) x,
-    ))
-    (c .if2 .came)
+    let parts = digits-parted (a .givens .now) (a .unit) in
+    ⊎-elim (λ w. going-on parts (l .inv) (omega arith) (w .3 ∙ w .2 .ensures))
+    (λ w. going-past parts (l .inv) (omega arith) (w .1) (start .pre .1 .idle (l .digit) (omega arith) (sym (c .before .has-digit .ensures) ∙ w .0 .left) (l .masks) (l .inv .same (l .digit) (omega arith) (omega arith))))
+    (c .if1 .came)
 
-returns-2 : tie.Need-returns-2 Inv-loop μ-loop
-returns-2 c =
-    let a = c .before .before .before .before .before .before .args in
-    turns-over (lockedDigit (a .givens .now) (a .unit)) 9 (c .before .loop .digit) (c .loop-test .left) (c .before .loop .inv .1)
+returns : tie.Need-returns Inv-loop μ-loop
+unfolding lockedUnit
+returns c = going-end (digits-parted (c .before .before .args .givens .now) (c .before .before .args .unit)) (c .before .loop .inv) (c .loop-test .left)
 
 pub locked-unit-spec : {M : Type 1} → statement M
 locked-unit-spec =
@@ -84,13 +52,10 @@ locked-unit-spec =
     (tie.spec
     Inv-loop
     μ-loop
-    due-digits-requires
-    is-none-requires
-    returns
     loop-holds
     has-digit-requires
     locked-digit-requires
     add-digit
     loop-less
     loop-again
-    returns-2)
+    returns)

@@ -1,17 +1,27 @@
 -- `locked::pointing` meets its contract. Assumes nothing.
-use mathlib.Core.Path.{_∙_}
-use native.Mathlib.Omega.{arith}
-use Rattle.locked.proofs.LockedTurns.{pointing-pass}
+use mathlib.Core.Path.{ap, _∙_}
+use borrow.Author.Needs.{needs}
+use Rattle.lanes.specs.code.Lanes.{laid}
 use Rattle.locked.proofs.pointing.Statement.{statement}
 use Rattle.locked.proofs.pointing.Tie as tie
 
-locked-units-requires : tie.Need-locked-units-requires
-locked-units-requires c κs = omega arith
+doors-requires : tie.Need-doors-requires
+doors-requires c κs = search needs
+
+lanes-of-requires : tie.Need-lanes-of-requires
+lanes-of-requires c κs = search needs
+
+lanes-of-requires-2 : tie.Need-lanes-of-requires-2
+lanes-of-requires-2 c κs = search needs
+
+pointing-lanes-requires : tie.Need-pointing-lanes-requires
+pointing-lanes-requires c κs =
+    let second = c .before .before .before in
+    let first = second .before .before in
+    record { doors = first .lanes-of .ensures ∙ ap laid (first .before .before .doors .ensures); masks = second .lanes-of2 .ensures }
 
 returns : tie.Need-returns
-returns c =
-    let a = c .before .before .args in
-    c .locked-units .ensures ∙ pointing-pass (a .givens .now) (a .masks .now)
+returns c = c .pointing-lanes .ensures .0
 
 pub pointing-spec : {M : Type 1} → statement M
-pointing-spec = tie.close (tie.spec locked-units-requires returns)
+pointing-spec = tie.close (tie.spec doors-requires lanes-of-requires lanes-of-requires-2 pointing-lanes-requires returns)

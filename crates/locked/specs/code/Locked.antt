@@ -1,14 +1,16 @@
 -- Pointing and Claiming by units and digits, and where they may lose anything: a box and the lines that meet it, a line and the boxes that meet it.
+use mathlib.Core.Path.{_≡_}
+use mathlib.Core.Bool.{Bool, true, false, not}
 use mathlib.Core.List.{List}
-use Prim.Native.Nat.{ℕ}
-use Rattle.candidates.specs.Masks.{minus, union}
+use Prim.Native.Nat.{ℕ, _<_, _≤_}
+use lib.Dec.{ltb}
+use Rattle.candidates.specs.Masks.{has}
 use Rattle.steps.specs.Boards.{isOpen}
 use Rattle.steps.specs.Instances.{lockedStep}
 use Rattle.steps.specs.Loops.{each, upTo}
 use Rattle.steps.specs.Steps.{stepTaken}
-use Rattle.cells.specs.code.Places.{allMasks}
-use Rattle.cells.specs.code.Unions.{joinedAt}
-use Rattle.cells.specs.code.Meets.{meetings, metPlaces, outside, metUnit}
+use Rattle.cells.specs.code.Meets.{meetings, metUnit}
+use Rattle.lanes.specs.code.Lanes.{Alike}
 
 unfoldable pub lockedDigit : List ℕ → ℕ → ℕ → List ℕ → List ℕ
 lockedDigit g u d m = each (λ k. stepTaken (isOpen g) (lockedStep u (metUnit u k) d)) (upTo (meetings u)) m
@@ -16,16 +18,12 @@ lockedDigit g u d m = each (λ k. stepTaken (isOpen g) (lockedStep u (metUnit u 
 unfoldable pub lockedUnit : List ℕ → ℕ → List ℕ → List ℕ
 lockedUnit g u m = each (lockedDigit g u) (upTo 9) m
 
--- the digits that the k-th unit that meets u holds outside u, and u in it alone; `nine` are u's masks
-unfoldable pub dueOn : List ℕ → List ℕ → ℕ → ℕ → ℕ
-dueOn m nine u k = minus (joinedAt (allMasks m (metUnit u k)) (outside u k)) (joinedAt nine (minus 511 (metPlaces k)))
+-- the instances of a digit that is not due lose nothing, as long as the masks hold it where they do in m
+pub record DigitSkips (g m : List ℕ) (u due : ℕ) : Type 0 where
+  pub idle : (d : ℕ) → d < 9 → has due d ≡ false → (n : List ℕ) → Alike d n m → lockedDigit g u d n ≡ n
 
--- the same for the first n of them, one joined to the others
-abbrev pub dueTurn : List ℕ → ℕ → ℕ → ℕ → ℕ
-dueTurn m u k x = union x (dueOn m (allMasks m u) u k)
-
-unfoldable pub dueAmong : List ℕ → ℕ → ℕ → ℕ
-dueAmong m u n = each (dueTurn m u) (upTo n) 0
-
-abbrev pub unitDue : List ℕ → ℕ → ℕ
-unitDue m u = dueAmong m u (meetings u)
+-- the units from the first to before the end are boxes, or lines
+pub record BoxesOrLines (first end : ℕ) (boxes : Bool) : Type 0 where
+  pub rise : first ≤ end
+  pub most : end ≤ 27
+  pub each : (u : ℕ) → first ≤ u → u < end → ltb u 18 ≡ not boxes

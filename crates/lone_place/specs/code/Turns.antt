@@ -1,7 +1,7 @@
 -- The parts that Lone and Place are made of: what the loops inside them leave of the masks.
 use mathlib.Core.Bool.{cond}
 use mathlib.Core.List.{List}
-use Prim.Native.Nat.{ℕ}
+use Prim.Native.Nat.{ℕ, _+_, _*_}
 use lib.Dec.{eqb}
 use Rattle.candidates.specs.Masks.{minus, single}
 use Rattle.grid.specs.Cells.{peers}
@@ -21,6 +21,10 @@ peersLose g c k m = loseAll (isOpen g) (peers c) (λ _. k) m
 -- the nine instances of a cell
 unfoldable pub loneCell : List ℕ → ℕ → List ℕ → List ℕ
 loneCell g c m = each (λ d. instanceTaken g (lone c d)) (upTo 9) m
+
+-- the nine cells of a row
+unfoldable pub loneRow : List ℕ → ℕ → List ℕ → List ℕ
+loneRow g r m = each (λ k. loneCell g (9 * r + k)) (upTo 9) m
 
 -- ---- Place
 

@@ -1,21 +1,27 @@
 -- `pair_cross::cross` meets its contract. Assumes nothing.
-use mathlib.Core.Path.{refl, sym, ap, _∙_}
-use mathlib.Core.Logic.{inl, inr}
-use Rattle.pair_cross.specs.code.Twos.{crossLines}
-use Rattle.pair_cross.proofs.FramePasses.{cross-pass}
+use mathlib.Core.Path.{ap, _∙_}
+use borrow.Author.Needs.{needs}
+use Rattle.lanes.specs.code.Lanes.{laid}
 use Rattle.pair_cross.proofs.cross.Statement.{statement}
 use Rattle.pair_cross.proofs.cross.Tie as tie
 
-cross-lines-requires : tie.Need-cross-lines-requires
-cross-lines-requires c κs = inl refl
+doors-requires : tie.Need-doors-requires
+doors-requires c κs = search needs
 
-cross-lines-requires-2 : tie.Need-cross-lines-requires-2
-cross-lines-requires-2 c κs = inr refl
+lanes-of-requires : tie.Need-lanes-of-requires
+lanes-of-requires c κs = search needs
+
+lanes-of-requires-2 : tie.Need-lanes-of-requires-2
+lanes-of-requires-2 c κs = search needs
+
+cross-lanes-requires : tie.Need-cross-lanes-requires
+cross-lanes-requires c κs =
+    let second = c .before .before .before in
+    let first = second .before .before in
+    record { doors = first .lanes-of .ensures ∙ ap laid (first .before .before .doors .ensures); masks = second .lanes-of2 .ensures }
 
 returns : tie.Need-returns
-returns c =
-    let a = c .before .before .before .before .args in
-    c .cross-lines2 .ensures ∙ ap (crossLines (a .givens .now) 9) (c .before .before .cross-lines .ensures) ∙ sym (cross-pass (a .givens .now) (a .masks .now))
+returns c = c .cross-lanes .ensures .0
 
 pub cross-spec : {M : Type 1} → statement M
-cross-spec = tie.close (tie.spec cross-lines-requires cross-lines-requires-2 returns)
+cross-spec = tie.close (tie.spec doors-requires lanes-of-requires lanes-of-requires-2 cross-lanes-requires returns)

@@ -1,20 +1,19 @@
 -- Pair and Cross as one search: a frame has nine lines of nine places each. Two lines that hold nothing outside two places take those from the other lines.
 use mathlib.Core.Path.{_≡_}
 use mathlib.Core.Logic.{_⊎_}
-use mathlib.Core.Bool.{Bool, true, false, cond, not, _||_}
+use mathlib.Core.Bool.{cond}
 use mathlib.Core.List.{List, [], _∷_, map}
 use Prim.Native.Nat.{ℕ, _+_, _-_, _<_}
 use lib.Bits.{bitAnd}
 use lib.Dec.{eqb}
-use lib.ListN.{getD, set}
+use lib.ListN.{getD}
 use Rattle.candidates.specs.Masks.{minus, union, count, tail}
 use Rattle.grid.specs.Units.{unitCell}
 use Rattle.steps.specs.Boards.{at, isOpen}
 use Rattle.steps.specs.Instances.{both, pairStep, crossStep}
-use Rattle.steps.specs.Loops.{each, all, upTo}
+use Rattle.steps.specs.Loops.{each, upTo}
 use Rattle.steps.specs.Steps.{Step, loseAll, stepTaken}
-use Rattle.cells.specs.code.Places.{unitMasks, allMasks, heldPlaces, lineSpots}
-use Rattle.cells.specs.code.Unions.{joined, sharedOf}
+use Rattle.cells.specs.code.Places.{allMasks, heldPlaces}
 use Rattle.pair_cross.specs.declared.twos.Frame.{Frame}
 use Rattle.pair_cross.specs.declared.twos.Frame.the-variants.{Unit, Lines}
 
@@ -68,25 +67,9 @@ abbrev pub lineMasks : List ℕ → Frame → List ℕ
 lineMasks m (Unit u) = allMasks m u
 lineMasks m (Lines f d) = heldLines m f d
 
--- and of open cells alone
-abbrev pub openLines : List ℕ → List ℕ → Frame → List ℕ
-openLines g m (Unit u) = unitMasks g m u
-openLines g m (Lines f d) = lineSpots g m f d
-
--- what the lines but i and j hold
-unfoldable pub othersOf : List ℕ → ℕ → ℕ → ℕ
-othersOf nine i j = joined (set (set nine i 0) j 0)
-
 -- all places that the other lines can lose to two lines that hold k: any if k has one or none, those of k if it has two, else none
 unfoldable pub reachOf : ℕ → ℕ
 reachOf k = cond (eqb (count (tail k)) 0) 511 (cond (eqb (count (tail (tail k))) 0) k 0)
-
--- a line that holds nothing, or one or two places of which another line holds one: it may make an instance lose something
-abbrev pub lively : ℕ → ℕ → Bool
-lively x both = cond (eqb (count x) 0) true (cond (eqb (count (bitAnd x both)) 0) false (eqb (count x) 1 || eqb (count x) 2))
-
-unfoldable pub quietOf : List ℕ → Bool
-quietOf nine = all (λ i. not (lively (bitAnd (at nine i) 511) (sharedOf nine))) (upTo 9)
 
 -- ---- the loops
 

@@ -1,62 +1,68 @@
--- `passes::sweep_on` meets its contract. The invariant: the sweeps that are left still make what settling leaves, and with those done its count. Assumes nothing.
+-- `passes::sweep_on` meets its contract. The invariant: the sweeps that are left still make what settling leaves, and with those done its count; the last passes, `idle` of them, removed nothing. Assumes nothing.
 use mathlib.Core.Path.{_≡_, refl, sym, ap, _∙_}
 use mathlib.Core.List.{List}
-use Prim.Native.Nat.{ℕ, _+_, _-_, _≤_}
+use Prim.Native.Nat.{ℕ, _+_, _-_, _≤_, _<_}
 use native.Mathlib.Omega.{arith}
 use borrow.Author.Needs.{needs}
-use borrow.Author.Tests.{not-true, not-false}
-use Rattle.steps.specs.Passes.{sweep, changed, Sweeps, settle, settleIn}
+use Rattle.steps.specs.Passes.{Sweeps, settle, settleIn}
+use Rattle.lanes.specs.code.Lanes.{laid}
+use Rattle.passes.specs.code.Rounds.{LastIdle}
 use Rattle.passes.proofs.Sweeping.{settle-stops, settle-goes, settle-ends}
 use Rattle.passes.proofs.sweep_on.Statement.{statement}
 use Rattle.passes.proofs.sweep_on.Tie as tie
 
 abbrev Inv-loop : tie.InvT-loop
-Inv-loop givens masks₀ sweeps₀ masks sweeps =
-    (sweeps ≤ 730) × (sweeps + settleIn (730 - sweeps) givens masks .sweeps ≡ settle givens masks₀ .sweeps) × (settleIn (730 - sweeps) givens masks .left ≡ settle givens masks₀ .left)
+Inv-loop givens masks₀ doors lanes₀ idle₀ sweeps₀ masks lanes idle sweeps =
+    (sweeps ≤ 730) × (lanes ≡ laid masks) × (idle < 6) × LastIdle givens idle masks × (sweeps + settleIn (730 - sweeps) givens masks .sweeps ≡ settle givens masks₀ .sweeps) × (settleIn (730 - sweeps) givens masks .left ≡ settle givens masks₀ .left)
 
 abbrev μ-loop : tie.MeasureT-loop
-μ-loop givens masks₀ sweeps₀ masks sweeps = 730 - sweeps
+μ-loop givens masks₀ doors lanes₀ idle₀ sweeps₀ masks lanes idle sweeps = 730 - sweeps
+
+doors-requires : tie.Need-doors-requires Inv-loop μ-loop
+doors-requires c κs = search needs
+
+lanes-of-requires : tie.Need-lanes-of-requires Inv-loop μ-loop
+lanes-of-requires c κs = search needs
+
+lanes-of-requires-2 : tie.Need-lanes-of-requires-2 Inv-loop μ-loop
+lanes-of-requires-2 c κs = search needs
 
 loop-holds : tie.Need-loop-holds Inv-loop μ-loop
-loop-holds c = (omega arith, omega arith, refl)
+loop-holds c = (omega arith, c .lanes-of2 .ensures, omega arith, record { still = λ j a b. absurd (omega arith) }, omega arith, refl)
 
 sweep-requires : tie.Need-sweep-requires Inv-loop μ-loop
-sweep-requires c κs = search needs
+sweep-requires c κs =
+    let l = c .before .before .before .before in
+    let doors = l .before .before .before in
+    (record { doors = doors .lanes-of .ensures ∙ ap laid (doors .before .before .doors .ensures); masks = l .loop .inv .1 }, l .loop .inv .2, l .loop .inv .3)
 
 add-sweeps : tie.Need-add-sweeps Inv-loop μ-loop
 add-sweeps c = omega arith
 
-changed-requires : tie.Need-changed-requires Inv-loop μ-loop
-changed-requires c κs = search needs
-
--- whether the sweep removed anything
-tested : (c : tie.After-changed Inv-loop μ-loop)
-    → c .changed .result ≡ changed (c .before .before .before .before .before .before .loop .masks) (sweep (c .before .before .before .before .before .before .before .args .givens .now) (c .before .before .before .before .before .before .loop .masks))
-tested c = c .changed .ensures ∙ ap (changed (c .before .before .before .before .before .before .loop .masks)) (c .before .before .sweep .ensures)
-
 returns : tie.Need-returns Inv-loop μ-loop
 returns c =
-    let l = c .before .before .before .before .before .before .before .loop in
-    let g = c .before .before .before .before .before .before .before .before .args .givens .now in
-    let s = settle-stops g (l .sweeps) (l .masks) (omega arith) (sym (tested (c .before)) ∙ not-true (c .before .changed .result) (c .if1 .taken)) in
-    (omega (arith, ap (λ (x : Sweeps). x .sweeps) s, l .inv .1), c .before .before .before .sweep .ensures ∙ sym (ap (λ (x : Sweeps). x .left) s) ∙ l .inv .2)
+    let l = c .before .before .before .before .before .before in
+    let g = l .before .before .before .before .before .before .args .givens .now in
+    let s = settle-stops g (l .loop .sweeps) (l .loop .masks) (omega arith) (c .before .sweep .ensures .0) (c .if1 .taken) in
+    (omega (arith, ap (λ (x : Sweeps). x .sweeps) s, l .loop .inv .4), sym (ap (λ (x : Sweeps). x .left) s) ∙ l .loop .inv .5)
 
 loop-less : tie.Need-loop-less Inv-loop μ-loop
 loop-less c = omega arith
 
 loop-again : tie.Need-loop-again Inv-loop μ-loop
 loop-again c =
-    let l = c .before .before .before .before .before .before .before .loop in
-    let g = c .before .before .before .before .before .before .before .before .args .givens .now in
-    let s = settle-goes g (l .sweeps) (l .masks) (omega arith) (sym (tested (c .before)) ∙ not-false (c .before .changed .result) (c .if1 .left)) in
-    let e = ap (λ (m : List ℕ). settleIn (730 - (l .sweeps + 1)) g m) (c .before .before .before .sweep .ensures) in
-    (omega arith, omega (arith, ap (λ (x : Sweeps). x .sweeps) s, ap (λ (x : Sweeps). x .sweeps) e, l .inv .1), ap (λ (x : Sweeps). x .left) e ∙ sym (ap (λ (x : Sweeps). x .left) s) ∙ l .inv .2)
+    let l = c .before .before .before .before .before .before in
+    let g = l .before .before .before .before .before .before .args .givens .now in
+    let swept = c .before .sweep .ensures in
+    let below : c .before .sweep .result < 6 = omega (arith, swept .0 .few, c .if1 .left) in
+    let s = settle-goes g (l .loop .sweeps) (l .loop .masks) (omega arith) (swept .0) below in
+    (omega arith, swept .1, below, swept .0 .goes below .1, omega (arith, ap (λ (x : Sweeps). x .sweeps) s, l .loop .inv .4), sym (ap (λ (x : Sweeps). x .left) s) ∙ l .loop .inv .5)
 
 returns-2 : tie.Need-returns-2 Inv-loop μ-loop
 returns-2 c =
-    let l = c .before .loop in
-    let s = settle-ends (c .before .before .args .givens .now) (l .sweeps) (l .masks) (c .loop-test .left) in
-    (omega (arith, ap (λ (x : Sweeps). x .sweeps) s, l .inv .1), sym (ap (λ (x : Sweeps). x .left) s) ∙ l .inv .2)
+    let l = c .before in
+    let s = settle-ends (l .before .before .before .before .before .before .args .givens .now) (l .loop .sweeps) (l .loop .masks) (c .loop-test .left) in
+    (omega (arith, ap (λ (x : Sweeps). x .sweeps) s, l .loop .inv .4), sym (ap (λ (x : Sweeps). x .left) s) ∙ l .loop .inv .5)
 
 pub sweep-on-spec : {M : Type 1} → statement M
 sweep-on-spec =
@@ -64,10 +70,12 @@ sweep-on-spec =
     (tie.spec
     Inv-loop
     μ-loop
+    doors-requires
+    lanes-of-requires
+    lanes-of-requires-2
     loop-holds
     sweep-requires
     add-sweeps
-    changed-requires
     returns
     loop-less
     loop-again

@@ -9,18 +9,19 @@ use Rattle.grid.specs.declared.scopes.Scope.{Scope}
 use Rattle.steps.specs.Loops.{each, for, range, upTo}
 use Rattle.table_text.specs.Tables.{rowLine}
 use Rattle.table_text.specs.declared.Table.{Table}
-use Rattle.table_text.specs.code.Pushes.{Tape, tape, append, scopeOf, inRow, rowsOf}
+use Rattle.output.specs.code.Tapes.{Tape, tape, append}
+use Rattle.table_text.specs.code.Pushes.{scopeOf, inRow, rowsOf}
 use Rattle.table_text.proofs.Texts.{rows-each}
 use Rattle.table_text.proofs.push_rows.Statement.{statement}
 use Rattle.table_text.proofs.push_rows.Tie as tie
 
 -- one turn of the loop
 turn : Table → ℕ → Tape → Tape
-turn table row t = append (rowLine (inRow (scopeOf table row))) t
+turn table row t = append 7515 (rowLine (inRow (scopeOf table row))) t
 
 abbrev Inv-loop : tie.InvT-loop
 Inv-loop text₀ at table rows end₀ row₀ text end row =
-    (row ≤ rows) × (each (turn table) (range (rows - row) row) (tape text end) ≡ append (for (rowsOf table rows) rowLine) (tape text₀ at))
+    (row ≤ rows) × (each (turn table) (range (rows - row) row) (tape text end) ≡ append 7515 (for (rowsOf table rows) rowLine) (tape text₀ at))
 
 abbrev μ-loop : tie.MeasureT-loop
 μ-loop text₀ at table rows end₀ row₀ text end row = rows - row
@@ -51,7 +52,7 @@ loop-again c =
     let a = l .before .args in
     let t = tape (l .loop .text) (l .loop .end) in (
       omega arith,
-      turn-done (turn (a .table)) (a .rows) (l .loop .row) (omega arith) (c .push-row .ensures ∙ ap (λ (s : Scope). append (rowLine (inRow s)) t) (c .before .scope-of .ensures)) (l .loop .inv .1),
+      turn-done (turn (a .table)) (a .rows) (l .loop .row) (omega arith) (c .push-row .ensures ∙ ap (λ (s : Scope). append 7515 (rowLine (inRow s)) t) (c .before .scope-of .ensures)) (l .loop .inv .1),
     )
 
 returns : tie.Need-returns Inv-loop μ-loop

@@ -1,6 +1,7 @@
 -- `table_text::push_table` meets its contract. Assumes nothing.
 use borrow.Author.Needs.{needs}
-use Rattle.table_text.specs.code.Pushes.{tape, rowsOf}
+use Rattle.output.specs.code.Tapes.{tape}
+use Rattle.table_text.specs.code.Pushes.{rowsOf}
 use Rattle.table_text.proofs.Texts.{table-joined}
 use Rattle.table_text.proofs.push_table.Statement.{statement}
 use Rattle.table_text.proofs.push_table.Tie as tie

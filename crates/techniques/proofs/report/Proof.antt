@@ -19,8 +19,11 @@ use Rattle.techniques.specs.code.Searches.{searchCall, reportsFound}
 use Rattle.techniques.proofs.report.Statement.{statement}
 use Rattle.techniques.proofs.report.Tie as tie
 
-check-requires : tie.Need-check-requires
-check-requires c κs = search needs
+givens-of-requires : tie.Need-givens-of-requires
+givens-of-requires c κs = search needs
+
+check-given-requires : tie.Need-check-given-requires
+check-given-requires c κs = c .before .before .before .before .givens-of .ensures
 
 enum-known-stop : tie.Need-enum-known-stop
 enum-known-stop c = search needs
@@ -31,18 +34,16 @@ new-requires c κs = search needs
 enum-told : tie.Need-enum-told
 enum-told c = search needs
 
-givens-of-requires : tie.Need-givens-of-requires
-givens-of-requires c κs = search needs
-
 find-requires : tie.Need-find-requires
 find-requires c κs = search needs
 
 returns : tie.Need-returns
 returns c =
     let k = c .before .before .before .before in
-    let p = k .before .before .before .before .before .before .before .args in
+    let given = k .before .before .before .before .before in
+    let p = given .before .before .before .before .before .before .args in
     let b = boardOf (p .board) in
-    let e = answers (searchCall (p .search)) b (told (k .check .ensures) (c .before .before .stop .given .1)) in
+    let e = answers (searchCall (p .search)) b (told (k .check-given .ensures) (c .before .before .stop .given .1)) in
     record { flag = ap (map (λ (o : Outcome). o .flag)) e; board = ap (left b) e; reports = c .new .ensures ∙ ap (λ (a : Answer Outcome). reportsOf (valueOr [] (map (λ (o : Outcome). o .reports) a))) e }
 
 finds : (s : Search) (g m : List ℕ) → outcome (searchCall s) g m ≡ reportsOutcome (reportsFound s g m) m
@@ -53,17 +54,17 @@ finds search.Hidden g m = refl
 returns-2 : tie.Need-returns-2
 returns-2 c =
     let f = c .before in
-    let given = f .before .before .before in
-    let t = given .before .before .before in
+    let t = f .before .before .before in
     let k = t .before .before in
-    let p = k .before .before .before .before .before .before .before .args in
+    let given = k .before .before .before .before .before in
+    let p = given .before .before .before .before .before .before .args in
     let b = boardOf (p .board) in
     let g = givens b in
     let list = reportsFound (p .search) g (b .masks) in
     let rs : f .find .result ≡ reportsOf list =
     f .find .ensures ∙ ap (λ (g : List ℕ). reportsOf (reportsFound (p .search) g (b .masks))) (given .givens-of .ensures) in
     let o = finds (p .search) g (b .masks) in
-    let e = answers (searchCall (p .search)) b (told (k .check .ensures) (t .enum-told .given .1)) in
+    let e = answers (searchCall (p .search)) b (told (k .check-given .ensures) (t .enum-told .given .1)) in
     record {
       flag = ap (λ (q : Reports). gives (ltb 0 (q .count))) rs ∙ ap gives (some-count list ∙ ap (λ (o : Outcome). o .flag) (sym o)) ∙ ap (map (λ (o : Outcome). o .flag)) e;
       board = ap (λ (o : Outcome). left b (gives o)) (sym o) ∙ ap (left b) e;
@@ -74,11 +75,11 @@ pub report-spec : {M : Type 1} → statement M
 report-spec =
     tie.close
     (tie.spec
-    check-requires
+    givens-of-requires
+    check-given-requires
     enum-known-stop
     new-requires
     enum-told
-    givens-of-requires
     find-requires
     returns
     returns-2)

@@ -1,4 +1,4 @@
--- `text::first_other` meets its contract. Assumes nothing.
+-- `text::check_bytes` meets its contract. Assumes nothing.
 use mathlib.Core.Path.{_≡_, refl, ap, _∙_}
 use Prim.Native.Nat.{_-_}
 use native.Mathlib.Omega.{arith}
@@ -11,6 +11,7 @@ use Rattle.grid.specs.Lists.{range}
 use Rattle.steps.specs.Loops.{first}
 use Rattle.text.specs.Texts.{isOther, firstOther}
 use Rattle.steps.proofs.Searches.{found, passed, ended}
+use Rattle.board.proofs.Flags.{unflagged}
 use Rattle.text.proofs.check_bytes.Statement.{statement}
 use Rattle.text.proofs.check_bytes.Tie as tie
 
@@ -19,6 +20,12 @@ Inv-loop text index₀ index = first (λ i. isOther (getD text i 0)) (range (81 
 
 abbrev μ-loop : tie.MeasureT-loop
 μ-loop text index₀ index = 81 - index
+
+any-other-requires : tie.Need-any-other-requires Inv-loop μ-loop
+any-other-requires c κs = search needs
+
+returns : tie.Need-returns Inv-loop μ-loop
+returns c = unflagged OtherByte (firstOther (c .before .before .before .args .text .now)) (c .before .any-other .ensures) (c .if1 .taken)
 
 loop-holds : tie.Need-loop-holds Inv-loop μ-loop
 unfolding cells
@@ -30,14 +37,14 @@ byte-at-requires c κs = search needs
 is-other-requires : tie.Need-is-other-requires Inv-loop μ-loop
 is-other-requires c κs = search needs
 
-cast-t6 : tie.Need-cast-t6 Inv-loop μ-loop
-cast-t6 c = search needs
+cast-t8 : tie.Need-cast-t8 Inv-loop μ-loop
+cast-t8 c = search needs
 
-returns : tie.Need-returns Inv-loop μ-loop
-returns c =
+returns-2 : tie.Need-returns-2 Inv-loop μ-loop
+returns-2 c =
     let l = c .before .before .before .before .loop in
     found-stop OtherByte (omega arith)
-    (found _ 81 (l .index) (l .inv) (omega arith) (c .before .is-other .ensures ∙ ap isOther (c .before .before .byte-at .ensures)) (c .if1 .taken))
+    (found _ 81 (l .index) (l .inv) (omega arith) (c .before .is-other .ensures ∙ ap isOther (c .before .before .byte-at .ensures)) (c .if2 .taken))
 
 add-index : tie.Need-add-index Inv-loop μ-loop
 add-index c = omega arith
@@ -48,10 +55,10 @@ loop-less c = omega arith
 loop-again : tie.Need-loop-again Inv-loop μ-loop
 loop-again c =
     let l = c .before .before .before .before .loop in
-    passed _ 81 (l .index) (l .inv) (omega arith) (c .before .is-other .ensures ∙ ap isOther (c .before .before .byte-at .ensures)) (c .if1 .left)
+    passed _ 81 (l .index) (l .inv) (omega arith) (c .before .is-other .ensures ∙ ap isOther (c .before .before .byte-at .ensures)) (c .if2 .left)
 
-returns-2 : tie.Need-returns-2 Inv-loop μ-loop
-returns-2 c = none-found OtherByte (ended _ 81 (c .before .loop .index) (c .before .loop .inv) (c .loop-test .left))
+returns-3 : tie.Need-returns-3 Inv-loop μ-loop
+returns-3 c = none-found OtherByte (ended _ 81 (c .before .loop .index) (c .before .loop .inv) (c .loop-test .left))
 
 pub check-bytes-spec : {M : Type 1} → statement M
 check-bytes-spec =
@@ -59,12 +66,14 @@ check-bytes-spec =
     (tie.spec
     Inv-loop
     μ-loop
+    any-other-requires
+    returns
     loop-holds
     byte-at-requires
     is-other-requires
-    cast-t6
-    returns
+    cast-t8
+    returns-2
     add-index
     loop-less
     loop-again
-    returns-2)
+    returns-3)

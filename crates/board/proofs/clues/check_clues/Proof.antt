@@ -14,6 +14,7 @@ use Rattle.stops.proofs.Answers.{found-stop, none-found}
 use Rattle.steps.specs.Calls.{badClue, firstBadClue}
 use Rattle.steps.specs.Loops.{first}
 use Rattle.steps.proofs.Searches.{found, passed, ended}
+use Rattle.board.proofs.Flags.{unflagged}
 use Rattle.board.proofs.clues.check_clues.Statement.{statement}
 use Rattle.board.proofs.clues.check_clues.Tie as tie
 
@@ -22,6 +23,14 @@ Inv-loop clues cell₀ cell = first (λ c. badClue (getD clues c (pos 0))) (rang
 
 abbrev μ-loop : tie.MeasureT-loop
 μ-loop clues cell₀ cell = 81 - cell
+
+any-bad-requires : tie.Need-any-bad-requires Inv-loop μ-loop
+any-bad-requires c κs = search needs
+
+returns : tie.Need-returns Inv-loop μ-loop
+returns c =
+    let a = c .before .before .args in
+    unflagged BadClue (firstBadClue (a .clues .now)) (c .before .any-bad .ensures) (c .if1 .taken)
 
 loop-holds : tie.Need-loop-holds Inv-loop μ-loop
 unfolding cells
@@ -36,17 +45,17 @@ element-copy-out-is-bad c = omega arith
 is-bad-requires : tie.Need-is-bad-requires Inv-loop μ-loop
 is-bad-requires c κs = search needs
 
-cast-t9 : tie.Need-cast-t9 Inv-loop μ-loop
-cast-t9 c = search needs
+cast-t11 : tie.Need-cast-t11 Inv-loop μ-loop
+cast-t11 c = search needs
 
-test : (c : tie.After-is-bad Inv-loop μ-loop) → c .is-bad .result ≡ badClue (getD (c .before .before .before .before .args .clues .now) (c .before .before .before .loop .cell) (pos 0))
+test : (c : tie.After-is-bad Inv-loop μ-loop) → c .is-bad .result ≡ badClue (getD (c .before .before .before .before .before .before .args .clues .now) (c .before .before .before .loop .cell) (pos 0))
 test c =
     let l = c .before .before .before in
     c .is-bad .ensures
-    ∙ ap badClue (toZ-ofZ {w = w32} {z = getD (l .before .args .clues .now) (l .loop .cell) (pos 0)} (record { sfits = c .before .is-bad-arg .given }))
+    ∙ ap badClue (toZ-ofZ {w = w32} {z = getD (l .before .before .before .args .clues .now) (l .loop .cell) (pos 0)} (record { sfits = c .before .is-bad-arg .given }))
 
-returns : tie.Need-returns Inv-loop μ-loop
-returns c = found-stop BadClue (omega arith) (found _ 81 (c .before .before .before .before .loop .cell) (c .before .before .before .before .loop .inv) (omega arith) (test (c .before)) (c .if1 .taken))
+returns-2 : tie.Need-returns-2 Inv-loop μ-loop
+returns-2 c = found-stop BadClue (omega arith) (found _ 81 (c .before .before .before .before .loop .cell) (c .before .before .before .before .loop .inv) (omega arith) (test (c .before)) (c .if2 .taken))
 
 add-cell : tie.Need-add-cell Inv-loop μ-loop
 add-cell c = omega arith
@@ -55,10 +64,10 @@ loop-less : tie.Need-loop-less Inv-loop μ-loop
 loop-less c = omega arith
 
 loop-again : tie.Need-loop-again Inv-loop μ-loop
-loop-again c = passed _ 81 (c .before .before .before .before .loop .cell) (c .before .before .before .before .loop .inv) (omega arith) (test (c .before)) (c .if1 .left)
+loop-again c = passed _ 81 (c .before .before .before .before .loop .cell) (c .before .before .before .before .loop .inv) (omega arith) (test (c .before)) (c .if2 .left)
 
-returns-2 : tie.Need-returns-2 Inv-loop μ-loop
-returns-2 c = none-found BadClue (ended _ 81 (c .before .loop .cell) (c .before .loop .inv) (c .loop-test .left))
+returns-3 : tie.Need-returns-3 Inv-loop μ-loop
+returns-3 c = none-found BadClue (ended _ 81 (c .before .loop .cell) (c .before .loop .inv) (c .loop-test .left))
 
 pub check-clues-spec : {M : Type 1} → statement M
 check-clues-spec =
@@ -66,13 +75,15 @@ check-clues-spec =
     (tie.spec
     Inv-loop
     μ-loop
+    any-bad-requires
+    returns
     loop-holds
     mul-is-bad
     element-copy-out-is-bad
     is-bad-requires
-    cast-t9
-    returns
+    cast-t11
+    returns-2
     add-cell
     loop-less
     loop-again
-    returns-2)
+    returns-3)

@@ -14,6 +14,7 @@ use Rattle.stops.proofs.Answers.{found-stop, none-found}
 use Rattle.steps.specs.Calls.{badEntry, firstBadEntry}
 use Rattle.steps.specs.Loops.{first}
 use Rattle.steps.proofs.Searches.{found, passed, ended}
+use Rattle.board.proofs.Flags.{unflagged}
 use Rattle.board.proofs.entries.check_entries.Statement.{statement}
 use Rattle.board.proofs.entries.check_entries.Tie as tie
 
@@ -22,6 +23,14 @@ Inv-loop clues entries cell₀ cell = first (λ c. badEntry (getD clues c (pos 0
 
 abbrev μ-loop : tie.MeasureT-loop
 μ-loop clues entries cell₀ cell = 81 - cell
+
+any-bad-entry-requires : tie.Need-any-bad-entry-requires Inv-loop μ-loop
+any-bad-entry-requires c κs = search needs
+
+returns : tie.Need-returns Inv-loop μ-loop
+returns c =
+    let a = c .before .before .args in
+    unflagged BadEntry (firstBadEntry (a .clues .now) (a .entries .now)) (c .before .any-bad-entry .ensures) (c .if1 .taken)
 
 loop-holds : tie.Need-loop-holds Inv-loop μ-loop
 unfolding cells
@@ -42,22 +51,22 @@ element-copy-out-is-bad-entry-2 c = omega arith
 is-bad-entry-requires : tie.Need-is-bad-entry-requires Inv-loop μ-loop
 is-bad-entry-requires c κs = search needs
 
-cast-t14 : tie.Need-cast-t14 Inv-loop μ-loop
-cast-t14 c = search needs
+cast-t16 : tie.Need-cast-t16 Inv-loop μ-loop
+cast-t16 c = search needs
 
 test : (c : tie.After-is-bad-entry Inv-loop μ-loop)
     → c .is-bad-entry .result
-    ≡ badEntry (getD (c .before .before .before .before .before .args .clues .now) (c .before .before .before .before .loop .cell) (pos 0)) (getD (c .before .before .before .before .before .args .entries .now) (c .before .before .before .before .loop .cell) (pos 0))
+    ≡ badEntry (getD (c .before .before .before .before .before .before .before .args .clues .now) (c .before .before .before .before .loop .cell) (pos 0)) (getD (c .before .before .before .before .before .before .before .args .entries .now) (c .before .before .before .before .loop .cell) (pos 0))
 test c =
     let l = c .before .before .before .before in
     c .is-bad-entry .ensures
-    ∙ ap₂ badEntry (toZ-ofZ {w = w32} {z = getD (l .before .args .clues .now) (l .loop .cell) (pos 0)} (record { sfits = c .before .before .is-bad-entry-arg .given }))
-    (toZ-ofZ {w = w32} {z = getD (l .before .args .entries .now) (l .loop .cell) (pos 0)} (record { sfits = c .before .is-bad-entry-arg2 .given }))
+    ∙ ap₂ badEntry (toZ-ofZ {w = w32} {z = getD (l .before .before .before .args .clues .now) (l .loop .cell) (pos 0)} (record { sfits = c .before .before .is-bad-entry-arg .given }))
+    (toZ-ofZ {w = w32} {z = getD (l .before .before .before .args .entries .now) (l .loop .cell) (pos 0)} (record { sfits = c .before .is-bad-entry-arg2 .given }))
 
-returns : tie.Need-returns Inv-loop μ-loop
-returns c =
+returns-2 : tie.Need-returns-2 Inv-loop μ-loop
+returns-2 c =
     let l = c .before .before .before .before .before .loop in
-    found-stop BadEntry (omega arith) (found _ 81 (l .cell) (l .inv) (omega arith) (test (c .before)) (c .if1 .taken))
+    found-stop BadEntry (omega arith) (found _ 81 (l .cell) (l .inv) (omega arith) (test (c .before)) (c .if2 .taken))
 
 add-cell : tie.Need-add-cell Inv-loop μ-loop
 add-cell c = omega arith
@@ -68,10 +77,10 @@ loop-less c = omega arith
 loop-again : tie.Need-loop-again Inv-loop μ-loop
 loop-again c =
     let l = c .before .before .before .before .before .loop in
-    passed _ 81 (l .cell) (l .inv) (omega arith) (test (c .before)) (c .if1 .left)
+    passed _ 81 (l .cell) (l .inv) (omega arith) (test (c .before)) (c .if2 .left)
 
-returns-2 : tie.Need-returns-2 Inv-loop μ-loop
-returns-2 c = none-found BadEntry (ended _ 81 (c .before .loop .cell) (c .before .loop .inv) (c .loop-test .left))
+returns-3 : tie.Need-returns-3 Inv-loop μ-loop
+returns-3 c = none-found BadEntry (ended _ 81 (c .before .loop .cell) (c .before .loop .inv) (c .loop-test .left))
 
 pub check-entries-spec : {M : Type 1} → statement M
 check-entries-spec =
@@ -79,15 +88,17 @@ check-entries-spec =
     (tie.spec
     Inv-loop
     μ-loop
+    any-bad-entry-requires
+    returns
     loop-holds
     mul-is-bad-entry
     element-copy-out-is-bad-entry
     mul-is-bad-entry-2
     element-copy-out-is-bad-entry-2
     is-bad-entry-requires
-    cast-t14
-    returns
+    cast-t16
+    returns-2
     add-cell
     loop-less
     loop-again
-    returns-2)
+    returns-3)

@@ -31,20 +31,23 @@ loop-holds : tie.Need-loop-holds Inv-loop μ-loop
 unfolding cells
 loop-holds c = fill-start _ 81 (replicate 81 0) refl ∙ joint-givens _ _
 
-mul-joint-digit : tie.Need-mul-joint-digit Inv-loop μ-loop
-mul-joint-digit c = omega arith
+mul-joint : tie.Need-mul-joint Inv-loop μ-loop
+mul-joint c = omega arith
 
-element-copy-out-joint-digit : tie.Need-element-copy-out-joint-digit Inv-loop μ-loop
-element-copy-out-joint-digit c = omega arith
+element-copy-out-joint : tie.Need-element-copy-out-joint Inv-loop μ-loop
+element-copy-out-joint c = omega arith
 
-mul-joint-digit-2 : tie.Need-mul-joint-digit-2 Inv-loop μ-loop
-mul-joint-digit-2 c = omega arith
+mul-joint-2 : tie.Need-mul-joint-2 Inv-loop μ-loop
+mul-joint-2 c = omega arith
 
-element-copy-out-joint-digit-2 : tie.Need-element-copy-out-joint-digit-2 Inv-loop μ-loop
-element-copy-out-joint-digit-2 c = omega arith
+element-copy-out-joint-2 : tie.Need-element-copy-out-joint-2 Inv-loop μ-loop
+element-copy-out-joint-2 c = omega arith
 
-joint-digit-requires : tie.Need-joint-digit-requires Inv-loop μ-loop
-joint-digit-requires c κs = search needs
+joint-requires : tie.Need-joint-requires Inv-loop μ-loop
+joint-requires c κs = search needs
+
+given-digit-requires : tie.Need-given-digit-requires Inv-loop μ-loop
+given-digit-requires c κs = search needs
 
 array-write-givens : tie.Need-array-write-givens Inv-loop μ-loop
 array-write-givens c = omega arith
@@ -57,11 +60,12 @@ loop-less c = omega arith
 
 loop-again : tie.Need-loop-again Inv-loop μ-loop
 loop-again c =
-    let l = c .before .before .before .before in
+    let j = c .before in
+    let l = j .before .before .before .before in
     fill-on _ 81 (l .loop .cell) (l .loop .givens) (l .loop .inv) (omega arith)
-    (c .joint-digit .ensures
-    ∙ ap₂ (λ (k e : ℤ). digitOf (jointOf k e)) (toZ-ofZ {w = w32} {z = getD (l .before .args .clues .now) (l .loop .cell) (pos 0)} (record { sfits = c .before .before .joint-digit-arg .given }))
-    (toZ-ofZ {w = w32} {z = getD (l .before .args .entries .now) (l .loop .cell) (pos 0)} (record { sfits = c .before .joint-digit-arg2 .given })))
+    (c .given-digit .ensures ∙ ap digitOf (toZ-ofZ {w = w32} {z = j .joint .result} (record { sfits = j .joint .ok }) ∙ j .joint .ensures
+    ∙ ap₂ jointOf (toZ-ofZ {w = w32} {z = getD (l .before .args .clues .now) (l .loop .cell) (pos 0)} (record { sfits = j .before .before .joint-arg .given }))
+    (toZ-ofZ {w = w32} {z = getD (l .before .args .entries .now) (l .loop .cell) (pos 0)} (record { sfits = j .before .joint-arg2 .given }))))
 
 returns : tie.Need-returns Inv-loop μ-loop
 returns c = fill-end _ 81 (c .before .loop .cell) (c .before .loop .givens) (c .before .loop .inv) (c .loop-test .left)
@@ -73,11 +77,12 @@ givens-of-spec =
     Inv-loop
     μ-loop
     loop-holds
-    mul-joint-digit
-    element-copy-out-joint-digit
-    mul-joint-digit-2
-    element-copy-out-joint-digit-2
-    joint-digit-requires
+    mul-joint
+    element-copy-out-joint
+    mul-joint-2
+    element-copy-out-joint-2
+    joint-requires
+    given-digit-requires
     array-write-givens
     add-cell
     loop-less

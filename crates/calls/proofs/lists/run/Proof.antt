@@ -1,30 +1,40 @@
--- `calls::lists::run` meets its contract. Assumes nothing.
-use mathlib.Core.Path.{_≡_, refl, sym, ap, _∙_}
-use Prim.Native.Nat.{_+_, _-_}
+-- `calls::lists::run` meets its contract. The invariant: the steps that are left, from the masks so far, make the whole, and the board is one that no stop refuses. Assumes nothing.
+use mathlib.Core.Path.{_≡_, refl, sym, ap, subst, _∙_}
+use mathlib.Core.List.{List}
+use Prim.Native.Nat.{ℕ, _+_, _-_}
 use native.Mathlib.Omega.{arith}
 use borrow.Author.Needs.{needs}
-use lib.ListN.{length, drop}
+use lib.ListN.{length, getD, drop}
+use Rattle.steps.specs.Boards.{Admissible, givens, withMasks}
 use Rattle.steps.specs.Calls.{run}
+use Rattle.steps.proofs.Lists.{Good, admitted-good}
 use Rattle.board.specs.Boards.{boardOf}
 use Rattle.calls.specs.Replays.{callsOf}
+use Rattle.calls.specs.code.Unchecked.{stepMasks}
 use Rattle.calls.proofs.Runs.{run-on, run-end}
+use Rattle.calls.proofs.Unchecked.{step-unchecked, step-good}
 use Rattle.calls.proofs.lists.run.Statement.{statement}
 use Rattle.calls.proofs.lists.run.Tie as tie
 
 abbrev Inv-loop : tie.InvT-loop
-Inv-loop steps board₀ index₀ board index = run (callsOf (drop index steps)) (boardOf board) ≡ run (callsOf steps) (boardOf board₀)
+Inv-loop steps clues entries masks₀ givens index₀ masks index =
+    Good Admissible (record { clues = clues; entries = entries; masks = masks })
+    × (run (callsOf (drop index steps)) (record { clues = clues; entries = entries; masks = masks }) ≡ run (callsOf steps) (record { clues = clues; entries = entries; masks = masks₀ }))
 
 abbrev μ-loop : tie.MeasureT-loop
-μ-loop steps board₀ index₀ board index = length steps - index
+μ-loop steps clues entries masks₀ givens index₀ masks index = length steps - index
+
+givens-of-requires : tie.Need-givens-of-requires Inv-loop μ-loop
+givens-of-requires c κs = search needs
 
 loop-holds : tie.Need-loop-holds Inv-loop μ-loop
-loop-holds c = refl
+loop-holds c = (admitted-good _ (c .before .before .before .before .before .before .before .pre), refl)
 
-shared-slice-read-step : tie.Need-shared-slice-read-step Inv-loop μ-loop
-shared-slice-read-step c = omega arith
+shared-slice-read-step-masks : tie.Need-shared-slice-read-step-masks Inv-loop μ-loop
+shared-slice-read-step-masks c = omega arith
 
-step-requires : tie.Need-step-requires Inv-loop μ-loop
-step-requires c κs = search needs
+step-masks-requires : tie.Need-step-masks-requires Inv-loop μ-loop
+step-masks-requires c κs = search needs
 
 add-index : tie.Need-add-index Inv-loop μ-loop
 add-index c = omega arith
@@ -34,13 +44,24 @@ loop-less c = omega arith
 
 loop-again : tie.Need-loop-again Inv-loop μ-loop
 loop-again c =
-    let at = c .before .before .before .before in
-    let steps = at .before .before .args .steps .now in
-    let i = at .loop .index in
-    ap (run (callsOf (drop (i + 1) steps))) (c .before .step .ensures .board) ∙ run-on steps i (omega arith) (boardOf (at .loop .board)) ∙ at .loop .inv
+    let l = c .before .before .before .before .before in
+    let given = l .before in
+    let a = given .before .before .before .before .before .before .before .args in
+    let b = withMasks (boardOf (a .opened)) (l .loop .masks) in
+    let n = getD (a .steps .now) (l .loop .index) 0 in
+    let after : c .step-masks .last .1 .1 .0 ≡ stepMasks n (givens b) (l .loop .masks) =
+    c .step-masks .ensures ∙ ap (λ (g : List ℕ). stepMasks n g (l .loop .masks)) (given .givens-of .ensures) in (
+      subst (λ (m : List ℕ). Good Admissible (withMasks b m)) (sym after) (step-good n b (l .loop .inv .0)),
+      ap (λ (m : List ℕ). run (callsOf (drop (l .loop .index + 1) (a .steps .now))) (withMasks b m)) after
+          ∙ ap (run (callsOf (drop (l .loop .index + 1) (a .steps .now)))) (sym (step-unchecked n b (l .loop .inv .0)))
+          ∙ run-on (a .steps .now) (l .loop .index) (omega arith) b ∙ l .loop .inv .1,
+    )
 
 returns : tie.Need-returns Inv-loop μ-loop
-returns c = sym (run-end (c .before .before .before .args .steps .now) (c .before .loop .index) (c .loop-test .left) (boardOf (c .before .loop .board))) ∙ c .before .loop .inv
+returns c =
+    let l = c .before in
+    let a = l .before .before .before .before .before .before .before .before .args in
+    sym (run-end (a .steps .now) (l .loop .index) (c .loop-test .left) (withMasks (boardOf (a .opened)) (l .loop .masks))) ∙ l .loop .inv .1
 
 pub run-spec : {M : Type 1} → statement M
 run-spec =
@@ -48,9 +69,10 @@ run-spec =
     (tie.spec
     Inv-loop
     μ-loop
+    givens-of-requires
     loop-holds
-    shared-slice-read-step
-    step-requires
+    shared-slice-read-step-masks
+    step-masks-requires
     add-index
     loop-less
     loop-again

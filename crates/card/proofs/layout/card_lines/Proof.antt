@@ -1,17 +1,13 @@
 -- `card::layout::card_lines` meets its contract. Assumes nothing.
-use mathlib.Core.Path.{ap, _∙_}
-use mathlib.Core.List.{[], _++_}
+use mathlib.Core.List.{_++_}
 use Rattle.card.specs.Cards.{cardBytes, verdictWord}
 use Rattle.output.specs.Decimals.{decimal}
 use Rattle.card.specs.Layout.{lineOf, cluesLabel, reportedLabel, sweepsLabel, removedLabel, verdictLabel, gridLabel, gridBytes}
-use Rattle.card.specs.code.Lines.{linesOf, append}
-use Rattle.card.proofs.Joins.{joined}
+use Rattle.output.specs.code.Tapes.{tape}
+use Rattle.output.proofs.Tapes.{joined}
 use borrow.Author.Needs.{needs}
 use Rattle.card.proofs.layout.card_lines.Statement.{statement}
 use Rattle.card.proofs.layout.card_lines.Tie as tie
-
-new-requires : tie.Need-new-requires
-new-requires c κs = search needs
 
 slice-aggregate-number-line : tie.Need-slice-aggregate-number-line
 slice-aggregate-number-line c = search needs
@@ -46,31 +42,29 @@ grid-line-requires c κs = search needs
 returns : tie.Need-returns
 unfolding cardBytes
 returns c =
-    let verdict = c .before .before in
-    let removed = verdict .before in
-    let sweeps = removed .before .before in
-    let reported = sweeps .before .before in
-    let clues = reported .before .before in
-    let start = clues .before .before in
-    let card = start .before .before .args .card in
+    let verdict = c .before .before .before in
+    let removed = verdict .before .before in
+    let sweeps = removed .before .before .before in
+    let reported = sweeps .before .before .before in
+    let clues = reported .before .before .before in
+    let start = clues .before .before .before .before in
+    let card = start .args .card in
+    let t = tape (start .args .lines .now) 0 in
     let a = lineOf cluesLabel (decimal (card .clues)) in
     let b = lineOf reportedLabel (decimal (card .reported)) in
     let d = lineOf sweepsLabel (decimal (card .sweeps)) in
     let e = lineOf removedLabel (decimal (card .removed)) in
     let f = lineOf verdictLabel (verdictWord (card .verdict)) in
     let g = lineOf gridLabel (gridBytes (card .masks)) in
-    joined (a ++ b ++ d ++ e ++ f) g (linesOf [])
-    (joined (a ++ b ++ d ++ e) f (linesOf [])
-    (joined (a ++ b ++ d) e (linesOf [])
-    (joined (a ++ b) d (linesOf [])
-    (joined a b (linesOf []) (clues .number-line .ensures ∙ ap (append a) (start .new .ensures)) (reported .number-line2 .ensures))
-    (sweeps .number-line3 .ensures)) (removed .number-line4 .ensures)) (verdict .verdict-line .ensures)) (c .grid-line .ensures)
+    joined 256 (a ++ b ++ d ++ e ++ f) g t
+    (joined 256 (a ++ b ++ d ++ e) f t
+    (joined 256 (a ++ b ++ d) e t (joined 256 (a ++ b) d t (joined 256 a b t (clues .number-line .ensures) (reported .number-line2 .ensures)) (sweeps .number-line3 .ensures)) (removed .number-line4 .ensures))
+    (verdict .verdict-line .ensures)) (c .grid-line .ensures)
 
 pub card-lines-spec : {M : Type 1} → statement M
 card-lines-spec =
     tie.close
     (tie.spec
-    new-requires
     slice-aggregate-number-line
     number-line-requires
     slice-aggregate-number-line-2

@@ -1,5 +1,6 @@
 -- `card::layout::grid_line` meets its contract. Assumes nothing.
 use Rattle.card.specs.Layout.{gridLabel, gridBytes}
+use Rattle.output.specs.code.Tapes.{tape}
 use Rattle.card.proofs.Joins.{line-joined}
 use borrow.Author.Needs.{needs}
 use Rattle.card.proofs.layout.grid_line.Statement.{statement}
@@ -19,8 +20,10 @@ push-requires c κs = search needs
 
 returns : tie.Need-returns
 returns c =
-    let a = c .before .before .before .before .args in
-    line-joined gridLabel (gridBytes (a .masks .now)) (a .lines) (c .before .before .push-word .ensures) (c .before .push-grid .ensures) (c .push .ensures)
+    let end = c .before .before in
+    let word = end .before .before in
+    let a = word .before .before .before .args in
+    line-joined gridLabel (gridBytes (a .masks .now)) (tape (a .lines .now) (a .at)) (word .push-word .ensures) (end .push-grid .ensures) (c .push .ensures)
 
 pub grid-line-spec : {M : Type 1} → statement M
 grid-line-spec =

@@ -1,5 +1,6 @@
 -- `card::layout::number_line` meets its contract. Assumes nothing.
 use Rattle.output.specs.Decimals.{decimal}
+use Rattle.output.specs.code.Tapes.{tape}
 use Rattle.card.proofs.Joins.{line-joined}
 use borrow.Author.Needs.{needs}
 use Rattle.card.proofs.layout.number_line.Statement.{statement}
@@ -16,8 +17,10 @@ push-requires c κs = search needs
 
 returns : tie.Need-returns
 returns c =
-    let a = c .before .before .before .before .args in
-    line-joined (a .label .now) (decimal (a .n)) (a .lines) (c .before .before .push-word .ensures) (c .before .push-number .ensures) (c .push .ensures)
+    let end = c .before .before in
+    let word = end .before .before in
+    let a = word .before .before .before .args in
+    line-joined (a .label .now) (decimal (a .n)) (tape (a .lines .now) (a .at)) (word .push-word .ensures) (end .push-number .ensures) (c .push .ensures)
 
 pub number-line-spec : {M : Type 1} → statement M
 number-line-spec =

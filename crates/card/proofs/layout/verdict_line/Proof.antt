@@ -1,6 +1,7 @@
 -- `card::layout::verdict_line` meets its contract. Assumes nothing.
 use Rattle.card.specs.Cards.{verdictWord}
 use Rattle.card.specs.Layout.{verdictLabel}
+use Rattle.output.specs.code.Tapes.{tape}
 use Rattle.card.proofs.Joins.{line-joined}
 use borrow.Author.Needs.{needs}
 use Rattle.card.proofs.layout.verdict_line.Statement.{statement}
@@ -20,8 +21,10 @@ push-requires c κs = search needs
 
 returns : tie.Need-returns
 returns c =
-    let a = c .before .before .before .before .args in
-    line-joined verdictLabel (verdictWord (a .verdict)) (a .lines) (c .before .before .push-word .ensures) (c .before .push-verdict .ensures) (c .push .ensures)
+    let end = c .before .before in
+    let word = end .before .before in
+    let a = word .before .before .before .args in
+    line-joined verdictLabel (verdictWord (a .verdict)) (tape (a .lines .now) (a .at)) (word .push-word .ensures) (end .push-verdict .ensures) (c .push .ensures)
 
 pub verdict-line-spec : {M : Type 1} → statement M
 verdict-line-spec =

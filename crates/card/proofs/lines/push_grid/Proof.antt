@@ -8,27 +8,26 @@ use Rattle.grid.specs.Cells.{cells}
 use Rattle.grid.proofs.Lists.{turn-done, turns-over}
 use Rattle.steps.specs.Boards.{at}
 use Rattle.steps.specs.Loops.{each, range}
-use Rattle.card.specs.declared.lines.Lines.{Lines}
+use Rattle.output.specs.code.Tapes.{Tape, tape, pushed, append}
+use Rattle.output.proofs.Tapes.{append-each}
 use Rattle.card.specs.Layout.{cellByte, gridBytes}
-use Rattle.card.specs.code.Lines.{pushed, append}
-use Rattle.card.proofs.Joins.{append-each}
 use Rattle.card.proofs.lines.push_grid.Statement.{statement}
 use Rattle.card.proofs.lines.push_grid.Tie as tie
 
 -- one turn of the loop
-abbrev turn : List ℕ → ℕ → Lines → Lines
-turn m c q = pushed q (cellByte (at m c))
+abbrev turn : List ℕ → ℕ → Tape → Tape
+turn m c t = pushed 256 t (cellByte (at m c))
 
 abbrev Inv-loop : tie.InvT-loop
-Inv-loop masks longer₀ cell₀ longer cell =
-    each (turn masks) (range (81 - cell) cell) longer ≡ append (gridBytes masks) longer₀
+Inv-loop lines₀ at masks end₀ cell₀ lines end cell =
+    each (turn masks) (range (81 - cell) cell) (tape lines end) ≡ append 256 (gridBytes masks) (tape lines₀ at)
 
 abbrev μ-loop : tie.MeasureT-loop
-μ-loop masks longer₀ cell₀ longer cell = 81 - cell
+μ-loop lines₀ at masks end₀ cell₀ lines end cell = 81 - cell
 
 loop-holds : tie.Need-loop-holds Inv-loop μ-loop
 unfolding cells
-loop-holds c = sym (append-each (λ i. cellByte (at (c .args .masks .now) i)) cells (c .args .lines))
+loop-holds c = sym (append-each 256 (λ i. cellByte (at (c .args .masks .now) i)) cells (tape (c .args .lines .now) (c .args .at)))
 
 mul-cell-byte : tie.Need-mul-cell-byte Inv-loop μ-loop
 mul-cell-byte c = omega arith
@@ -50,10 +49,10 @@ loop-less c = omega arith
 
 loop-again : tie.Need-loop-again Inv-loop μ-loop
 loop-again c =
-    let l = c .before .before .before .before in
+    let l = c .before .before .before .before .before in
     let masks = l .before .args .masks .now in
-    turn-done (turn masks) 81 (l .loop .cell) (c .before .before .before .loop-test .taken)
-    (c .push .ensures ∙ ap (pushed (l .loop .longer)) (c .before .cell-byte .ensures)) (l .loop .inv)
+    turn-done (turn masks) 81 (l .loop .cell) (c .before .before .before .before .loop-test .taken)
+    (c .push .ensures ∙ ap (pushed 256 (tape (l .loop .lines) (l .loop .end))) (c .before .cell-byte .ensures)) (l .loop .inv)
 
 returns : tie.Need-returns Inv-loop μ-loop
 returns c =

@@ -5,15 +5,15 @@ use native.Mathlib.Omega.{arith}
 use borrow.Author.Needs.{needs}
 use lib.ListN.{length, drop}
 use Rattle.grid.proofs.Lists.{member-done, members-over}
-use Rattle.card.specs.code.Lines.{pushed, append}
+use Rattle.output.specs.code.Tapes.{tape, pushed, append}
 use Rattle.card.proofs.lines.push_word.Statement.{statement}
 use Rattle.card.proofs.lines.push_word.Tie as tie
 
 abbrev Inv-loop : tie.InvT-loop
-Inv-loop word longer₀ i₀ longer i = append (drop i word) longer ≡ append word longer₀
+Inv-loop lines₀ at word end₀ i₀ lines end i = append 256 (drop i word) (tape lines end) ≡ append 256 word (tape lines₀ at)
 
 abbrev μ-loop : tie.MeasureT-loop
-μ-loop word longer₀ i₀ longer i = length word - i
+μ-loop lines₀ at word end₀ i₀ lines end i = length word - i
 
 loop-holds : tie.Need-loop-holds Inv-loop μ-loop
 loop-holds c = refl
@@ -33,14 +33,14 @@ loop-less c = omega arith
 loop-again : tie.Need-loop-again Inv-loop μ-loop
 unfolding append
 loop-again c =
-    let l = c .before .before .before in
-    member-done (λ b q. pushed q b) (l .before .before .args .word .now) (l .loop .i) (c .before .before .loop-test .taken) (c .push .ensures) (l .loop .inv)
+    let l = c .before .before .before .before in
+    member-done (λ b t. pushed 256 t b) (l .before .before .args .word .now) (l .loop .i) (c .before .before .before .loop-test .taken) (c .push .ensures) (l .loop .inv)
 
 returns : tie.Need-returns Inv-loop μ-loop
 unfolding append
 returns c =
     let l = c .before in
-    members-over (λ b q. pushed q b) (l .before .before .args .word .now) (l .loop .i) (c .loop-test .left) (l .loop .inv)
+    members-over (λ b t. pushed 256 t b) (l .before .before .args .word .now) (l .loop .i) (c .loop-test .left) (l .loop .inv)
 
 pub push-word-spec : {M : Type 1} → statement M
 push-word-spec =

@@ -1,102 +1,67 @@
--- `lone_place::lones::lose_peers` meets its contract. The invariant: the peers that are left still make the whole. Assumes nothing.
-use mathlib.Core.Path.{_≡_, refl, ap, _∙_}
-use mathlib.Core.List.{List, []}
-use Prim.Native.Nat.{ℕ, _-_, _≤_, _<_}
-use native.Mathlib.Omega.{arith}
+-- `lone_place::lones::lose_peers` meets its contract: the units of a cell are its peers and the cell. Assumes nothing.
 use borrow.Author.Needs.{needs}
-use lib.ListN.{getD, drop}
-use Rattle.grid.specs.Cells.{peers}
-use Rattle.grid.proofs.Cells.{twenty}
-use Rattle.grid.proofs.Lists.{member-done, members-over}
-use Rattle.grid.proofs.PeerRows.{lent-row, peer-below}
-use Rattle.steps.specs.Boards.{isOpen}
-use Rattle.steps.specs.Loops.{each}
-use Rattle.steps.specs.Steps.{loseAt}
-use Rattle.cells.specs.code.Places.{loseIn}
-use Rattle.cells.proofs.Places.{lose-cell}
-use Rattle.lone_place.specs.code.Turns.{peersLose}
+use Rattle.lone_place.proofs.Peers.{units-lose}
 use Rattle.lone_place.proofs.lones.lose_peers.Statement.{statement}
 use Rattle.lone_place.proofs.lones.lose_peers.Tie as tie
-use Rattle.lone_place.proofs.lones.lose_peers.Reads as reads
-use Rattle.lone_place.proofs.lones.lose_peers.Lts as lts
-use Rattle.cells.proofs.lose_at.Reads as lose-at-reads
 
-abbrev Inv-loop : tie.InvT-loop
-Inv-loop givens masks₀ table cell lost row i₀ masks i =
-    (i ≤ 20) × (each (λ e. loseAt (isOpen givens) e lost) (drop i (peers cell)) masks ≡ peersLose givens cell lost masks₀)
+mul-own : tie.Need-mul-own
+mul-own c = search needs
 
-abbrev μ-loop : tie.MeasureT-loop
-μ-loop givens masks₀ table cell lost row i₀ masks i = 20 - i
+element-copy-out-own : tie.Need-element-copy-out-own
+element-copy-out-own c = search needs
 
-mul-row : tie.Need-mul-row Inv-loop μ-loop
-mul-row c = omega (arith, c .pre .0)
+row-of-requires : tie.Need-row-of-requires
+row-of-requires c κs = search needs
 
-element-copy-out-row : tie.Need-element-copy-out-row Inv-loop μ-loop
-element-copy-out-row c = c .pre .0
+lose-unit-requires : tie.Need-lose-unit-requires
+lose-unit-requires c κs = search needs
 
-loop-holds : tie.Need-loop-holds Inv-loop μ-loop
-unfolding peersLose
-loop-holds c = (omega arith, refl)
+col-of-requires : tie.Need-col-of-requires
+col-of-requires c κs = search needs
 
-array-read-lose-at : tie.Need-array-read-lose-at Inv-loop μ-loop
-array-read-lose-at c = omega arith
+add-lose-unit : tie.Need-add-lose-unit
+add-lose-unit c = search needs
 
--- the row of the lent table is that of the cell's peers
-in-row : (c : lts.In-loop (lose-at-reads.Asked, lose-at-reads.Learnt) reads.Pre reads.Post Inv-loop μ-loop)
-    → getD (getD (c .before .before .before .args .peers .now) (c .before .before .before .args .cell) []) (c .before .loop .i) 0 ≡ getD (peers (c .before .before .before .args .cell)) (c .before .loop .i) 0
-in-row c =
-    let start = c .before .before .before in
-    ap (λ (row : List ℕ). getD row (c .before .loop .i) 0) (lent-row (start .args .cell) (start .pre .1) (start .pre .0))
+lose-unit-requires-2 : tie.Need-lose-unit-requires-2
+lose-unit-requires-2 c κs = search needs
 
-below : (c : lts.In-loop (lose-at-reads.Asked, lose-at-reads.Learnt) reads.Pre reads.Post Inv-loop μ-loop)
-    → getD (peers (c .before .before .before .args .cell)) (c .before .loop .i) 0 < 81
-below c = peer-below (c .before .before .before .args .cell) (c .before .loop .i) (c .before .before .before .pre .0) (omega arith)
+box-of-requires : tie.Need-box-of-requires
+box-of-requires c κs = search needs
 
-cast-lose-at : tie.Need-cast-lose-at Inv-loop μ-loop
-cast-lose-at c = omega (arith, in-row (c .before), below (c .before))
+add-lose-unit-2 : tie.Need-add-lose-unit-2
+add-lose-unit-2 c = search needs
 
-lose-at-requires : tie.Need-lose-at-requires Inv-loop μ-loop
-lose-at-requires c κs = search needs
+lose-unit-requires-3 : tie.Need-lose-unit-requires-3
+lose-unit-requires-3 c κs = search needs
 
-add-i : tie.Need-add-i Inv-loop μ-loop
-add-i c = omega arith
+mul-masks : tie.Need-mul-masks
+mul-masks c = search needs
 
-loop-less : tie.Need-loop-less Inv-loop μ-loop
-loop-less c = omega arith
+element-write-masks : tie.Need-element-write-masks
+element-write-masks c = search needs
 
-loop-again : tie.Need-loop-again Inv-loop μ-loop
-loop-again c =
-    let inside = c .before .before in
-    let l = inside .before in
-    let start = l .before .before in
-    let a = start .args in
-    let free = isOpen (a .givens .now) in (
-      omega arith,
-      member-done (λ e. loseAt free e (a .lost)) (peers (a .cell)) (l .loop .i) (omega (arith, twenty (a .cell) (start .pre .0)))
-          (c .lose-at .ensures ∙ ap (λ (e : ℕ). loseIn free e (a .lost) (l .loop .masks)) (in-row inside) ∙ lose-cell free (getD (peers (a .cell)) (l .loop .i) 0) (a .lost) (l .loop .masks) (below inside))
-          (l .loop .inv .1),
-    )
-
-returns : tie.Need-returns Inv-loop μ-loop
+returns : tie.Need-returns
 returns c =
-    let l = c .before in
-    let start = l .before .before in
+    let second = c .before .before .before in
+    let first = second .before .before .before in
+    let start = first .before .before .before .before in
     let a = start .args in
-    members-over (λ e. loseAt (isOpen (a .givens .now)) e (a .lost)) (peers (a .cell)) (l .loop .i) (omega (arith, twenty (a .cell) (start .pre .0), c .loop-test .left)) (l .loop .inv .1)
+    units-lose (a .givens .now) (a .cell) (a .lost) (start .pre) (a .masks .now) (first .before .row-of .ensures) (second .before .col-of .ensures) (c .before .box-of .ensures) (first .lose-unit .ensures) (second .lose-unit2 .ensures) (c .lose-unit3 .ensures)
 
 pub lose-peers-spec : {M : Type 1} → statement M
 lose-peers-spec =
     tie.close
     (tie.spec
-    Inv-loop
-    μ-loop
-    mul-row
-    element-copy-out-row
-    loop-holds
-    array-read-lose-at
-    cast-lose-at
-    lose-at-requires
-    add-i
-    loop-less
-    loop-again
+    mul-own
+    element-copy-out-own
+    row-of-requires
+    lose-unit-requires
+    col-of-requires
+    add-lose-unit
+    lose-unit-requires-2
+    box-of-requires
+    add-lose-unit-2
+    lose-unit-requires-3
+    mul-masks
+    element-write-masks
     returns)

@@ -3,6 +3,7 @@ use mathlib.Core.Path.{sym, ap, _∙_}
 use Prim.Native.Nat.{_+_}
 use native.Mathlib.Nat.{add-zero}
 use lib.ListN.{length}
+use native.Mathlib.Omega.{arith}
 use borrow.Author.Needs.{needs}
 use Rattle.record.specs.declared.forms.Form.{Form}
 use Rattle.record.specs.Records.{entrySection}
@@ -17,7 +18,10 @@ enum-told-2 : tie.Need-enum-told-2
 enum-told-2 c = search needs
 
 put-section-requires : tie.Need-put-section-requires
-put-section-requires c κs = search needs
+put-section-requires c κs =
+    let t = c .before in
+    let s = t .before .before in
+    omega (arith, s .pre, ap (λ (k : Form). length (entrySection k (s .args .sets .now))) (t .enum-told2 .given .1))
 
 returns : tie.Need-returns
 returns c =

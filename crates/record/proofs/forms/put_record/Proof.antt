@@ -1,14 +1,16 @@
 -- `record::forms::put_record` meets its contract. Assumes nothing.
 use mathlib.Core.Path.{_≡_, sym, ap, _∙_}
 use mathlib.Core.List.{List, _++_}
-use Prim.Native.Nat.{ℕ, _+_, _≤_}
+use Prim.Native.Nat.{ℕ, _≤_}
 use lib.ListN.{length, length-append}
 use Rattle.board.specs.Boards.{handed}
+use Rattle.record.specs.declared.forms.Form.{Form}
 use Rattle.record.specs.declared.sections.Section.the-variants.{Digits, Removed}
 use Rattle.record.specs.Records.{digitSets, entrySection, bytesIn}
 use Rattle.record.specs.Sections.{sectionBytes, stored}
 use Rattle.record.proofs.Stores.{stored-append}
-use Rattle.record.proofs.Writing.{candidates-few, section-length, entered-length, record-is, record-few}
+use Rattle.record.proofs.Rooms.{digits-length, entered-length, removed-length, record-few}
+use Rattle.record.proofs.Writing.{record-is}
 use borrow.Author.Needs.{needs}
 use native.Mathlib.Omega.{arith}
 use Rattle.record.proofs.forms.put_record.Statement.{statement}
@@ -35,25 +37,36 @@ digit-sets-requires-2 c κs = search needs
 lacking-sets-requires : tie.Need-lacking-sets-requires
 lacking-sets-requires c κs = search needs
 
-put-section-requires : tie.Need-put-section-requires
-put-section-requires c κs = search needs
+-- the sections of clues and of entries are short
+printed-length : (c : tie.After-lacking-sets) → length (sectionBytes Digits (c .before .before .before .before .before .digit-sets .result)) ≤ 163
+printed-length c =
+    let d = c .before .before .before .before .before in
+    let g = d .before .before in
+    digits-length (g .before .before .before .before .args .clues .now) (d .digit-sets .ensures ∙ ap digitSets (g .givens-of2 .ensures))
 
--- the first section leaves room for the others
-second-low : (c : tie.After-put-section) → c .put-section .result + 2919 ≤ 4378
-second-low c =
-    let s = c .before .before .before .before .before .before .before .before .digit-sets .result in
-    omega (arith, c .put-section .ensures .1, section-length Digits s, candidates-few s)
+entries-length : (c : tie.After-lacking-sets) (k : Form) → length (entrySection k (c .before .before .digit-sets2 .result)) ≤ 163
+entries-length c k =
+    let t = c .before .before in
+    let g = t .before .before in
+    entered-length (g .before .before .before .before .before .before .before .args .entries .now) (t .digit-sets2 .ensures ∙ ap digitSets (g .givens-of3 .ensures)) k
+
+put-section-requires : tie.Need-put-section-requires
+put-section-requires c κs = omega (arith, printed-length (c .before .before))
 
 put-entered-requires : tie.Need-put-entered-requires
-put-entered-requires c κs = omega (arith, second-low (c .before .before))
+put-entered-requires c κs =
+    let p = c .before .before in
+    let l = p .before .before .before in
+    let form = l .before .before .before .before .before .before .before .before .before .before .before .args .form in
+    omega (arith, p .put-section .ensures .1, printed-length l, entries-length l form)
 
 put-section-requires-2 : tie.Need-put-section-requires-2
 put-section-requires-2 c κs =
     let e = c .before .before in
     let p = e .before .before .before in
-    let form = p .before .before .before .before .before .before .before .before .before .before .before .before .before .before .args .form in
-    let s = p .before .before .before .before .before .digit-sets2 .result in
-    omega (arith, e .put-entered .ensures .1, second-low p, entered-length form s)
+    let l = p .before .before .before in
+    let form = l .before .before .before .before .before .before .before .before .before .before .before .args .form in
+    omega (arith, e .put-entered .ensures .1, p .put-section .ensures .1, printed-length l, entries-length l form, removed-length (l .lacking-sets .result))
 
 returns : tie.Need-returns
 returns c =

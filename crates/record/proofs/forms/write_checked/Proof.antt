@@ -9,7 +9,7 @@ use Rattle.board.specs.Boards.{boardOf}
 use Rattle.text.specs.Texts.{written}
 use Rattle.record.specs.Records.{bytesIn, writeIn}
 use Rattle.record.specs.Sections.{leading}
-use Rattle.record.proofs.Writing.{record-leads}
+use Rattle.record.proofs.Rooms.{record-leads}
 use borrow.Author.Needs.{needs}
 use native.Mathlib.Omega.{arith}
 use Rattle.record.proofs.forms.write_checked.Statement.{statement}
@@ -48,7 +48,7 @@ returns-2 c =
     let e =
     ap (λ (m : ℕ). writeIn m (length (a .out .now))) n
     ∙ ap (λ (k : Check). then (checkAnswer k) (λ _. writeIn (length (bytesIn (a .form) b)) (length (a .out .now)))) (sym (t .enum-told .given .1)) in
-    let r = record-leads (a .form) b (replicate {A = ℕ} 4378 0) (omega (arith, length-replicate {A = ℕ} 4378 0)) n (p .put-record .ensures .0) in (
+    let r = record-leads (a .form) b (replicate {A = ℕ} 1786 0) (omega (arith, length-replicate {A = ℕ} 1786 0)) n (p .put-record .ensures .0) in (
       o .copy-out .ensures .0 ∙ e,
       o .copy-out .ensures .1 ∙ ap (λ (w : Answer ℕ). written w (leading (p .put-record .result) (p .put-record .last .1 .1 .1 .1 .0)) (a .out .now)) e
           ∙ ap (λ (x : List ℕ). written (then (checkAnswer (a .check)) (λ _. writeIn (length (bytesIn (a .form) b)) (length (a .out .now)))) x (a .out .now)) r,

@@ -7,7 +7,7 @@ use Rattle.candidates.specs.Masks.{single, lowest}
 use Rattle.candidates.proofs.Order.{minus-sub, sub-le}
 use Rattle.record.specs.code.Places.{cellCandidates}
 use Rattle.record.specs.Sections.{entryBytes, stored}
-use Rattle.record.proofs.Places.{places-nine, nine-small, cell-few, cell-none, digit-less, digit-put, lowest-place}
+use Rattle.record.proofs.Places.{places-nine, nine-small, cell-none, digit-less, digit-put, lowest-place}
 use borrow.Author.Needs.{needs}
 use native.Mathlib.Omega.{arith}
 use Rattle.record.proofs.sections.put_cell.Statement.{statement}
@@ -34,11 +34,11 @@ loop-holds c =
     )
 
 -- how far the bytes go, where a digit is left
-room : (c : tie.In-loop Inv-loop μ-loop) → c .before .loop .at + 2 ≤ 4378
+room : (c : tie.In-loop Inv-loop μ-loop) → c .before .loop .at + 2 ≤ 1786
 room c =
     let l = c .before in
     let a = l .before .before .args in
-    omega (arith, l .before .before .pre .1, l .loop .inv .1, cell-few (a .cell) (a .set), digit-less (a .cell) (l .loop .left) (omega arith) (l .loop .inv .0))
+    omega (arith, l .before .before .pre .1, l .loop .inv .1, digit-less (a .cell) (l .loop .left) (omega arith) (l .loop .inv .0))
 
 cast-bytes : tie.Need-cast-bytes Inv-loop μ-loop
 cast-bytes c = omega (arith, c .before .before .before .pre .0)

@@ -1,4 +1,8 @@
 -- `record::sections::put_count` meets its contract. Assumes nothing.
+use mathlib.Core.Path.{ap}
+use Prim.Native.Nat.{_+_, _≤_}
+use Rattle.record.specs.Sections.{width}
+use Rattle.record.proofs.Entries.{width-some}
 use Rattle.record.proofs.Writing.{count-one, count-two}
 use borrow.Author.Needs.{needs}
 use native.Mathlib.Omega.{arith}
@@ -9,7 +13,7 @@ cast-bytes : tie.Need-cast-bytes
 cast-bytes c = search needs
 
 element-write-bytes : tie.Need-element-write-bytes
-element-write-bytes c = search needs
+element-write-bytes c = omega (arith, c .pre .0, width-some (c .args .section))
 
 enum-told : tie.Need-enum-told
 enum-told c = search needs
@@ -17,14 +21,18 @@ enum-told c = search needs
 enum-told-2 : tie.Need-enum-told-2
 enum-told-2 c = search needs
 
+-- there is room for the second byte
+second : (c : tie.After-enum-told2) → c .before .before .args .start + 2 ≤ 1786
+second c = omega (arith, c .before .before .pre .0, ap width (c .enum-told2 .given .1))
+
 cast-bytes-2 : tie.Need-cast-bytes-2
 cast-bytes-2 c = search needs
 
 add-bytes : tie.Need-add-bytes
-add-bytes c = search needs
+add-bytes c = omega (arith, second c)
 
 element-write-bytes-2 : tie.Need-element-write-bytes-2
-element-write-bytes-2 c = search needs
+element-write-bytes-2 c = omega (arith, second c)
 
 returns : tie.Need-returns
 returns c =

@@ -1,10 +1,9 @@
 -- `record::sections::put_section` meets its contract. Assumes nothing.
 use mathlib.Core.Path.{_≡_, ap, _∙_}
 use mathlib.Core.List.{List}
-use Prim.Native.Nat.{ℕ, _+_, _-_, _/_}
+use Prim.Native.Nat.{ℕ, _+_, _-_, _*_, _/_, _≤_}
 use lib.ListN.{length}
 use Rattle.record.specs.Sections.{width, candidates, entryBytes, lowFirst, stored}
-use Rattle.record.proofs.Entries.{width-most}
 use Rattle.record.proofs.Writing.{candidates-few, section-length, section-put}
 use borrow.Author.Needs.{needs}
 use native.Mathlib.Omega.{arith}
@@ -14,11 +13,15 @@ use Rattle.record.proofs.sections.put_section.Tie as tie
 count-width-requires : tie.Need-count-width-requires
 count-width-requires c κs = search needs
 
+-- the count and the entries have room
+room : (c : tie.After-count-width) → c .before .args .start + width (c .before .args .section) + 2 * length (candidates (c .before .args .sets .now)) ≤ 1786
+room c = omega (arith, c .before .pre, section-length (c .before .args .section) (c .before .args .sets .now))
+
 add-first : tie.Need-add-first
-add-first c = omega (arith, c .before .pre, c .count-width .ensures, width-most (c .before .args .section))
+add-first c = omega (arith, c .count-width .ensures, room c)
 
 put-entries-requires : tie.Need-put-entries-requires
-put-entries-requires c κs = omega (arith, c .before .before .pre, c .before .count-width .ensures, width-most (c .before .before .args .section))
+put-entries-requires c κs = omega (arith, c .before .count-width .ensures, room (c .before))
 
 sub-put-count : tie.Need-sub-put-count
 sub-put-count c = search needs
@@ -26,7 +29,7 @@ sub-put-count c = search needs
 put-count-requires : tie.Need-put-count-requires
 put-count-requires c κs =
     let s = c .before .before .before .before in
-    (omega (arith, s .pre), omega (arith, c .before .put-entries .ensures .1, candidates-few (s .args .sets .now)))
+    (omega (arith, room (c .before .before .before)), omega (arith, c .before .put-entries .ensures .1, candidates-few (s .args .sets .now)))
 
 returns : tie.Need-returns
 returns c =

@@ -7,14 +7,15 @@ use borrow.Author.Needs.{needs}
 use Rattle.grid.specs.code.Scopes.{inScope}
 use Rattle.steps.specs.Loops.{range, select}
 use Rattle.table_text.specs.Tables.{numbers}
-use Rattle.table_text.specs.code.Pushes.{tape, append, entries, inRow}
+use Rattle.output.specs.code.Tapes.{tape, append}
+use Rattle.table_text.specs.code.Pushes.{entries, inRow}
 use Rattle.table_text.proofs.Numbers.{whole, taken, passed, row-over}
 use Rattle.table_text.proofs.rows.push_cells.Statement.{statement}
 use Rattle.table_text.proofs.rows.push_cells.Tie as tie
 
 abbrev Inv-loop : tie.InvT-loop
 Inv-loop text₀ at scope end₀ first₀ cell₀ text end first cell =
-    (cell ≤ 81) × (append (entries first (select (inScope scope) (range (81 - cell) cell))) (tape text end) ≡ append (numbers (inRow scope)) (tape text₀ at))
+    (cell ≤ 81) × (append 7515 (entries first (select (inScope scope) (range (81 - cell) cell))) (tape text end) ≡ append 7515 (numbers (inRow scope)) (tape text₀ at))
 
 abbrev μ-loop : tie.MeasureT-loop
 μ-loop text₀ at scope end₀ first₀ cell₀ text end first cell = 81 - cell

@@ -6,7 +6,7 @@ use borrow.Author.Tests.{lt-ltb, le-ltb}
 use lib.Dec.{ltb}
 use lib.ListN.{set}
 use Rattle.candidates.proofs.Tests.{cond-true, cond-false}
-use Rattle.table_text.specs.code.Pushes.{tape, pushed}
+use Rattle.output.specs.code.Tapes.{tape, pushed}
 use Rattle.table_text.proofs.words.push.Statement.{statement}
 use Rattle.table_text.proofs.words.push.Tie as tie
 

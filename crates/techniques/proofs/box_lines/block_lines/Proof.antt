@@ -1,58 +1,69 @@
--- `techniques::box_lines::block_lines` meets its contract. The invariant: the digits that are left still make the whole. Assumes nothing.
+-- `techniques::box_lines::block_lines` meets its contract. The invariant: the lines that are left still make the whole. Assumes nothing.
 use mathlib.Core.Path.{_≡_, refl, ap, _∙_}
-use mathlib.Core.List.{List}
 use Prim.Native.Nat.{ℕ, _-_, _≤_}
 use native.Mathlib.Omega.{arith}
 use borrow.Author.Needs.{needs}
+use lib.Bits.{bitAnd}
+use Rattle.candidates.specs.Masks.{minus}
 use Rattle.grid.proofs.Lists.{turn-done, turns-over}
+use Rattle.steps.specs.Boards.{isOpen}
 use Rattle.steps.specs.Loops.{each, range}
-use Rattle.cells.specs.code.Places.{spotsIn}
-use Rattle.techniques.specs.code.BoxLines.{digitLines, blockLines}
+use Rattle.cells.specs.code.Meets.{metPlaces, outside, metUnit}
+use Rattle.cells.specs.code.Places.{losePlaces}
+use Rattle.cells.specs.code.Unions.{joinedAt}
+use Rattle.techniques.specs.code.BoxLines.{onLine, lineTurn, blockLines}
 use Rattle.techniques.proofs.box_lines.block_lines.Statement.{statement}
 use Rattle.techniques.proofs.box_lines.block_lines.Tie as tie
 
--- one turn of the loop
-abbrev turn : List ℕ → ℕ → List ℕ → ℕ → List ℕ → List ℕ
-turn g u nine d m = digitLines g u d (spotsIn nine d) m
-
 abbrev Inv-loop : tie.InvT-loop
-Inv-loop givens masks₀ unit nine digit₀ masks digit =
-    (digit ≤ 9) × (each (turn givens unit nine) (range (9 - digit) digit) masks ≡ blockLines givens unit nine masks₀)
+Inv-loop givens masks₀ unit nine both nth₀ masks nth = (nth ≤ 6) × (each (lineTurn givens unit nine) (range (6 - nth) nth) masks ≡ blockLines givens unit nine masks₀)
 
 abbrev μ-loop : tie.MeasureT-loop
-μ-loop givens masks₀ unit nine digit₀ masks digit = 9 - digit
+μ-loop givens masks₀ unit nine both nth₀ masks nth = 6 - nth
+
+shared-requires : tie.Need-shared-requires Inv-loop μ-loop
+shared-requires c κs = search needs
+
+meet-requires : tie.Need-meet-requires Inv-loop μ-loop
+meet-requires c κs = search needs
 
 loop-holds : tie.Need-loop-holds Inv-loop μ-loop
 unfolding blockLines
 loop-holds c = (omega arith, refl)
 
-places-of-requires : tie.Need-places-of-requires Inv-loop μ-loop
-places-of-requires c κs = search needs
+on-line-requires : tie.Need-on-line-requires Inv-loop μ-loop
+on-line-requires c κs = search needs
 
-digit-lines-requires : tie.Need-digit-lines-requires Inv-loop μ-loop
-digit-lines-requires c κs = search needs
+lose-line-requires : tie.Need-lose-line-requires Inv-loop μ-loop
+lose-line-requires c κs = search needs
 
-add-digit : tie.Need-add-digit Inv-loop μ-loop
-add-digit c = omega arith
+add-nth : tie.Need-add-nth Inv-loop μ-loop
+add-nth c = omega arith
 
 loop-less : tie.Need-loop-less Inv-loop μ-loop
 loop-less c = omega arith
 
 loop-again : tie.Need-loop-again Inv-loop μ-loop
+unfolding lineTurn onLine
 loop-again c =
-    let a = c .before .before .before .before .before .args in
-    let i = c .before .before .before .before .loop .digit in
-    let m = c .before .before .before .before .loop .masks in (
+    let l = c .before .before .before .before in
+    let meet = l .before in
+    let a = meet .before .before .args in
+    let k = l .loop .nth in (
       omega arith,
-      turn-done (turn (a .givens .now) (a .unit) (a .nine .now)) 9 i (omega arith)
-          (c .digit-lines .ensures ∙ ap (λ (s : ℕ). digitLines (a .givens .now) (a .unit) i s m) (c .before .places-of .ensures))
-          (c .before .before .before .before .loop .inv .1),
+      turn-done (lineTurn (a .givens .now) (a .unit) (a .nine .now)) 6 k (omega arith)
+          (c .lose-line .ensures
+          ∙ ap (λ (x : ℕ). losePlaces (isOpen (a .givens .now)) (metUnit (a .unit) k) (outside (a .unit) k) x (l .loop .masks))
+          (c .before .on-line .ensures
+          ∙ ap (λ (x : ℕ). minus x (joinedAt (a .nine .now) (minus 511 (metPlaces k)))) (meet .meet .ensures ∙ ap (λ (x : ℕ). bitAnd x 511) (meet .before .shared .ensures))))
+          (l .loop .inv .1),
     )
 
 returns : tie.Need-returns Inv-loop μ-loop
 returns c =
-    let a = c .before .before .args in
-    turns-over (turn (a .givens .now) (a .unit) (a .nine .now)) 9 (c .before .loop .digit) (c .loop-test .left) (c .before .loop .inv .1)
+    let l = c .before in
+    let a = l .before .before .before .args in
+    turns-over (lineTurn (a .givens .now) (a .unit) (a .nine .now)) 6 (l .loop .nth) (c .loop-test .left) (l .loop .inv .1)
 
 pub block-lines-spec : {M : Type 1} → statement M
 block-lines-spec =
@@ -60,10 +71,12 @@ block-lines-spec =
     (tie.spec
     Inv-loop
     μ-loop
+    shared-requires
+    meet-requires
     loop-holds
-    places-of-requires
-    digit-lines-requires
-    add-digit
+    on-line-requires
+    lose-line-requires
+    add-nth
     loop-less
     loop-again
     returns)

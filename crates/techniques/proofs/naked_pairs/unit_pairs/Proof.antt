@@ -1,17 +1,15 @@
--- `techniques::naked_pairs::unit_pairs` meets its contract. The invariant: the nine masks are those of the unit, and the first places that are left still make
--- the whole. Assumes nothing.
+-- `techniques::naked_pairs::unit_pairs` meets its contract. The invariant: the nine masks are those of the unit, and the first places that are left still make the whole. Assumes nothing.
 use mathlib.Core.Path.{_≡_, refl, sym, ap, _∙_}
 use mathlib.Core.Logic.{⊎-elim}
 use mathlib.Core.List.{List}
 use Prim.Native.Nat.{ℕ, _-_, _≤_}
 use native.Mathlib.Omega.{arith}
 use borrow.Author.Needs.{needs}
-use borrow.Author.Tests.{not-false}
 use Rattle.grid.proofs.Lists.{turn-done, turns-over}
 use Rattle.steps.specs.Loops.{each, range, above}
 use Rattle.cells.specs.code.Places.{unitMasks}
 use Rattle.techniques.specs.code.NakedPairs.{pairAt, unitPairs}
-use Rattle.techniques.proofs.NakedPairs.{no-twin}
+use Rattle.techniques.proofs.NakedPairs.{pair-turn, pair-none}
 use Rattle.techniques.proofs.naked_pairs.unit_pairs.Statement.{statement}
 use Rattle.techniques.proofs.naked_pairs.unit_pairs.Tie as tie
 
@@ -20,8 +18,7 @@ abbrev turn : List ℕ → ℕ → ℕ → List ℕ → List ℕ
 turn g u i m = each (pairAt g u i) (above i 9) m
 
 abbrev Inv-loop : tie.InvT-loop
-Inv-loop givens masks₀ unit nine₀ first₀ masks nine first =
-    (first ≤ 9) × (nine ≡ unitMasks givens masks unit) × (each (turn givens unit) (range (9 - first) first) masks ≡ unitPairs givens unit masks₀)
+Inv-loop givens masks₀ unit nine₀ first₀ masks nine first = (first ≤ 9) × (nine ≡ unitMasks givens masks unit) × (each (turn givens unit) (range (9 - first) first) masks ≡ unitPairs givens unit masks₀)
 
 abbrev μ-loop : tie.MeasureT-loop
 μ-loop givens masks₀ unit nine₀ first₀ masks nine first = 9 - first
@@ -33,11 +30,20 @@ loop-holds : tie.Need-loop-holds Inv-loop μ-loop
 unfolding unitPairs
 loop-holds c = (omega arith, c .unit-masks .ensures, refl)
 
-no-twin-requires : tie.Need-no-twin-requires Inv-loop μ-loop
-no-twin-requires c κs = search needs
+pair-of-requires : tie.Need-pair-of-requires Inv-loop μ-loop
+pair-of-requires c κs = search needs
 
-pairs-from-requires : tie.Need-pairs-from-requires Inv-loop μ-loop
-pairs-from-requires c κs = search needs
+all-but-requires : tie.Need-all-but-requires Inv-loop μ-loop
+all-but-requires c κs = search needs
+
+mul-lose-places : tie.Need-mul-lose-places Inv-loop μ-loop
+mul-lose-places c = omega arith
+
+array-read-lose-places : tie.Need-array-read-lose-places Inv-loop μ-loop
+array-read-lose-places c = omega arith
+
+lose-places-requires : tie.Need-lose-places-requires Inv-loop μ-loop
+lose-places-requires c κs = search needs
 
 unit-masks-requires-2 : tie.Need-unit-masks-requires-2 Inv-loop μ-loop
 unit-masks-requires-2 c κs = search needs
@@ -48,27 +54,29 @@ add-first c = omega arith
 loop-less : tie.Need-loop-less Inv-loop μ-loop
 loop-less c = omega arith
 
--- where the branch is left, the nine masks are those of the unit, and a turn is made
-joined : (c : tie.Joined1 Inv-loop μ-loop) → (c .if1 .nine ≡ unitMasks (c .before .before .before .before .before .before .before .args .givens .now) (c .if1 .masks) (c .before .before .before .before .before .before .before .args .unit)) × (c .if1 .masks ≡ turn (c .before .before .before .before .before .before .before .args .givens .now) (c .before .before .before .before .before .before .before .args .unit) (c .before .before .before .before .loop .first) (c .before .before .before .before .loop .masks))
-joined c =
-    let g = c .before .before .before .before .before .before .before .args .givens .now in
-    let u = c .before .before .before .before .before .before .before .args .unit in
-    let l = c .before .before .before .before .loop in
-    ⊎-elim
-    (λ w. (w .6 ∙ w .4 .ensures ∙ ap (λ (m : List ℕ). unitMasks g m u) (sym (w .5)), w .5 ∙ w .2 .ensures))
-    (λ w. (w .2 ∙ l .inv .1 ∙ ap (λ (m : List ℕ). unitMasks g m u) (sym (w .1)), w .1 ∙ no-twin g (l .masks) (l .nine) u (l .first) (omega arith) (l .inv .1) (sym (c .before .no-twin .ensures) ∙ not-false (c .before .no-twin .result) (w .0 .left))))
-    (c .if1 .came)
-
 loop-again : tie.Need-loop-again Inv-loop μ-loop
 loop-again c =
-    let l = c .before .before .before .before .loop in
-    let w = joined c in
-    (omega arith, w .0, turn-done (turn (c .before .before .before .before .before .before .before .args .givens .now) (c .before .before .before .before .before .before .before .args .unit)) 9 (l .first) (omega arith) (w .1) (l .inv .2))
+    let l = c .before .before .before .before in
+    let a = l .before .before .before .args in
+    let g = a .givens .now in
+    let u = a .unit in
+    let s = l .loop in
+    let pair = c .before .pair-of in
+    let w =
+    ⊎-elim {C = (c .if1 .nine ≡ unitMasks g (c .if1 .masks) u) × (c .if1 .masks ≡ turn g u (s .first) (s .masks))}
+    (λ w. (
+      w .7 ∙ w .5 .ensures ∙ ap (λ (m : List ℕ). unitMasks g m u) (sym (w .6)),
+      w .6 ∙ w .3 .ensures ∙ pair-turn g (s .masks) (s .nine) u (s .first) (omega arith) (s .inv .1) (pair .ensures) (w .0 .taken) (w .2 .ensures),
+    ))
+    (λ w. (w .2 ∙ s .inv .1 ∙ ap (λ (m : List ℕ). unitMasks g m u) (sym (w .1)), w .1 ∙ pair-none g (s .masks) (s .nine) u (s .first) (omega arith) (s .inv .1) (pair .ensures) (w .0 .left)))
+    (c .if1 .came) in
+    (omega arith, w .0, turn-done (turn g u) 9 (s .first) (omega arith) (w .1) (s .inv .2))
 
 returns : tie.Need-returns Inv-loop μ-loop
 returns c =
-    let a = c .before .before .before .before .args in
-    turns-over (turn (a .givens .now) (a .unit)) 9 (c .before .loop .first) (c .loop-test .left) (c .before .loop .inv .2)
+    let l = c .before in
+    let a = l .before .before .before .args in
+    turns-over (turn (a .givens .now) (a .unit)) 9 (l .loop .first) (c .loop-test .left) (l .loop .inv .2)
 
 pub unit-pairs-spec : {M : Type 1} → statement M
 unit-pairs-spec =
@@ -78,8 +86,11 @@ unit-pairs-spec =
     μ-loop
     unit-masks-requires
     loop-holds
-    no-twin-requires
-    pairs-from-requires
+    pair-of-requires
+    all-but-requires
+    mul-lose-places
+    array-read-lose-places
+    lose-places-requires
     unit-masks-requires-2
     add-first
     loop-less

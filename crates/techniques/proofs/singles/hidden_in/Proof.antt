@@ -2,17 +2,21 @@
 use mathlib.Core.Path.{_≡_, refl, sym, ap, _∙_}
 use mathlib.Core.Logic.{⊎-elim}
 use mathlib.Core.List.{List}
-use Prim.Native.Nat.{ℕ, _-_, _≤_}
+use Prim.Native.Nat.{ℕ, _+_, _-_, _≤_}
 use native.Mathlib.Omega.{arith}
 use borrow.Author.Needs.{needs}
+use lib.Dec.{eqb}
+use Rattle.candidates.specs.Masks.{has, count, lowest}
 use Rattle.grid.specs.Units.{unitCell}
 use Rattle.grid.proofs.Units.{cell-small}
 use Rattle.grid.proofs.Lists.{turn-done, turns-over}
 use Rattle.steps.specs.Loops.{each, range, upTo}
 use Rattle.cells.specs.code.Places.{spotsIn}
 use Rattle.techniques.specs.declared.singles.Reports.{Reports}
-use Rattle.techniques.specs.code.Pushes.{append}
+use Rattle.techniques.specs.code.Pushes.{append, stored}
 use Rattle.techniques.specs.code.Singles.{hiddenAt, hiddenIn}
+use Rattle.techniques.proofs.HeldOnce.{once-is}
+use Rattle.techniques.proofs.ReportLists.{stored-same}
 use Rattle.techniques.proofs.SinglesFound.{hidden-found, hidden-none, hidden-loop}
 use Rattle.techniques.proofs.singles.hidden_in.Statement.{statement}
 use Rattle.techniques.proofs.singles.hidden_in.Tie as tie
@@ -22,25 +26,31 @@ abbrev turn : ℕ → List ℕ → ℕ → Reports → Reports
 turn u nine d q = append (hiddenAt u (spotsIn nine d) d) q
 
 abbrev Inv-loop : tie.InvT-loop
-Inv-loop givens masks unit nine list₀ digit₀ list digit =
-    (digit ≤ 9) × (each (turn unit nine) (range (9 - digit) digit) list ≡ append (hiddenIn givens masks unit) list₀)
+Inv-loop givens masks unit cells₀ digits₀ held nine once count₀ digit₀ cells digits count digit =
+    (digit ≤ 9) × (count ≤ held + digit)
+    × (each (turn unit nine) (range (9 - digit) digit) (stored cells digits count) ≡ append (hiddenIn givens masks unit) (stored cells₀ digits₀ held))
 
 abbrev μ-loop : tie.MeasureT-loop
-μ-loop givens masks unit nine list₀ digit₀ list digit = 9 - digit
+μ-loop givens masks unit cells₀ digits₀ held nine once count₀ digit₀ cells digits count digit = 9 - digit
 
 unit-masks-requires : tie.Need-unit-masks-requires Inv-loop μ-loop
 unit-masks-requires c κs = search needs
 
+held-once-requires : tie.Need-held-once-requires Inv-loop μ-loop
+held-once-requires c κs = search needs
+
 loop-holds : tie.Need-loop-holds Inv-loop μ-loop
 loop-holds c =
-    let a = c .before .args in
-    (omega arith, ap (λ (nine : List ℕ). each (turn (a .unit) nine) (upTo 9) (a .reports)) (c .unit-masks .ensures) ∙ hidden-loop (a .givens .now) (a .masks .now) (a .unit) (a .reports))
+    let n = c .before .before in
+    let a = n .before .args in
+    let q = stored (a .cells .now) (a .digits .now) (a .held) in
+    (omega arith, omega arith, ap (λ (nine : List ℕ). each (turn (a .unit) nine) (upTo 9) q) (n .unit-masks .ensures) ∙ hidden-loop (a .givens .now) (a .masks .now) (a .unit) q)
+
+has-digit-requires : tie.Need-has-digit-requires Inv-loop μ-loop
+has-digit-requires c κs = search needs
 
 places-of-requires : tie.Need-places-of-requires Inv-loop μ-loop
 places-of-requires c κs = search needs
-
-is-one-requires : tie.Need-is-one-requires Inv-loop μ-loop
-is-one-requires c κs = search needs
 
 lowest-digit-requires : tie.Need-lowest-digit-requires Inv-loop μ-loop
 lowest-digit-requires c κs = search needs
@@ -49,7 +59,11 @@ unit-cell-requires : tie.Need-unit-cell-requires Inv-loop μ-loop
 unit-cell-requires c κs = search needs
 
 cast-push : tie.Need-cast-push Inv-loop μ-loop
-cast-push c = omega (arith, c .unit-cell .ensures, cell-small (c .before .before .before .before .before .before .before .before .before .args .unit) (c .before .lowest-digit .result))
+cast-push c =
+    let cell = c .before .before in
+    let place = cell .before in
+    let once = place .before .before .before .before .before .before .before in
+    omega (arith, cell .unit-cell .ensures, cell-small (once .before .before .before .args .unit) (place .lowest-digit .result))
 
 add-push : tie.Need-add-push Inv-loop μ-loop
 add-push c = omega arith
@@ -58,7 +72,9 @@ cast-push-2 : tie.Need-cast-push-2 Inv-loop μ-loop
 cast-push-2 c = omega arith
 
 push-requires : tie.Need-push-requires Inv-loop μ-loop
-push-requires c κs = search needs
+push-requires c κs =
+    let l = c .before .before .before .before .before .before .before .before .before in
+    omega (arith, l .before .before .before .before .pre, l .loop .inv .1)
 
 add-digit : tie.Need-add-digit Inv-loop μ-loop
 add-digit c = omega arith
@@ -68,22 +84,29 @@ loop-less c = omega arith
 
 loop-again : tie.Need-loop-again Inv-loop μ-loop
 loop-again c =
-    let p = c .before .before in
-    let l = p .before .before .before .loop in
-    let n = p .before .before .before .before in
-    let u = n .before .args .unit in (
+    let l = c .before .before .before .loop in
+    let once = c .before .before .before .before in
+    let n = once .before .before in
+    let u = n .before .args .unit in
+    let d = l .digit in
+    let nine = n .unit-masks .result in
+    let q = stored (l .cells) (l .digits) (l .count) in
+    let test : eqb (count (spotsIn nine d)) 1 ≡ c .before .has-digit .result =
+    sym (c .before .has-digit .ensures ∙ ap (λ (x : ℕ). has x d) (once .held-once .ensures) ∙ once-is nine d) in (
       omega arith,
-      turn-done (turn u (n .unit-masks .result)) 9 (l .digit) (omega arith)
-          (⊎-elim (λ w. w .4 ∙ w .3 .ensures
-          ∙ hidden-found u (l .digit) (l .list) (p .places-of .ensures) (w .2 .ensures ∙ ap (unitCell u) (w .1 .ensures)) refl (sym (c .before .is-one .ensures) ∙ w .0 .taken))
-          (λ w. w .1 ∙ hidden-none u (l .digit) (l .list) (p .places-of .ensures) (sym (c .before .is-one .ensures) ∙ w .0 .left)) (c .if1 .came))
-          (l .inv .1),
+      ⊎-elim (λ w. omega (arith, w .10, w .7 .ensures .1, l .inv .1)) (λ w. omega (arith, w .3, l .inv .1)) (c .if1 .came),
+      turn-done (turn u nine) 9 d (omega arith)
+          (⊎-elim (λ w. stored-same (w .8) (w .9) (w .10) ∙ w .7 .ensures .0
+          ∙ hidden-found u d q (spotsIn nine d) (w .4 .ensures ∙ ap (unitCell u) (w .3 .ensures ∙ ap lowest (w .2 .ensures))) refl (test ∙ w .0 .taken))
+          (λ w. stored-same (w .1) (w .2) (w .3) ∙ hidden-none u d q (spotsIn nine d) (test ∙ w .0 .left)) (c .if1 .came))
+          (l .inv .2),
     )
 
 returns : tie.Need-returns Inv-loop μ-loop
 returns c =
-    let n = c .before .before in
-    turns-over (turn (n .before .args .unit) (n .unit-masks .result)) 9 (c .before .loop .digit) (c .loop-test .left) (c .before .loop .inv .1)
+    let n = c .before .before .before .before in
+    let l = c .before .loop in
+    (turns-over (turn (n .before .args .unit) (n .unit-masks .result)) 9 (l .digit) (c .loop-test .left) (l .inv .2), omega (arith, l .inv .0, l .inv .1))
 
 pub hidden-in-spec : {M : Type 1} → statement M
 hidden-in-spec =
@@ -92,9 +115,10 @@ hidden-in-spec =
     Inv-loop
     μ-loop
     unit-masks-requires
+    held-once-requires
     loop-holds
+    has-digit-requires
     places-of-requires
-    is-one-requires
     lowest-digit-requires
     unit-cell-requires
     cast-push

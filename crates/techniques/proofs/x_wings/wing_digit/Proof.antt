@@ -1,37 +1,30 @@
 -- `techniques::x_wings::wing_digit` meets its contract. The invariant: the first lines that are left still make the whole. Assumes nothing.
-use mathlib.Core.Path.{_≡_, ap, _∙_}
+use mathlib.Core.Path.{_≡_, ap}
 use mathlib.Core.List.{List}
 use Prim.Native.Nat.{ℕ, _-_, _≤_}
 use native.Mathlib.Omega.{arith}
 use borrow.Author.Needs.{needs}
 use Rattle.grid.proofs.Lists.{turn-done, turns-over}
-use Rattle.steps.specs.Loops.{each, range, upTo}
-use Rattle.cells.specs.code.Places.{lineSpots}
-use Rattle.techniques.specs.code.XWings.{wingsFrom, wingDigit}
+use Rattle.steps.specs.Loops.{each, range}
+use Rattle.techniques.specs.code.XWings.{wingsFrom, wingsIn, twoSpots}
 use Rattle.techniques.proofs.x_wings.wing_digit.Statement.{statement}
 use Rattle.techniques.proofs.x_wings.wing_digit.Tie as tie
 
 abbrev Inv-loop : tie.InvT-loop
-Inv-loop givens masks₀ columns digit list first₀ masks first =
-    (first ≤ 9) × (each (wingsFrom givens columns digit list) (range (9 - first) first) masks ≡ wingDigit givens columns digit masks₀)
+Inv-loop givens masks₀ columns digit sets list first₀ masks first =
+    (first ≤ 9) × (each (wingsFrom givens columns digit list) (range (9 - first) first) masks ≡ wingsIn givens columns digit (twoSpots givens masks₀ columns digit sets) masks₀)
 
 abbrev μ-loop : tie.MeasureT-loop
-μ-loop givens masks₀ columns digit list first₀ masks first = 9 - first
+μ-loop givens masks₀ columns digit sets list first₀ masks first = 9 - first
 
-lines-from-requires : tie.Need-lines-from-requires Inv-loop μ-loop
-lines-from-requires c κs = search needs
-
-line-spots-requires : tie.Need-line-spots-requires Inv-loop μ-loop
-line-spots-requires c κs = search needs
+two-spots-requires : tie.Need-two-spots-requires Inv-loop μ-loop
+two-spots-requires c κs = search needs
 
 loop-holds : tie.Need-loop-holds Inv-loop μ-loop
-unfolding wingDigit
+unfolding wingsIn
 loop-holds c =
-    let a = c .before .before .before .args in (
-      omega arith,
-      ap (λ (list : List ℕ). each (wingsFrom (a .givens .now) (a .columns) (a .digit) list) (upTo 9) (a .masks .now))
-          (c .line-spots .ensures ∙ ap (λ (f : ℕ). lineSpots (a .givens .now) (a .masks .now) f (a .digit)) (c .before .lines-from .ensures)),
-    )
+    let a = c .before .before .args in
+    (omega arith, ap (λ (list : List ℕ). wingsIn (a .givens .now) (a .columns) (a .digit) list (a .masks .now)) (c .two-spots .ensures))
 
 wings-from-requires : tie.Need-wings-from-requires Inv-loop μ-loop
 wings-from-requires c κs = search needs
@@ -44,16 +37,17 @@ loop-less c = omega arith
 
 loop-again : tie.Need-loop-again Inv-loop μ-loop
 loop-again c =
-    let a = c .before .before .before .before .before .before .before .before .args in
-    let l = c .before .before .before .before .loop in (
+    let l = c .before .before .before .before in
+    let a = l .before .before .before .args in (
       omega arith,
-      turn-done (wingsFrom (a .givens .now) (a .columns) (a .digit) (c .before .before .before .before .before .line-spots .result)) 9 (l .first) (omega arith) (c .wings-from .ensures) (l .inv .1),
+      turn-done (wingsFrom (a .givens .now) (a .columns) (a .digit) (l .before .two-spots .result)) 9 (l .loop .first) (omega arith) (c .wings-from .ensures) (l .loop .inv .1),
     )
 
 returns : tie.Need-returns Inv-loop μ-loop
 returns c =
-    let a = c .before .before .before .before .before .args in
-    turns-over (wingsFrom (a .givens .now) (a .columns) (a .digit) (c .before .before .line-spots .result)) 9 (c .before .loop .first) (c .loop-test .left) (c .before .loop .inv .1)
+    let l = c .before in
+    let a = l .before .before .before .args in
+    turns-over (wingsFrom (a .givens .now) (a .columns) (a .digit) (l .before .two-spots .result)) 9 (l .loop .first) (c .loop-test .left) (l .loop .inv .1)
 
 pub wing-digit-spec : {M : Type 1} → statement M
 wing-digit-spec =
@@ -61,8 +55,7 @@ wing-digit-spec =
     (tie.spec
     Inv-loop
     μ-loop
-    lines-from-requires
-    line-spots-requires
+    two-spots-requires
     loop-holds
     wings-from-requires
     add-first

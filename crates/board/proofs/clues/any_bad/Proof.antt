@@ -1,0 +1,69 @@
+-- `board::clues::any_bad` meets its contract. Assumes nothing.
+use mathlib.Core.Path.{_≡_, refl, ap, _∙_}
+use mathlib.Core.Bool.{_||_}
+use Prim.Native.Nat.{_-_}
+use native.Mathlib.Omega.{arith}
+use borrow.Author.Needs.{needs}
+use lib.IntN.{pos}
+use lib.ListN.{getD}
+use mir.Facts.{toZ-ofZ}
+use mir.Syntax.{w32}
+use Rattle.grid.specs.Cells.{cells}
+use Rattle.grid.specs.Lists.{range}
+use Rattle.steps.specs.Calls.{badClue, firstBadClue}
+use Rattle.steps.specs.Loops.{first}
+use Rattle.board.specs.code.Checks.{isFound}
+use Rattle.board.proofs.Flags.{flag-on, flag-end}
+use Rattle.board.proofs.clues.any_bad.Statement.{statement}
+use Rattle.board.proofs.clues.any_bad.Tie as tie
+
+abbrev Inv-loop : tie.InvT-loop
+Inv-loop clues any₀ cell₀ any cell = (any || isFound (first (λ c. badClue (getD clues c (pos 0))) (range (81 - cell) cell))) ≡ isFound (firstBadClue clues)
+
+abbrev μ-loop : tie.MeasureT-loop
+μ-loop clues any₀ cell₀ any cell = 81 - cell
+
+loop-holds : tie.Need-loop-holds Inv-loop μ-loop
+unfolding cells
+loop-holds c = refl
+
+mul-is-bad : tie.Need-mul-is-bad Inv-loop μ-loop
+mul-is-bad c = omega arith
+
+element-copy-out-is-bad : tie.Need-element-copy-out-is-bad Inv-loop μ-loop
+element-copy-out-is-bad c = omega arith
+
+is-bad-requires : tie.Need-is-bad-requires Inv-loop μ-loop
+is-bad-requires c κs = search needs
+
+add-cell : tie.Need-add-cell Inv-loop μ-loop
+add-cell c = omega arith
+
+loop-less : tie.Need-loop-less Inv-loop μ-loop
+loop-less c = omega arith
+
+loop-again : tie.Need-loop-again Inv-loop μ-loop
+loop-again c =
+    let l = c .before .before .before in
+    flag-on (λ i. badClue (getD (l .before .args .clues .now) i (pos 0))) 81 (l .loop .cell) (l .loop .any) (l .loop .inv) (omega arith)
+    (c .is-bad .ensures ∙ ap badClue (toZ-ofZ {w = w32} {z = getD (l .before .args .clues .now) (l .loop .cell) (pos 0)} (record { sfits = c .before .is-bad-arg .given })))
+
+returns : tie.Need-returns Inv-loop μ-loop
+returns c =
+    let l = c .before in
+    flag-end (λ i. badClue (getD (l .before .args .clues .now) i (pos 0))) 81 (l .loop .cell) (l .loop .any) (l .loop .inv) (c .loop-test .left)
+
+pub any-bad-spec : {M : Type 1} → statement M
+any-bad-spec =
+    tie.close
+    (tie.spec
+    Inv-loop
+    μ-loop
+    loop-holds
+    mul-is-bad
+    element-copy-out-is-bad
+    is-bad-requires
+    add-cell
+    loop-less
+    loop-again
+    returns)

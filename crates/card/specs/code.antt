@@ -1,2 +1,0 @@
--- How the code goes about it: nothing here needs belief.
-pub mod Lines

@@ -1,0 +1,4 @@
+pub mod Spots
+pub mod LaneUnits
+pub mod Turns
+pub mod Families

@@ -1,0 +1,69 @@
+-- `lanes::lane_masks` meets its contract. The invariant: the places that are left still make the whole. Assumes nothing.
+use mathlib.Core.Path.{_≡_, refl}
+use Prim.Native.Nat.{_-_}
+use native.Mathlib.Omega.{arith}
+use lib.ListN.{replicate}
+use Rattle.grid.proofs.Fills.{filled, fill-start, fill-on, fill-end}
+use Rattle.lanes.specs.code.Lanes.{laneAt, laneMasks}
+use Rattle.lanes.proofs.lane_masks.Statement.{statement}
+use Rattle.lanes.proofs.lane_masks.Tie as tie
+
+abbrev Inv-loop : tie.InvT-loop
+Inv-loop lanes lane nine₀ place₀ nine place = filled (laneAt lanes lane) 9 place nine ≡ laneMasks lanes lane
+
+abbrev μ-loop : tie.MeasureT-loop
+μ-loop lanes lane nine₀ place₀ nine place = 9 - place
+
+loop-holds : tie.Need-loop-holds Inv-loop μ-loop
+unfolding laneMasks
+loop-holds c = fill-start _ 9 (replicate 9 0) refl
+
+mul-held : tie.Need-mul-held Inv-loop μ-loop
+mul-held c = omega arith
+
+add-held : tie.Need-add-held Inv-loop μ-loop
+add-held c = omega arith
+
+mul-held-2 : tie.Need-mul-held-2 Inv-loop μ-loop
+mul-held-2 c = omega arith
+
+element-copy-out-held : tie.Need-element-copy-out-held Inv-loop μ-loop
+element-copy-out-held c = omega arith
+
+mul-nine : tie.Need-mul-nine Inv-loop μ-loop
+mul-nine c = omega arith
+
+array-write-nine : tie.Need-array-write-nine Inv-loop μ-loop
+array-write-nine c = omega arith
+
+add-place : tie.Need-add-place Inv-loop μ-loop
+add-place c = omega arith
+
+loop-less : tie.Need-loop-less Inv-loop μ-loop
+loop-less c = omega arith
+
+loop-again : tie.Need-loop-again Inv-loop μ-loop
+loop-again c =
+    let l = c .before .before .loop in
+    fill-on _ 9 (l .place) (l .nine) (l .inv) (omega arith) refl
+
+returns : tie.Need-returns Inv-loop μ-loop
+returns c = fill-end _ 9 (c .before .loop .place) (c .before .loop .nine) (c .before .loop .inv) (c .loop-test .left)
+
+pub lane-masks-spec : {M : Type 1} → statement M
+lane-masks-spec =
+    tie.close
+    (tie.spec
+    Inv-loop
+    μ-loop
+    loop-holds
+    mul-held
+    add-held
+    mul-held-2
+    element-copy-out-held
+    mul-nine
+    array-write-nine
+    add-place
+    loop-less
+    loop-again
+    returns)

@@ -1,0 +1,76 @@
+-- `lanes::put_row` meets its contract. The invariant: the cells before this one are laid out. Assumes nothing.
+use mathlib.Core.Path.{_≡_, refl, ap, _∙_, subst}
+use mathlib.Core.List.{List}
+use Prim.Native.Nat.{ℕ, _+_, _*_, _-_, _≤_}
+use native.Mathlib.Omega.{arith}
+use lib.Bits.{bitAnd}
+use Rattle.lanes.specs.code.Lanes.{Partly}
+use Rattle.lanes.proofs.Spots.{partly-on}
+use Rattle.lanes.proofs.put_row.Statement.{statement}
+use Rattle.lanes.proofs.put_row.Tie as tie
+use Rattle.lanes.proofs.put_row.Reads as reads
+use Rattle.lanes.proofs.put_row.Lts as lts
+use Rattle.lanes.proofs.put.Reads as put-reads
+
+abbrev Inv-loop : tie.InvT-loop
+Inv-loop masks lanes₀ row col₀ lanes col = (col ≤ 9) × Partly masks (9 * row + col) lanes
+
+abbrev μ-loop : tie.MeasureT-loop
+μ-loop masks lanes₀ row col₀ lanes col = 9 - col
+
+loop-holds : tie.Need-loop-holds Inv-loop μ-loop
+loop-holds c =
+    let a = c .args in
+    let e : 9 * a .row ≡ 9 * a .row + 0 = omega arith in
+    (omega arith, subst (λ (i : ℕ). Partly (a .masks .now) i (a .lanes .now)) e (c .pre .1))
+
+mul-put : tie.Need-mul-put Inv-loop μ-loop
+mul-put c = omega arith
+
+add-put : tie.Need-add-put Inv-loop μ-loop
+add-put c = omega arith
+
+mul-put-2 : tie.Need-mul-put-2 Inv-loop μ-loop
+mul-put-2 c = omega arith
+
+element-copy-out-put : tie.Need-element-copy-out-put Inv-loop μ-loop
+element-copy-out-put c = omega arith
+
+put-requires : tie.Need-put-requires Inv-loop μ-loop
+put-requires c κs = (omega arith, omega arith)
+
+add-col : tie.Need-add-col Inv-loop μ-loop
+add-col c = omega arith
+
+loop-less : tie.Need-loop-less Inv-loop μ-loop
+loop-less c = omega arith
+
+loop-again : tie.Need-loop-again Inv-loop μ-loop
+loop-again c =
+    let l = c .before .before .before .before .loop in
+    let a = c .before .before .before .before .before .args in
+    (omega arith, partly-on (omega arith) (omega arith) (l .inv .1) (c .put .ensures))
+
+returns : tie.Need-returns Inv-loop μ-loop
+returns c =
+    let l = c .before .loop in
+    let a = c .before .before .args in
+    let e : 9 * a .row + l .col ≡ 9 * a .row + 9 = omega arith in
+    subst (λ (i : ℕ). Partly (a .masks .now) i (l .lanes)) e (l .inv .1)
+
+pub put-row-spec : {M : Type 1} → statement M
+put-row-spec =
+    tie.close
+    (tie.spec
+    Inv-loop
+    μ-loop
+    loop-holds
+    mul-put
+    add-put
+    mul-put-2
+    element-copy-out-put
+    put-requires
+    add-col
+    loop-less
+    loop-again
+    returns)

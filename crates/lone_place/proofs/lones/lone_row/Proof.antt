@@ -1,0 +1,83 @@
+-- `lone_place::lones::lone_row` meets its contract. The invariant: the cells that are left still make the whole, and what they share with their peers stays near them. Assumes nothing.
+use mathlib.Core.Path.{_≡_, refl, sym, subst}
+use mathlib.Core.List.{List}
+use Prim.Native.Nat.{ℕ, _+_, _*_, _-_, _≤_}
+use native.Mathlib.Omega.{arith}
+use Rattle.grid.proofs.Lists.{turn-done, turns-over}
+use Rattle.steps.specs.Loops.{each, range}
+use Rattle.lone_place.specs.code.Turns.{loneCell, loneRow}
+use Rattle.lone_place.specs.code.Due.{NearRow}
+use Rattle.lone_place.proofs.LoneDue.{lone-under}
+use Rattle.lone_place.proofs.LoneLanes.{row-near-under}
+use Rattle.lone_place.proofs.lones.lone_row.Statement.{statement}
+use Rattle.lone_place.proofs.lones.lone_row.Tie as tie
+
+-- one turn of the loop
+turn : List ℕ → ℕ → ℕ → List ℕ → List ℕ
+turn g r k m = loneCell g (9 * r + k) m
+
+abbrev Inv-loop : tie.InvT-loop
+Inv-loop givens masks₀ near row nth₀ masks nth = (nth ≤ 9) × (each (turn givens row) (range (9 - nth) nth) masks ≡ loneRow givens row masks₀) × NearRow masks row near
+
+abbrev μ-loop : tie.MeasureT-loop
+μ-loop givens masks₀ near row nth₀ masks nth = 9 - nth
+
+loop-holds : tie.Need-loop-holds Inv-loop μ-loop
+unfolding loneRow turn
+loop-holds c = (omega arith, refl, c .pre .1)
+
+mul-lone-cell : tie.Need-mul-lone-cell Inv-loop μ-loop
+mul-lone-cell c = omega arith
+
+element-copy-out-lone-cell : tie.Need-element-copy-out-lone-cell Inv-loop μ-loop
+element-copy-out-lone-cell c = omega arith
+
+mul-lone-cell-2 : tie.Need-mul-lone-cell-2 Inv-loop μ-loop
+mul-lone-cell-2 c = omega arith
+
+add-lone-cell : tie.Need-add-lone-cell Inv-loop μ-loop
+add-lone-cell c = omega arith
+
+lone-cell-requires : tie.Need-lone-cell-requires Inv-loop μ-loop
+lone-cell-requires c κs =
+    let l = c .before .before .before .loop in
+    (omega arith, l .inv .2 .cell (l .nth) (omega arith))
+
+add-nth : tie.Need-add-nth Inv-loop μ-loop
+add-nth c = omega arith
+
+loop-less : tie.Need-loop-less Inv-loop μ-loop
+loop-less c = omega arith
+
+loop-again : tie.Need-loop-again Inv-loop μ-loop
+unfolding turn
+loop-again c =
+    let l = c .before .before .before .before .loop in
+    let a = c .before .before .before .before .before .args in
+    let g = a .givens .now in (
+      omega arith,
+      turn-done (turn g (a .row)) 9 (l .nth) (omega arith) (c .lone-cell .ensures) (l .inv .1),
+      subst (λ (m : List ℕ). NearRow m (a .row) (a .near .now)) (sym (c .lone-cell .ensures)) (row-near-under (lone-under g (9 * a .row + l .nth) (l .masks)) (l .inv .2)),
+    )
+
+returns : tie.Need-returns Inv-loop μ-loop
+returns c =
+    let a = c .before .before .args in
+    turns-over (turn (a .givens .now) (a .row)) 9 (c .before .loop .nth) (c .loop-test .left) (c .before .loop .inv .1)
+
+pub lone-row-spec : {M : Type 1} → statement M
+lone-row-spec =
+    tie.close
+    (tie.spec
+    Inv-loop
+    μ-loop
+    loop-holds
+    mul-lone-cell
+    element-copy-out-lone-cell
+    mul-lone-cell-2
+    add-lone-cell
+    lone-cell-requires
+    add-nth
+    loop-less
+    loop-again
+    returns)

@@ -1,0 +1,56 @@
+-- `lone_place::places::place_family` meets its contract. Assumes nothing.
+use mathlib.Core.Path.{sym, _∙_}
+use native.Mathlib.Omega.{arith}
+use borrow.Author.Needs.{needs}
+use Rattle.lanes.proofs.Turns.{skips-idle}
+use Rattle.lone_place.specs.code.Due.{placeFamily, PlaceSpares}
+use Rattle.lone_place.proofs.PlaceLanes.{place-spared, spares-skips, place-parted}
+use Rattle.lone_place.proofs.places.place_family.Statement.{statement}
+use Rattle.lone_place.proofs.places.place_family.Tie as tie
+
+mul-loose : tie.Need-mul-loose
+mul-loose c = omega arith
+
+loose-requires : tie.Need-loose-requires
+loose-requires c κs = omega arith
+
+mul-due-lanes : tie.Need-mul-due-lanes
+mul-due-lanes c = omega arith
+
+due-lanes-requires : tie.Need-due-lanes-requires
+due-lanes-requires c κs = omega arith
+
+join-sets-requires : tie.Need-join-sets-requires
+join-sets-requires c κs = search needs
+
+-- what the sets say
+spares : (c : tie.After-due-lanes)
+    → PlaceSpares (c .before .before .before .before .before .args .givens .now) (c .before .before .before .before .before .args .masks .now) (c .before .before .before .before .before .args .family) (c .due-lanes .result)
+spares c =
+    let start = c .before .before .before .before .before in
+    place-spared (start .args .givens .now) (start .args .masks .now) (start .args .family) (start .pre .0) (start .pre .1) (c .before .before .before .loose .ensures) (c .due-lanes .ensures)
+
+returns : tie.Need-returns
+unfolding placeFamily
+returns c =
+    let tested = c .before .before .before in
+    let start = tested .before .before .before .before .before in
+    (sym (skips-idle (place-parted (start .args .givens .now) (start .args .family) (start .pre .0)) (spares-skips (spares tested)) (sym (c .before .join-sets .ensures) ∙ c .if1 .taken)), start .pre .1 .masks)
+
+place-due-requires : tie.Need-place-due-requires
+place-due-requires c κs =
+    let tested = c .before .before .before .before .before in
+    (tested .before .before .before .before .before .pre .0, spares tested)
+
+lay-requires : tie.Need-lay-requires
+lay-requires c κs =
+    let start = c .before .before .before .before .before .before .before .before .before .before .before .before .before in
+    record { of = start .args .masks .now; is = start .pre .1 .masks }
+
+returns-2 : tie.Need-returns-2
+returns-2 c = (c .before .before .before .place-due .ensures, c .lay .ensures)
+
+pub place-family-spec : {M : Type 1} → statement M
+place-family-spec =
+    tie.close
+    (tie.spec mul-loose loose-requires mul-due-lanes due-lanes-requires join-sets-requires returns place-due-requires lay-requires returns-2)

@@ -1,0 +1,88 @@
+-- `pair_cross::crosses::cross_half` meets its contract. Assumes nothing.
+use mathlib.Core.Path.{sym, _∙_, subst}
+use mathlib.Core.List.{List}
+use Prim.Native.Nat.{ℕ, _*_}
+use native.Mathlib.Omega.{arith}
+use borrow.Author.Needs.{needs}
+use Rattle.lanes.proofs.Turns.{skips-idle}
+use Rattle.pair_cross.specs.code.Twos.{crossLines}
+use Rattle.pair_cross.specs.code.Spots.{DigitLanes, CrossSkips}
+use Rattle.pair_cross.proofs.CrossLanes.{cross-skipped, cross-parted}
+use Rattle.pair_cross.proofs.crosses.cross_half.Statement.{statement}
+use Rattle.pair_cross.proofs.crosses.cross_half.Tie as tie
+
+mul-loose : tie.Need-mul-loose
+mul-loose c = omega arith
+
+loose-requires : tie.Need-loose-requires
+loose-requires c κs = omega arith
+
+join-sets-requires : tie.Need-join-sets-requires
+join-sets-requires c κs = search needs
+
+mul-digit-lanes : tie.Need-mul-digit-lanes
+mul-digit-lanes c = omega arith
+
+digit-lanes-requires : tie.Need-digit-lanes-requires
+digit-lanes-requires c κs = omega arith
+
+places-of-digits-requires : tie.Need-places-of-digits-requires
+places-of-digits-requires c κs = search needs
+
+lively-lanes-requires : tie.Need-lively-lanes-requires
+lively-lanes-requires c κs = omega arith
+
+join-sets-requires-2 : tie.Need-join-sets-requires-2
+join-sets-requires-2 c κs = search needs
+
+-- what the sets say
+skips : (c : tie.After-lively-lanes)
+    → CrossSkips (c .before .before .before .before .before .before .before .before .before .before .args .givens .now) (c .before .before .before .before .before .before .before .before .before .before .args .masks .now) (c .before .before .before .before .before .before .before .before .before .before .args .half) (c .lively-lanes .result)
+skips c =
+    let places = c .before .before .before in
+    let digits = places .before in
+    let joined = digits .before .before in
+    let loose = joined .before .before in
+    let start = loose .before .before in
+    cross-skipped (start .args .givens .now) (start .args .masks .now) (start .args .half) (start .pre .0) (start .pre .1) (loose .loose .ensures) (joined .join-sets .ensures) (digits .digit-lanes .ensures)
+    (places .places-of-digits .ensures) (c .lively-lanes .ensures)
+
+returns : tie.Need-returns
+unfolding crossLines
+returns c =
+    let lively = c .before .before .before in
+    let start = lively .before .before .before .before .before .before .before .before .before .before in
+    (sym (skips-idle (cross-parted (start .args .givens .now) (9 * start .args .half)) (skips lively) (sym (c .before .join-sets2 .ensures) ∙ c .if1 .taken)), start .pre .1 .masks)
+
+cross-due-requires : tie.Need-cross-due-requires
+cross-due-requires c κs =
+    let lively = c .before .before .before .before .before .before in
+    let digits = lively .before .before .before .before in
+    let start = digits .before .before .before .before .before .before in
+    (start .pre .0, start .pre .1 .doors, subst (λ (z : List ℕ). DigitLanes z (16 * start .args .half) (digits .digit-lanes .result)) (start .pre .1 .masks) (digits .digit-lanes .ensures), skips lively)
+
+lay-requires : tie.Need-lay-requires
+lay-requires c κs =
+    let lively = c .before .before .before .before .before .before .before .before .before in
+    let start = lively .before .before .before .before .before .before .before .before .before .before in
+    record { of = start .args .masks .now; is = start .pre .1 .masks }
+
+returns-2 : tie.Need-returns-2
+returns-2 c = (c .before .before .before .cross-due .ensures, c .lay .ensures)
+
+pub cross-half-spec : {M : Type 1} → statement M
+cross-half-spec =
+    tie.close
+    (tie.spec
+    mul-loose
+    loose-requires
+    join-sets-requires
+    mul-digit-lanes
+    digit-lanes-requires
+    places-of-digits-requires
+    lively-lanes-requires
+    join-sets-requires-2
+    returns
+    cross-due-requires
+    lay-requires
+    returns-2)

@@ -1,0 +1,95 @@
+-- `pair_cross::lively::tally_of` meets its contract. The invariant: the lines that are left still make the whole. Assumes nothing.
+use mathlib.Core.Path.{_≡_, refl, ap, _∙_}
+use mathlib.Core.List.{List}
+use Prim.Native.Nat.{ℕ, _-_, _≤_}
+use native.Mathlib.Omega.{arith}
+use Rattle.candidates.specs.Masks.{union}
+use Rattle.grid.proofs.Lists.{turn-done, turns-over}
+use Rattle.steps.specs.Boards.{at}
+use Rattle.steps.specs.Loops.{each, range}
+use Rattle.pair_cross.specs.code.Lively.{tallied, tallyOf}
+use Rattle.pair_cross.specs.declared.lively.Tally.{Tally}
+use borrow.Author.Needs.{needs}
+use Rattle.pair_cross.proofs.lively.tally_of.Statement.{statement}
+use Rattle.pair_cross.proofs.lively.tally_of.Tie as tie
+
+turn : List ℕ → ℕ → Tally → Tally
+turn nine i = tallied (at nine i)
+
+tally-is : {a b c d e f : ℕ} → a ≡ d → b ≡ e → c ≡ f → _≡_ {A = Tally} (record { once = a; twice = b; thrice = c }) (record { once = d; twice = e; thrice = f })
+tally-is p q r = rw (p, q, r)
+
+abbrev Inv-loop : tie.InvT-loop
+Inv-loop nine once₀ twice₀ thrice₀ line₀ once twice thrice line =
+    (line ≤ 9) × (each (turn nine) (range (9 - line) line) (record { once = once; twice = twice; thrice = thrice }) ≡ tallyOf (at nine))
+
+abbrev μ-loop : tie.MeasureT-loop
+μ-loop nine once₀ twice₀ thrice₀ line₀ once twice thrice line = 9 - line
+
+loop-holds : tie.Need-loop-holds Inv-loop μ-loop
+unfolding tallyOf turn
+loop-holds c = (omega arith, refl)
+
+mul-held : tie.Need-mul-held Inv-loop μ-loop
+mul-held c = omega arith
+
+element-copy-out-held : tie.Need-element-copy-out-held Inv-loop μ-loop
+element-copy-out-held c = omega arith
+
+meet-requires : tie.Need-meet-requires Inv-loop μ-loop
+meet-requires c κs = search needs
+
+join-requires : tie.Need-join-requires Inv-loop μ-loop
+join-requires c κs = search needs
+
+meet-requires-2 : tie.Need-meet-requires-2 Inv-loop μ-loop
+meet-requires-2 c κs = search needs
+
+join-requires-2 : tie.Need-join-requires-2 Inv-loop μ-loop
+join-requires-2 c κs = omega arith
+
+join-requires-3 : tie.Need-join-requires-3 Inv-loop μ-loop
+join-requires-3 c κs = omega arith
+
+add-line : tie.Need-add-line Inv-loop μ-loop
+add-line c = omega arith
+
+loop-less : tie.Need-loop-less Inv-loop μ-loop
+loop-less c = omega arith
+
+loop-again : tie.Need-loop-again Inv-loop μ-loop
+unfolding turn
+loop-again c =
+    let l = c .before .before .before .before .before .before .before .loop in
+    let a = c .before .before .before .before .before .before .before .before .args in (
+      omega arith,
+      turn-done (turn (a .nine .now)) 9 (l .line) (omega arith)
+          (tally-is (c .join3 .ensures)
+          (c .before .join2 .ensures ∙ ap (union (l .twice)) (c .before .before .meet2 .ensures))
+          (c .before .before .before .join .ensures ∙ ap (union (l .thrice)) (c .before .before .before .before .meet .ensures)))
+          (l .inv .1),
+    )
+
+returns : tie.Need-returns Inv-loop μ-loop
+returns c =
+    let a = c .before .before .args in
+    turns-over (turn (a .nine .now)) 9 (c .before .loop .line) (c .loop-test .left) (c .before .loop .inv .1)
+
+pub tally-of-spec : {M : Type 1} → statement M
+tally-of-spec =
+    tie.close
+    (tie.spec
+    Inv-loop
+    μ-loop
+    loop-holds
+    mul-held
+    element-copy-out-held
+    meet-requires
+    join-requires
+    meet-requires-2
+    join-requires-2
+    join-requires-3
+    add-line
+    loop-less
+    loop-again
+    returns)

@@ -1,0 +1,57 @@
+-- `pair_cross::pairs::pair_family` meets its contract. Assumes nothing.
+use mathlib.Core.Path.{sym, _∙_}
+use native.Mathlib.Omega.{arith}
+use borrow.Author.Needs.{needs}
+use Rattle.lanes.proofs.Turns.{skips-idle}
+use Rattle.pair_cross.specs.code.Lively.{pairFamily, PairSkips}
+use Rattle.pair_cross.proofs.PairLanes.{pair-skipped, pair-parted}
+use Rattle.pair_cross.proofs.pairs.pair_family.Statement.{statement}
+use Rattle.pair_cross.proofs.pairs.pair_family.Tie as tie
+
+mul-loose : tie.Need-mul-loose
+mul-loose c = omega arith
+
+loose-requires : tie.Need-loose-requires
+loose-requires c κs = omega arith
+
+mul-lively-lanes : tie.Need-mul-lively-lanes
+mul-lively-lanes c = omega arith
+
+lively-lanes-requires : tie.Need-lively-lanes-requires
+lively-lanes-requires c κs = omega arith
+
+join-sets-requires : tie.Need-join-sets-requires
+join-sets-requires c κs = search needs
+
+-- what the sets say
+skips : (c : tie.After-lively-lanes)
+    → PairSkips (c .before .before .before .before .before .args .givens .now) (c .before .before .before .before .before .args .masks .now) (c .before .before .before .before .before .args .family) (c .lively-lanes .result)
+skips c =
+    let start = c .before .before .before .before .before in
+    pair-skipped (start .args .givens .now) (start .args .masks .now) (start .args .family) (start .pre .0) (start .pre .1) (c .before .before .before .loose .ensures) (c .lively-lanes .ensures)
+
+returns : tie.Need-returns
+unfolding pairFamily
+returns c =
+    let lively = c .before .before .before in
+    let start = lively .before .before .before .before .before in
+    (sym (skips-idle (pair-parted (start .args .givens .now) (start .args .family) (start .pre .0)) (skips lively) (sym (c .before .join-sets .ensures) ∙ c .if1 .taken)), start .pre .1 .masks)
+
+pair-due-requires : tie.Need-pair-due-requires
+pair-due-requires c κs =
+    let lively = c .before .before .before .before .before .before in
+    let start = lively .before .before .before .before .before in
+    (start .pre .0, start .pre .1, skips lively)
+
+lay-requires : tie.Need-lay-requires
+lay-requires c κs =
+    let start = c .before .before .before .before .before .before .before .before .before .before .before .before .before .before in
+    record { of = start .args .masks .now; is = start .pre .1 .masks }
+
+returns-2 : tie.Need-returns-2
+returns-2 c = (c .before .before .before .pair-due .ensures, c .lay .ensures)
+
+pub pair-family-spec : {M : Type 1} → statement M
+pair-family-spec =
+    tie.close
+    (tie.spec mul-loose loose-requires mul-lively-lanes lively-lanes-requires join-sets-requires returns pair-due-requires lay-requires returns-2)

@@ -1,0 +1,97 @@
+-- `pair_cross::search::line_turns` meets its contract. The invariant: the lines that are left still make the whole, and the lines that are kept are those of the board. Assumes nothing.
+use mathlib.Core.Path.{_≡_, refl, sym, _∙_}
+use mathlib.Core.Logic.{⊎-elim}
+use Prim.Native.Nat.{_-_, _≤_, _<_}
+use native.Mathlib.Omega.{arith}
+use borrow.Author.Needs.{needs}
+use Rattle.grid.proofs.Lists.{turn-done, turns-over}
+use Rattle.steps.specs.Loops.{each, range, above}
+use Rattle.pair_cross.specs.code.Twos.{linesTaken}
+use Rattle.pair_cross.specs.code.Search.{Seen}
+use Rattle.pair_cross.proofs.LinesLeft.{seen-same, cold-seen}
+use Rattle.pair_cross.proofs.search.line_turns.Statement.{statement}
+use Rattle.pair_cross.proofs.search.line_turns.Tie as tie
+
+abbrev Inv-loop : tie.InvT-loop
+Inv-loop givens masks₀ frame doors held₀ start i heat₀ j₀ masks held heat j =
+    (j ≤ 9) × (each (linesTaken givens frame i) (range (9 - j) j) masks ≡ each (linesTaken givens frame i) (above i 9) masks₀) × Seen givens masks frame doors held heat × (i < j)
+
+abbrev μ-loop : tie.MeasureT-loop
+μ-loop givens masks₀ frame doors held₀ start i heat₀ j₀ masks held heat j = 9 - j
+
+add-j : tie.Need-add-j Inv-loop μ-loop
+add-j c = omega arith
+
+loop-holds : tie.Need-loop-holds Inv-loop μ-loop
+loop-holds c = (omega arith, refl, c .pre .0, omega arith)
+
+mul-asks : tie.Need-mul-asks Inv-loop μ-loop
+mul-asks c = omega arith
+
+element-copy-out-asks : tie.Need-element-copy-out-asks Inv-loop μ-loop
+element-copy-out-asks c = omega arith
+
+mul-asks-2 : tie.Need-mul-asks-2 Inv-loop μ-loop
+mul-asks-2 c = omega arith
+
+element-copy-out-asks-2 : tie.Need-element-copy-out-asks-2 Inv-loop μ-loop
+element-copy-out-asks-2 c = omega arith
+
+asks-requires : tie.Need-asks-requires Inv-loop μ-loop
+asks-requires c κs = search needs
+
+two-turn-requires : tie.Need-two-turn-requires Inv-loop μ-loop
+two-turn-requires c κs =
+    let l = c .before .before .before .before .before .before .before .loop in
+    (l .inv .2, l .inv .3, omega arith)
+
+add-j-2 : tie.Need-add-j-2 Inv-loop μ-loop
+add-j-2 c = omega arith
+
+loop-less : tie.Need-loop-less Inv-loop μ-loop
+loop-less c = omega arith
+
+loop-again : tie.Need-loop-again Inv-loop μ-loop
+loop-again c =
+    let l = c .before .before .before .before .before .loop in
+    let a = c .before .before .before .before .before .before .args in
+    ⊎-elim
+    (λ w. (
+      omega arith,
+      turn-done (linesTaken (a .givens .now) (a .frame) (a .i)) 9 (l .j) (omega arith) (w .4 ∙ w .3 .ensures .0) (l .inv .1),
+      seen-same (w .3 .ensures .1) (w .4) (w .5) (w .6),
+      omega (arith, l .inv .3),
+    ))
+    (λ w. (
+      omega arith,
+      turn-done (linesTaken (a .givens .now) (a .frame) (a .i)) 9 (l .j) (omega arith)
+          (w .1 ∙ sym (cold-seen (l .inv .2) (a .i) (l .j) (l .inv .3) (omega arith) (sym (c .before .asks .ensures) ∙ w .0 .left))) (l .inv .1),
+      seen-same (l .inv .2) (w .1) (w .2) (w .3),
+      omega (arith, l .inv .3),
+    ))
+    (c .if1 .came)
+
+returns : tie.Need-returns Inv-loop μ-loop
+returns c =
+    let l = c .before .loop in
+    let a = c .before .before .args in
+    (turns-over (linesTaken (a .givens .now) (a .frame) (a .i)) 9 (l .j) (c .loop-test .left) (l .inv .1), l .inv .2)
+
+pub line-turns-spec : {M : Type 1} → statement M
+line-turns-spec =
+    tie.close
+    (tie.spec
+    Inv-loop
+    μ-loop
+    add-j
+    loop-holds
+    mul-asks
+    element-copy-out-asks
+    mul-asks-2
+    element-copy-out-asks-2
+    asks-requires
+    two-turn-requires
+    add-j-2
+    loop-less
+    loop-again
+    returns)
