@@ -7,7 +7,7 @@ use native.Mathlib.Decide.{ℕ-discrete, decLt}
 use native.Mathlib.Omega.{arith}
 use borrow.Author.Tests.{lt-ltb, le-ltb, eqb-true}
 use lib.Bits.{bitAnd}
-use lib.Dec.{T, eqb, ltb, eqb→eq, ltb→lt}
+use lib.Dec.{eqb, ltb, eqb→eq, ltb→lt}
 use Rattle.candidates.specs.Masks.{has, minus, union, placeMask, Sub}
 use Rattle.candidates.proofs.Held.{Held, held-minus, held-sub, held-all}
 use Rattle.candidates.proofs.Order.{sub-trans, sub-of-minus, union-left, union-right}
@@ -23,11 +23,11 @@ use Rattle.cells.specs.code.Meets.{meetings, metPlaces, metBack, outside, boxUn
 use Rattle.cells.proofs.HeldPlaces.{has-held}
 use Rattle.cells.proofs.Meetings.{three-boxes, six-lines, met-below}
 use Rattle.cells.proofs.NineBits.{place-is, not-held, held-meet}
-use Rattle.cells.proofs.Shared.{union-at, joined-at, at-joined}
+use Rattle.cells.proofs.Shared.{joined-at, at-joined}
 use Rattle.lanes.specs.code.Lanes.{laid, doorsOf, laneAt, laneMasks, Alike}
 use Rattle.lanes.proofs.LaneUnits.{lane-at, lane-reads}
 use Rattle.locked.specs.code.Locked.{DigitSkips, BoxesOrLines}
-use Rattle.locked.specs.code.Rests.{looseMasks, nineOf, restOf, Rests, dueOn, dueThree, rowDue, colDue, boxDue, unitDue}
+use Rattle.locked.specs.code.Rests.{looseMasks, restOf, Rests, dueOn, dueThree, rowDue, colDue, boxDue, unitDue}
 use Rattle.locked.proofs.LockedTurns.{locked-digit}
 use Rattle.locked.proofs.LockedDue.{places-idle}
 

@@ -3,7 +3,7 @@
 // The nth rest of lane l stands at 48 n + l. Of the units that may lose, open cells count alone.
 ghost use mathlib.Core.Path.{_≡_};
 ghost use mathlib.Core.Bool.{not};
-ghost use Prim.Native.Nat.{_+_, _*_, _<_, _≤_};
+ghost use Prim.Native.Nat.{_+_, _*_, _<_};
 ghost use Rattle.locked.specs.code.Rests.{looseMasks, nineOf, putRest, putLane, putLanes, putRests, dueThree, rowDue, colDue, boxDue, unitDue};
 use candidates::masks;
 use cells::meets::met_places;

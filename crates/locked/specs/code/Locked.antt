@@ -1,6 +1,6 @@
 -- Pointing and Claiming by units and digits, and where they may lose anything: a box and the lines that meet it, a line and the boxes that meet it.
 use mathlib.Core.Path.{_≡_}
-use mathlib.Core.Bool.{Bool, true, false, not}
+use mathlib.Core.Bool.{Bool, false, not}
 use mathlib.Core.List.{List}
 use Prim.Native.Nat.{ℕ, _<_, _≤_}
 use lib.Dec.{ltb}
