@@ -45,9 +45,11 @@ OTHERS = {
     "canonical": "write_sheet",
     "record": "record written and read",
     "card": "card",
+    "settle": "settling with its step list, from the fresh board",
+    "steps": "check_steps, that list",
 }
 # what the original has not
-ENGINE_ALONE = {"7", "8", "9", "10", "14", "11", "12", "15", "sheet", "canonical", "record", "card"}
+ENGINE_ALONE = {"7", "8", "9", "10", "14", "11", "12", "15", "sheet", "canonical", "record", "card", "settle", "steps"}
 # the wide passes and settling, and what the yardstick calls the last
 WIDE = ["7", "8", "9", "10", "14", "11", "12"]
 YARDSTICK = {"12": "settle6"}

@@ -12,6 +12,8 @@ pub mod round_cases;
 pub mod sheet_cases;
 pub mod shrink;
 pub mod sides;
+pub mod step_cases;
+pub mod step_lists;
 pub mod text_cases;
 
 pub type Clues = [i32; 81];
@@ -20,6 +22,8 @@ pub type Entries = [i32; 81];
 pub type Masks = [u16; 81];
 /// Room for 324 reports, two bytes each.
 pub type ReportBytes = [u8; 648];
+/// Room for 729 steps of wide passes, six bytes each.
+pub type StepBytes = [u8; 4374];
 /// Room for a card.
 pub type CardBytes = [u8; 256];
 type Answer = [i64; 4];
@@ -41,7 +45,7 @@ impl Board {
 }
 
 /// The number of the signatures below, which is raised with each change of one; `abi` says what the archive has.
-pub const ABI: u32 = 3;
+pub const ABI: u32 = 4;
 
 extern "C" {
     fn sudoku_abi() -> u32;
@@ -57,6 +61,8 @@ extern "C" {
     fn sudoku_rub_out(cell: u32, clues: *const Clues, entries: *mut Entries, masks: *mut Masks, answer: *mut Answer);
     fn sudoku_step(step: u8, clues: *const Clues, entries: *const Entries, masks: *mut Masks, reports: *mut ReportBytes, answer: *mut Answer);
     fn sudoku_run(steps: *const u8, length: usize, clues: *const Clues, entries: *const Entries, masks: *mut Masks, answer: *mut Answer);
+    fn sudoku_settle(clues: *const Clues, entries: *const Entries, masks: *mut Masks, steps: *mut StepBytes, answer: *mut Answer);
+    fn sudoku_check_steps(steps: *const u8, length: usize, clues: *const Clues, entries: *const Entries, masks: *mut Masks, answer: *mut Answer);
     fn sudoku_write_text(clues: *const Clues, text: *mut u8, length: usize, answer: *mut Answer);
     fn sudoku_read_sheet(sheet: *const u8, length: usize, clues: *mut Clues, answer: *mut Answer);
     fn sudoku_write_sheet(clues: *const Clues, sheet: *mut u8, length: usize, answer: *mut Answer);
@@ -228,6 +234,27 @@ pub fn step(step: u8, Board { clues, entries, masks }: &mut Board, reports: &mut
 /// The masks after a list of steps from the fresh board of clues and entries.
 pub fn run(steps: &[u8], clues: &Clues, entries: &Entries, masks: &mut Masks) -> Result<(), Stop> {
     answered(|answer| unsafe { sudoku_run(steps.as_ptr(), steps.len(), clues, entries, masks, answer) }).map(drop)
+}
+
+/// What settling counts: the last sweep too, and the steps that removed something.
+#[derive(Clone, Copy, Debug, PartialEq, Eq)]
+pub struct Settled {
+    pub sweeps: i64,
+    pub removed: i64,
+    pub steps: i64,
+}
+
+/// Settling, which changes the masks alone, and its effective steps, six bytes each; the bytes after the last are 0.
+pub fn settle(Board { clues, entries, masks }: &mut Board, steps: &mut StepBytes) -> Result<Settled, Stop> {
+    let mut answer = [0; 4];
+    unsafe { sudoku_settle(clues, entries, masks, steps, &mut answer) };
+    let [number, beside, sweeps, removed] = answer;
+    if number == 0 { Ok(Settled { sweeps, removed, steps: beside }) } else { Err(Stop { number, detail: beside }) }
+}
+
+/// A list of setters' steps, six bytes each, checked from the fresh board of clues and entries: the masks of the final board.
+pub fn check_steps(steps: &[u8], Board { clues, entries, masks }: &mut Board) -> Result<(), Stop> {
+    answered(|answer| unsafe { sudoku_check_steps(steps.as_ptr(), steps.len(), clues, entries, masks, answer) }).map(drop)
 }
 
 /// The text of the clues in the first 81 lent bytes, and how many were written.

@@ -59,7 +59,7 @@ pub fn see(a: usize, b: usize) -> bool {
     a != b && (row(a) == row(b) || col(a) == col(b) || block(a) == block(b))
 }
 
-fn peers(cell: usize) -> impl Iterator<Item = usize> {
+pub(crate) fn peers(cell: usize) -> impl Iterator<Item = usize> {
     PEERS[cell].iter().copied()
 }
 
@@ -81,9 +81,11 @@ pub fn candidates(masks: &Masks) -> usize {
 
 /// A board with its entries among its clues, as the calls take it: "All board calls and stop 9 treat entries as clues" (document 02, F-6).
 #[derive(Clone)]
-struct Joint {
-    clues: Clues,
-    masks: Masks,
+pub(crate) struct Joint {
+    pub(crate) clues: Clues,
+    pub(crate) masks: Masks,
+    /// The instances of wide passes that removed something, in the order done, as six bytes each (document 02, F-10).
+    pub(crate) effective: Vec<[u8; 6]>,
 }
 
 impl Joint {
@@ -91,7 +93,7 @@ impl Joint {
         self.clues[cell] == 0
     }
 
-    fn holds(&self, cell: usize, digit: i32) -> bool {
+    pub(crate) fn holds(&self, cell: usize, digit: i32) -> bool {
         self.masks[cell] & bit(digit) != 0
     }
 
@@ -99,11 +101,13 @@ impl Joint {
         self.is_open(cell) && self.holds(cell, digit)
     }
 
-    /// "only open cells lose digits"
-    fn lose(&mut self, cell: usize, digits: u16) {
-        if self.is_open(cell) {
+    /// "only open cells lose digits": whether it lost any.
+    pub(crate) fn lose(&mut self, cell: usize, digits: u16) -> bool {
+        let loses = self.is_open(cell) && self.masks[cell] & digits != 0;
+        if loses {
             self.masks[cell] &= !digits;
         }
+        loses
     }
 
     fn open_holders(&self, cells: &[usize], digit: i32) -> Vec<usize> {
@@ -140,7 +144,7 @@ fn bad_entry(board: &Board) -> Option<Stop> {
     (0..CELLS).find(bad).map(|cell| Stop { number: 8, detail: cell as i64 })
 }
 
-fn bad_mask(Joint { clues, masks }: &Joint) -> Option<Stop> {
+fn bad_mask(Joint { clues, masks, .. }: &Joint) -> Option<Stop> {
     let fresh = fresh(clues);
     let bad = |&cell: &usize| masks[cell] & !fresh[cell] != 0 || clues[cell] != 0 && masks[cell] != bit(clues[cell]);
     (0..CELLS).find(bad).map(|cell| Stop { number: 9, detail: cell as i64 })
@@ -155,8 +159,8 @@ fn checked(board: &Board) -> Result<Joint, Stop> {
     check(board).map_or_else(|| Ok(joint(board)), Err)
 }
 
-fn joint(board: &Board) -> Joint {
-    Joint { clues: together(&board.clues, &board.entries), masks: board.masks }
+pub(crate) fn joint(board: &Board) -> Joint {
+    Joint { clues: together(&board.clues, &board.entries), masks: board.masks, effective: Vec::new() }
 }
 
 /// "the printed clues and the remaining entries together"
@@ -407,24 +411,39 @@ impl Joint {
 // ---- the wide passes and settling
 
 impl Joint {
+    /// An instance whose condition holds: these cells lose these digits. Its bytes are "its kind .., then its parts in the order of 01 and
+    /// F-5 .., then zeros" (document 02, F-10).
+    fn instance(&mut self, kind: usize, parts: &[usize], cells: impl IntoIterator<Item = usize>, digits: u16) {
+        let mut removed = false;
+        for cell in cells {
+            removed |= self.lose(cell, digits);
+        }
+        if removed {
+            let mut bytes = [kind as u8, 0, 0, 0, 0, 0];
+            for (byte, &part) in bytes[1..].iter_mut().zip(parts) {
+                *byte = part as u8;
+            }
+            self.effective.push(bytes);
+        }
+    }
+
     fn lone(&mut self) {
         for cell in 0..CELLS {
             for digit in 1..=9 {
                 if self.masks[cell] & !bit(digit) == 0 {
-                    for peer in peers(cell) {
-                        self.lose(peer, bit(digit));
-                    }
+                    self.instance(0, &[cell, digit as usize], peers(cell), bit(digit));
                 }
             }
         }
     }
 
     fn place(&mut self) {
-        for cells in (0..27).map(unit) {
+        for number in 0..27 {
+            let cells = unit(number);
             for digit in 1..=9 {
                 for cell in cells {
                     if cells.iter().all(|&other| other == cell || !self.holds(other, digit)) {
-                        self.lose(cell, !bit(digit));
+                        self.instance(1, &[number, digit as usize, cell], [cell], !bit(digit));
                     }
                 }
             }
@@ -432,92 +451,84 @@ impl Joint {
     }
 
     fn pair(&mut self) {
-        for cells in (0..27).map(unit) {
+        for number in 0..27 {
+            let cells = unit(number);
             for first in 0..9 {
                 for second in first + 1..9 {
-                    self.pair_of(&cells, cells[first], cells[second]);
+                    self.pair_of(number, cells[first], cells[second]);
                 }
             }
         }
     }
 
-    fn pair_of(&mut self, cells: &[usize; 9], first: usize, second: usize) {
+    fn pair_of(&mut self, number: usize, first: usize, second: usize) {
+        let others: Vec<usize> = unit(number).into_iter().filter(|&cell| cell != first && cell != second).collect();
         for a in 1..=9 {
             for b in a + 1..=9 {
                 let both = bit(a) | bit(b);
-                if (self.masks[first] | self.masks[second]) & !both != 0 {
-                    continue;
-                }
-                for &cell in cells {
-                    if cell != first && cell != second {
-                        self.lose(cell, both);
-                    }
+                if (self.masks[first] | self.masks[second]) & !both == 0 {
+                    self.instance(2, &[number, first, second, a as usize, b as usize], others.iter().copied(), both);
                 }
             }
         }
     }
 
     fn pointing(&mut self) {
-        for number in 0..9 {
-            let inside = unit(18 + number);
+        for block in 18..27 {
+            let inside = unit(block);
             let lines: Vec<usize> = (0..3).map(|at| row(inside[3 * at])).chain((0..3).map(|at| 9 + col(inside[at]))).collect();
             for digit in 1..=9 {
                 for &line in &lines {
-                    self.point(&inside, digit, &unit(line));
+                    self.locked(3, block, digit, line);
                 }
             }
         }
     }
 
-    fn point(&mut self, inside: &[usize; 9], digit: i32, line: &[usize; 9]) {
-        if self.all_holders(inside, digit).iter().any(|cell| !line.contains(cell)) {
-            return;
-        }
-        for cell in line {
-            if !inside.contains(cell) {
-                self.lose(*cell, bit(digit));
-            }
+    /// All cells of a unit that hold the digit are in another one: the other cells of that one lose it.
+    fn locked(&mut self, kind: usize, number: usize, digit: i32, other: usize) {
+        let (cells, others) = (unit(number), unit(other));
+        if self.all_holders(&cells, digit).iter().all(|cell| others.contains(cell)) {
+            let outside = others.into_iter().filter(|cell| !cells.contains(cell));
+            self.instance(kind, &[number, digit as usize, other], outside, bit(digit));
         }
     }
 
     /// Document 02, F-5: all cells of a row or column that hold the digit are in one box, and the other cells of that box lose it.
     fn claiming(&mut self) {
-        for line in (0..18).map(unit) {
+        for line in 0..18 {
+            let cells = unit(line);
+            let blocks: Vec<usize> = (18..27).filter(|&block| unit(block).iter().any(|cell| cells.contains(cell))).collect();
             for digit in 1..=9 {
-                for inside in (18..27).map(unit).filter(|inside| inside.iter().any(|cell| line.contains(cell))) {
-                    let claimed = line.iter().all(|&cell| !self.holds(cell, digit) || inside.contains(&cell));
-                    for &cell in inside.iter().filter(|&cell| claimed && !line.contains(cell)) {
-                        self.lose(cell, bit(digit));
-                    }
+                for &block in &blocks {
+                    self.locked(4, line, digit, block);
                 }
             }
         }
     }
 
     fn cross(&mut self) {
-        for (lines, across) in [(0, col as fn(usize) -> usize), (9, row)] {
+        for (kind, lines, across, place) in [(5, 0, 9, col as fn(usize) -> usize), (6, 9, 0, row)] {
             for digit in 1..=9 {
-                for first in 0..9 {
-                    for second in first + 1..9 {
-                        self.cross_of(digit, lines, [first, second], across);
+                for first in lines..lines + 9 {
+                    for second in first + 1..lines + 9 {
+                        let others: Vec<usize> = (lines..lines + 9).filter(|&line| line != first && line != second).collect();
+                        self.cross_of(kind, digit, [first, second], &others, across, place);
                     }
                 }
             }
         }
     }
 
-    fn cross_of(&mut self, digit: i32, lines: usize, pair: [usize; 2], across: fn(usize) -> usize) {
+    /// Two of nine lines and the seven others; the lines across them are numbered from `across` on, and a cell is on the one of its `place`.
+    fn cross_of(&mut self, kind: usize, digit: i32, [first, second]: [usize; 2], others: &[usize], across: usize, place: fn(usize) -> usize) {
         // no step of this pair changes its own two lines
-        let held: Vec<usize> = pair.iter().flat_map(|line| self.all_holders(&unit(lines + line), digit)).map(across).collect();
+        let held: Vec<usize> = [first, second].iter().flat_map(|&line| self.all_holders(&unit(line), digit)).map(place).collect();
         for c1 in 0..9 {
             for c2 in c1 + 1..9 {
-                if held.iter().any(|&at| at != c1 && at != c2) {
-                    continue;
-                }
-                for line in (0..9).filter(|line| !pair.contains(line)) {
-                    let cells = unit(lines + line);
-                    self.lose(cells[c1], bit(digit));
-                    self.lose(cells[c2], bit(digit));
+                if held.iter().all(|&at| at == c1 || at == c2) {
+                    let outside = others.iter().flat_map(|&line| [UNITS[line][c1], UNITS[line][c2]]);
+                    self.instance(kind, &[digit as usize, first, second, across + c1, across + c2], outside, bit(digit));
                 }
             }
         }
@@ -597,6 +608,13 @@ fn advanced(board: &mut Joint) -> Outcome {
     let flag = !reports.is_empty() || board.masks != before;
     let masks = if flag { fresh(&board.clues) } else { before };
     Outcome { flag, reports, ..silent(&masks) }
+}
+
+/// "The settling call shall hand back the list of its own effective steps, in the order done" (document 02, F-10), beside what it answers.
+pub fn settle(board: &Board) -> Result<(Outcome, Vec<u8>), Stop> {
+    let mut board = checked(board)?;
+    let outcome = settling(&mut board);
+    Ok((outcome, board.effective.concat()))
 }
 
 fn settling(board: &mut Joint) -> Outcome {

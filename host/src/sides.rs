@@ -194,7 +194,7 @@ impl Records for Plain {
 pub struct Engine(Board);
 
 /// What was lent holds something else than the page says: no stop of the engine's.
-const BROKEN: Stop = Stop { number: i64::MIN, detail: 0 };
+pub const BROKEN: Stop = Stop { number: i64::MIN, detail: 0 };
 
 impl Side for Engine {
     fn start(board: &Board) -> Self {

@@ -2,7 +2,7 @@
 
 use std::fmt::Display;
 
-use sudoku_host::cases::{accessors_differ, damaged_case, differ, ported_case, ported_with_entries, run_case, run_differs, Case, Runner};
+use sudoku_host::cases::{accessors_differ, damaged_case, differ, ported_case, ported_with_entries, run_case, run_differs, Case, Runner, EVERYTHING};
 use sudoku_host::clothes_cases::{clothes, lists_apart, relabelled, settled_apart, Change, Clothes};
 use sudoku_host::plain::{self, bit, block, col, row, see, unit, Outcome};
 use sudoku_host::random::Random;
@@ -11,6 +11,8 @@ use sudoku_host::records::{bytes, read, Form};
 use sudoku_host::sheet_cases::{sheet, sheet_differs};
 use sudoku_host::shrink::{shrunk, Smaller};
 use sudoku_host::sides::{Accessors, Asked, Call, Engine, Original, Plain, Records, Side, CHAIN};
+use sudoku_host::step_cases::{self, answers_differ, own, settled_differs, to_settle, Checker, Settler, StepList};
+use sudoku_host::step_lists::{check_steps, follow};
 use sudoku_host::text_cases::Input;
 use sudoku_host::{counted, run, Board, Clues, Masks, Stop, NO_ENTRIES};
 
@@ -614,4 +616,112 @@ fn sheet_whose_bytes_are_looked_at_before_its_length() {
         None => plain::read_sheet(sheet),
     };
     assert!(sheet_with(bytes_first).0.len() > 4096);
+}
+
+// ---- step lists
+
+/// Settling's own list, or a damaged one.
+fn some_list(random: &mut Random) -> StepList {
+    let own = own(random);
+    if random.percent(50) { step_cases::damaged(random, &own) } else { own }
+}
+
+fn smallest_list(misread: Checker) -> Vec<u8> {
+    smallest_case(some_list, &|list| answers_differ(misread, list)).bytes
+}
+
+fn smallest_settling(misread: Settler) -> Case {
+    smallest_case(to_settle, &|case| settled_differs(misread, case))
+}
+
+/// A list with each step's bytes put otherwise.
+fn each_step(list: &[u8], put: fn(&mut [u8; 6])) -> Vec<u8> {
+    let other = |piece: &[u8]| match <[u8; 6]>::try_from(piece) {
+        Ok(mut step) => {
+            put(&mut step);
+            step.to_vec()
+        }
+        Err(_) => piece.to_vec(),
+    };
+    list.chunks(6).flat_map(other).collect()
+}
+
+fn kind_6_turned(step: &mut [u8; 6]) {
+    if step[0] == 6 {
+        step[2..].rotate_left(2);
+    }
+}
+
+#[test]
+fn kind_6_with_rows_first() {
+    let smallest = smallest_list(|board, list| check_steps(board, &each_step(list, kind_6_turned)));
+    assert_eq!(smallest[smallest.len() - 6], 6);
+    smallest_settling(|board| plain::settle(board).map(|(outcome, list)| (outcome, each_step(&list, kind_6_turned))));
+}
+
+fn place_of(step: &mut [u8; 6]) {
+    let place = |cell: u8, number: u8| unit(number.into()).iter().position(|&other| other == usize::from(cell)).map_or(cell, |place| place as u8);
+    match step[0] {
+        1 => step[3] = place(step[3], step[1]),
+        2 => [2, 3].into_iter().for_each(|at| step[at] = place(step[at], step[1])),
+        _ => {}
+    }
+}
+
+fn cell_of(step: &mut [u8; 6]) {
+    let cell = |place: u8, number: u8| if place < 9 && number < 27 { unit(number.into())[usize::from(place)] as u8 } else { 255 };
+    match step[0] {
+        1 => step[3] = cell(step[3], step[1]),
+        2 => [2, 3].into_iter().for_each(|at| step[at] = cell(step[at], step[1])),
+        _ => {}
+    }
+}
+
+#[test]
+fn places_in_the_place_of_cells() {
+    let smallest = smallest_list(|board, list| check_steps(board, &each_step(list, cell_of)));
+    assert!(smallest.len() == 6 && (1..=2).contains(&smallest[0]));
+    smallest_settling(|board| plain::settle(board).map(|(outcome, list)| (outcome, each_step(&list, place_of))));
+}
+
+/// The condition of a step that was taken still holds: the masks have only shrunk.
+fn idle_accepted(board: &Board, list: &[u8]) -> Result<Board, Stop> {
+    let steps: Vec<&[u8]> = list.chunks(6).collect();
+    let checked = check_steps(board, list);
+    if !matches!(checked, Err(Stop { number: 15, .. })) {
+        return checked;
+    }
+    let mut last = plain::afresh(&board.clues, &board.entries);
+    for (at, step) in steps.iter().enumerate().filter(|(at, step)| !steps[..*at].contains(step)) {
+        last = follow(&last, step).map_err(|_| Stop { number: 15, detail: at as i64 })?;
+    }
+    Ok(last)
+}
+
+#[test]
+fn idle_step_accepted() {
+    let smallest = smallest_list(idle_accepted);
+    assert_eq!(smallest[smallest.len() - 12..smallest.len() - 6], smallest[smallest.len() - 6..]);
+}
+
+#[test]
+fn short_last_piece_dropped() {
+    let smallest = smallest_list(|board, list| check_steps(board, &list[..list.len() / 6 * 6]));
+    assert_ne!(smallest.len() % 6, 0);
+}
+
+#[test]
+fn handed_masks_in_the_place_of_the_fresh_ones() {
+    let smallest = smallest_list(|board, list| check_steps(board, list).and_then(|_| follow(board, list)));
+    assert_eq!(smallest, []);
+}
+
+#[test]
+fn settling_that_tells_its_steps_from_the_fresh_board() {
+    let from_fresh: Settler = |board| {
+        let (outcome, _) = plain::settle(board)?;
+        Ok((outcome, plain::settle(&plain::afresh(&board.clues, &board.entries))?.1))
+    };
+    let smallest = smallest_settling(from_fresh);
+    assert!(smallest.kept != EVERYTHING || !smallest.calls.is_empty());
 }

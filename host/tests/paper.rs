@@ -1,12 +1,13 @@
 //! The published cases P1 to P11, the card and the stops of document 01, on the plain implementation; texts written, sheets, entries,
-//! records, cards and trial rounds on the engine too.
+//! records, cards, trial rounds and step lists on the engine too.
 
-use sudoku_host::grids::{completed, of_text, GRID_A};
+use sudoku_host::grids::{completed, of_text, GRID_A, PUBLISHED};
 use sudoku_host::plain::{self, fresh, Outcome};
 use sudoku_host::random::Random;
 use sudoku_host::sheet_cases::{ruled, Style, BOXED};
 use sudoku_host::sides::{Accessors, Call, Engine, Original, Plain, Records, Side, LENT_BOARD};
-use sudoku_host::{run, Board, Clues, Entries, Masks, Stop, ABI, NO_ENTRIES};
+use sudoku_host::step_cases::engine_settles;
+use sudoku_host::{run, step_lists, Board, Clues, Entries, Masks, Stop, ABI, NO_ENTRIES};
 
 const OPEN: Clues = [0; 81];
 
@@ -762,4 +763,126 @@ fn f13_order_of_reports_may_differ() {
     let reports = |clues: &Clues| stepped_by::<Engine>(4, clues, &fresh(clues)).unwrap().reports;
     assert_eq!(reports(&clues), [(1, 2), (9, 4)]);
     assert_eq!(reports(&turned(&clues)), [(1, 4), (9, 2)]);
+}
+
+// ---- document 02, F-10
+
+/// The checker on a board, engine and plain: the board that comes back.
+fn checked(board: &Board, list: &[u8]) -> Result<Board, Stop> {
+    let mut left = *board;
+    let ours = sudoku_host::check_steps(list, &mut left);
+    let expected = step_lists::check_steps(board, list);
+    assert_eq!((ours, left), (expected.map(drop), expected.unwrap_or(*board)), "{list:?}");
+    expected
+}
+
+/// P10: 1, 2 and 3 stand in row 0 alone of the first box, and Pointing takes each from six cells of that row.
+const P10_STEPS: [[u8; 6]; 3] = [[3, 18, 1, 0, 0, 0], [3, 18, 2, 0, 0, 0], [3, 18, 3, 0, 0, 0]];
+
+/// Settling with its list, engine and plain; it answers and leaves what step 12 does.
+fn settled(board: &Board) -> Result<(Outcome, Vec<u8>), Stop> {
+    let ours = engine_settles(board);
+    assert_eq!(ours, plain::settle(board));
+    assert_eq!(ours.clone().map(|(outcome, _)| outcome), Plain::start(board).call(Call::Step(12)));
+    ours
+}
+
+#[test]
+fn f10_settling_tells_its_steps() {
+    let board = fresh_board(&p10());
+    let (outcome, list) = settled(&board).unwrap();
+    assert_eq!((outcome.sweeps, outcome.removed, &list), (2, 18, &P10_STEPS.concat()));
+    // from the middle: what was done before is no step of this list
+    let [one, two, three] = P10_STEPS;
+    let middle = checked(&board, &two).unwrap();
+    assert_eq!(settled(&middle).unwrap().1, [one, three].concat());
+    let last = Board { masks: outcome.masks, ..board };
+    assert_eq!(settled(&last).unwrap().1, []);
+    assert_eq!(settled(&fresh_board(&OPEN)).unwrap().1, []);
+    assert_eq!(checked(&fresh_board(&OPEN), &[]), Ok(fresh_board(&OPEN)));
+    for text in PUBLISHED {
+        let board = fresh_board(&of_text(text));
+        let (outcome, list) = settled(&board).unwrap();
+        assert_eq!(checked(&board, &list), Ok(Board { masks: outcome.masks, ..board }));
+    }
+}
+
+/// Beside a stop everything that was lent keeps its contents.
+#[test]
+fn f10_settling_that_is_refused() {
+    let board = fresh_board(&p10());
+    let mut low = board;
+    low.clues[80] = -1;
+    assert_eq!(settled(&low), stop(3, 80));
+    let mut entered = board;
+    entered.entries[9] = 1;
+    assert_eq!(settled(&entered), stop(8, 9));
+    let mut more = board;
+    more.masks[3] = 1023;
+    assert_eq!(settled(&more), stop(9, 3));
+}
+
+#[test]
+fn f10_steps_that_are_refused() {
+    let board = fresh_board(&p10());
+    let [one, two, three] = P10_STEPS;
+    // any order will do, but each step once; the masks that are handed in are checked and play no other part
+    assert!(checked(&board, &[three, one, two].concat()).is_ok());
+    assert_eq!(checked(&board, &[one, two, two].concat()), stop(15, 2));
+    let settled = checked(&board, &[one, two, three].concat()).unwrap();
+    assert_eq!(checked(&settled, &[one, two, three].concat()), Ok(settled));
+    assert_eq!(checked(&settled, &[]), Ok(board));
+    // a shorter last piece, a zero that is none, a place for a cell, a line that does not meet the box, a digit 0, a kind past the last
+    for bad in [&one[..5], &[3, 18, 1, 0, 0, 1], &[3, 18, 1, 3, 0, 0], &[3, 0, 1, 0, 0, 0], &[3, 18, 0, 0, 0, 0], &[3, 18, 10, 0, 0, 0], &[7, 18, 1, 0, 0, 0]] {
+        assert_eq!(checked(&board, bad), stop(15, 0), "{bad:?}");
+        assert_eq!(checked(&board, &[&one, bad].concat()), stop(15, 1), "{bad:?}");
+    }
+    // 16 before any step, counted with a shorter last piece; before it the board's own stops
+    for (bytes, steps) in [(6 * 729 + 1, 730), (6 * 730, 730), (6 * 730 + 5, 731)] {
+        assert_eq!(checked(&board, &vec![9; bytes]), stop(16, steps));
+        let mut low = board;
+        low.clues[80] = -1;
+        assert_eq!(checked(&low, &vec![9; bytes]), stop(3, 80));
+    }
+    assert_eq!(checked(&board, &[9; 6 * 729]), stop(15, 0));
+    let mut more = board;
+    more.masks[3] = 1023;
+    assert_eq!(checked(&more, &[]), stop(9, 3));
+}
+
+/// Every kind by hand: cells by their own numbers and not by their places in a unit, and columns first in the exchanged Cross.
+#[test]
+fn f10_one_step_of_each_kind() {
+    let row = with(&[(0, "...456789")]);
+    let mut ones = OPEN;
+    for cell in [3, 15, 27, 55] {
+        ones[cell] = 1;
+    }
+    let crossed = with(&[(0, ".234.5678"), (4, ".567.8234")]);
+    let good: [(Clues, [u8; 6]); 7] = [
+        (with(&[(0, "12345678.")]), [0, 8, 9, 0, 0, 0]),
+        (ones, [1, 18, 1, 20, 0, 0]),
+        (p8(), [2, 0, 0, 1, 1, 2]),
+        (p10(), [3, 18, 1, 0, 0, 0]),
+        (row, [4, 0, 1, 18, 0, 0]),
+        (crossed, [5, 1, 0, 4, 9, 13]),
+        (turned(&crossed), [6, 1, 9, 13, 0, 4]),
+    ];
+    for (clues, step) in good {
+        assert!(checked(&fresh_board(&clues), &step).is_ok(), "{step:?}");
+    }
+    // cell 20 has place 8 in its box; cells and digits rise; rows come first in kind 5 and columns in kind 6; a condition that does not hold
+    let bad: [(Clues, [u8; 6]); 8] = [
+        (ones, [1, 18, 1, 8, 0, 0]),
+        (ones, [1, 18, 1, 11, 0, 0]),
+        (p8(), [2, 0, 1, 0, 1, 2]),
+        (p8(), [2, 0, 0, 1, 2, 1]),
+        (row, [4, 0, 1, 21, 0, 0]),
+        (turned(&crossed), [6, 1, 0, 4, 9, 13]),
+        (turned(&crossed), [5, 1, 9, 13, 0, 4]),
+        (crossed, [6, 1, 9, 13, 0, 4]),
+    ];
+    for (clues, step) in bad {
+        assert_eq!(checked(&fresh_board(&clues), &step), stop(15, 0), "{step:?}");
+    }
 }

@@ -60,7 +60,8 @@ fn step_masks(number: u8, givens: &[u8; 81], masks: &mut [u16; 81])
         10 => eliminate(Elimination::Pointing, givens, masks),
         11 => eliminate(Elimination::Cross, givens, masks),
         12 => {
-            settle(givens, masks);
+            let mut log = [0u8; 4376];
+            settle(givens, masks, &mut log);
         }
         13 => eliminate(Elimination::Chains, givens, masks),
         14 => eliminate(Elimination::Claiming, givens, masks),

@@ -43,7 +43,7 @@ fn push_verdict(lines: &mut Lines, at: usize, verdict: Verdict) -> usize
     }
 }
 
-fn verdict_line(lines: &mut Lines, at: usize, verdict: Verdict) -> usize
+pub fn verdict_line(lines: &mut Lines, at: usize, verdict: Verdict) -> usize
     ensures { λ r. ⌜ tape (now (lines .exit)) r ≡ append 256 (lineOf verdictLabel (verdictWord verdict)) (tape (now (lines .entry)) at) ⌝ }
 {
     let word = push_word(lines, at, b"verdict ");

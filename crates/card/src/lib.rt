@@ -19,8 +19,8 @@ use stops::Writing;
 use techniques::singles::singles;
 use text::parse_string;
 
-mod layout;
-mod lines;
+pub mod layout;
+pub mod lines;
 
 // The length without one final newline.
 fn text_length(input: &[u8]) -> usize
@@ -42,7 +42,8 @@ fn card_of(clues: &[i32; 81]) -> Card
     let givens = givens_of(clues);
     let mut masks = fresh_masks(&givens);
     let reported = singles(&givens, &masks).count;
-    let counts = settle(&givens, &mut masks);
+    let mut log = [0u8; 4376];
+    let counts = settle(&givens, &mut masks, &mut log);
     Card {
         clues: count_clues(clues),
         reported,

@@ -11,6 +11,7 @@ use Rattle.cases.proofs.Claimed.{claimed-holds}
 use Rattle.cases.proofs.Entered.{entries-hold, equal-holds}
 use Rattle.cases.proofs.Recorded.{records-hold}
 use Rattle.cases.proofs.Clothed.{clothes-hold}
+use Rattle.cases.proofs.Stepped.{steps-hold}
 
 pub cases : Cases
 cases =
@@ -32,4 +33,5 @@ cases =
       equal = equal-holds;
       records = records-hold;
       clothes = clothes-hold;
+      steps = steps-hold;
     }

@@ -83,7 +83,7 @@ is-dead = refl
 
 -- ---- P10
 
-p10-clues : Clues p10
+pub p10-clues : Clues p10
 unfolding p10 gridOf for
 p10-clues = clues-by p10 refl tt
 

@@ -13,5 +13,6 @@ pub mod Claimed
 pub mod Entered
 pub mod Recorded
 pub mod Clothed
+pub mod Stepped
 pub mod Cases
 pub mod Misread

@@ -34,7 +34,7 @@ use Rattle.cases.proofs.Idle.{pair-idle, cross-idle}
 use Rattle.cases.proofs.Laws.{Values, fresh-value, call-value, sweep-by, next-sweep, last-sweep}
 use Rattle.cases.proofs.Texts.{prints, prints-ended}
 
-g : List ℕ
+unfoldable pub g : List ℕ
 g =
     0 ∷ 0 ∷ 0 ∷ 0 ∷ 0 ∷ 0 ∷ 0 ∷ 0 ∷ 0 ∷
     4 ∷ 5 ∷ 6 ∷ 0 ∷ 0 ∷ 0 ∷ 0 ∷ 0 ∷ 0 ∷
@@ -46,7 +46,7 @@ g =
     0 ∷ 0 ∷ 0 ∷ 0 ∷ 0 ∷ 0 ∷ 0 ∷ 0 ∷ 0 ∷
     0 ∷ 0 ∷ 0 ∷ 0 ∷ 0 ∷ 0 ∷ 0 ∷ 0 ∷ 0 ∷ []
 
-m : List ℕ
+unfoldable pub m : List ℕ
 m =
     7 ∷ 7 ∷ 7 ∷ 511 ∷ 511 ∷ 511 ∷ 511 ∷ 511 ∷ 511 ∷
     8 ∷ 16 ∷ 32 ∷ 455 ∷ 455 ∷ 455 ∷ 455 ∷ 455 ∷ 455 ∷
@@ -59,7 +59,7 @@ m =
     439 ∷ 367 ∷ 223 ∷ 511 ∷ 511 ∷ 511 ∷ 511 ∷ 511 ∷ 511 ∷ []
 
 -- row 0 outside the first box has lost 1, 2 and 3
-n : List ℕ
+unfoldable pub n : List ℕ
 n =
     7 ∷ 7 ∷ 7 ∷ 504 ∷ 504 ∷ 504 ∷ 504 ∷ 504 ∷ 504 ∷
     8 ∷ 16 ∷ 32 ∷ 455 ∷ 455 ∷ 455 ∷ 455 ∷ 455 ∷ 455 ∷
@@ -71,7 +71,7 @@ n =
     439 ∷ 367 ∷ 223 ∷ 511 ∷ 511 ∷ 511 ∷ 511 ∷ 511 ∷ 511 ∷
     439 ∷ 367 ∷ 223 ∷ 511 ∷ 511 ∷ 511 ∷ 511 ∷ 511 ∷ 511 ∷ []
 
-values : Values p10 g m
+pub values : Values p10 g m
 unfolding p10 gridOf for givensOf g m fresh taken each cells peers
 values = record { givens = refl; masks = refl }
 
@@ -108,53 +108,53 @@ none-reported = refl
 
 -- ---- the two sweeps
 
-lone₁ : pass g Lone m ≡ m
+pub lone₁ : pass g Lone m ≡ m
 unfolding g m pass instances lones each stepTaken stepOf for peers cells
 lone₁ = refl
 
-place₁ : pass g Place m ≡ m
+pub place₁ : pass g Place m ≡ m
 unfolding g m pass instances places each stepTaken stepOf for unit units
 place₁ = refl
 
-pair₁ : pass g Pair m ≡ m
+pub pair₁ : pass g Pair m ≡ m
 unfolding g m onesIn unit units
 pair₁ = pair-idle g m tt
 
-pointing₁ : pass g Pointing m ≡ n
+pub pointing₁ : pass g Pointing m ≡ n
 unfolding g m n pass instances pointings each stepTaken stepOf for unit units
 pointing₁ = refl
 
-lone₂ : pass g Lone n ≡ n
+pub lone₂ : pass g Lone n ≡ n
 unfolding g n pass instances lones each stepTaken stepOf for peers cells
 lone₂ = refl
 
-place₂ : pass g Place n ≡ n
+pub place₂ : pass g Place n ≡ n
 unfolding g n pass instances places each stepTaken stepOf for unit units
 place₂ = refl
 
-pair₂ : pass g Pair n ≡ n
+pub pair₂ : pass g Pair n ≡ n
 unfolding g n onesIn unit units
 pair₂ = pair-idle g n tt
 
-pointing₂ : pass g Pointing n ≡ n
+pub pointing₂ : pass g Pointing n ≡ n
 unfolding g n pass instances pointings each stepTaken stepOf for unit units
 pointing₂ = refl
 
-claiming : pass g Claiming n ≡ n
+pub claiming : pass g Claiming n ≡ n
 unfolding g n pass instances claimings each stepTaken stepOf for unit units
 claiming = refl
 
-cross : pass g Cross n ≡ n
+pub cross : pass g Cross n ≡ n
 unfolding g n spots gather onesIn unit units
 cross = cross-idle g n tt
 
-sweep₁ : sweep g m ≡ n
+pub sweep₁ : sweep g m ≡ n
 sweep₁ = sweep-by g m lone₁ place₁ pair₁ pointing₁ claiming cross
 
-sweep₂ : sweep g n ≡ n
+pub sweep₂ : sweep g n ≡ n
 sweep₂ = sweep-by g n lone₂ place₂ pair₂ pointing₂ claiming cross
 
-settles : settle g m ≡ record { sweeps = 2; left = n }
+pub settles : settle g m ≡ record { sweeps = 2; left = n }
 settles = next-sweep g 729 m sweep₁ differ ∙ rw (last-sweep g 728 n sweep₂)
 
 settling-value : outcome settlingCall g m ≡ record { flag = false; reports = []; sweeps = 2; removed = 18; masks = n }

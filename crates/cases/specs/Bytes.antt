@@ -25,6 +25,10 @@ p10Text =
     46 ∷ 46 ∷ 46 ∷ 46 ∷ 46 ∷ 46 ∷ 46 ∷ 46 ∷ 46 ∷
     46 ∷ 46 ∷ 46 ∷ 46 ∷ 46 ∷ 46 ∷ 46 ∷ 46 ∷ 46 ∷ []
 
+-- the three steps by which settling removes P10's 18 candidates: Pointing, the first box, digit 1, 2 or 3, row 0 (document 02, F-10)
+abbrev pub p10Steps : List ℕ
+p10Steps = 3 ∷ 18 ∷ 1 ∷ 0 ∷ 0 ∷ 0 ∷ 3 ∷ 18 ∷ 2 ∷ 0 ∷ 0 ∷ 0 ∷ 3 ∷ 18 ∷ 3 ∷ 0 ∷ 0 ∷ 0 ∷ []
+
 -- the text of 81 digits
 abbrev pub digitText : List ℤ → List ℕ
 digitText grid = map (λ z. natAbs z + 48) grid

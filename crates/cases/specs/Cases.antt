@@ -2,21 +2,23 @@
 use mathlib.Core.Path.{_≡_}
 use mathlib.Core.Logic.{_≢_}
 use mathlib.Core.Bool.{true, false}
-use mathlib.Core.List.{List, [], _∷_, map}
+use mathlib.Core.List.{List, [], _∷_, _++_, map}
 use Prim.Native.Nat.{ℕ, _≤_, _<_}
 use lib.IntN.{ℤ, pos, negsuc}
 use lib.ListN.{length, getD, replicate, set}
 use Rattle.stops.specs.Answer.{gives, stop}
 use Rattle.stops.specs.Stops.{rowOf}
-use Rattle.stops.specs.declared.Stop.the-variants.{TextLength, OtherByte, BadClue, BadDigit, NoCell, RecordEntry, NotFresh, BadEntry, ClueCell, AlreadyEntered, NotEntered, RecordEntries}
+use Rattle.stops.specs.declared.Stop.the-variants.{TextLength, OtherByte, BadClue, BadDigit, NoCell, RecordEntry, NotFresh, BadEntry, ClueCell, AlreadyEntered, NotEntered, RecordEntries, BadStep, TooManySteps}
 use Rattle.candidates.specs.Masks.{has}
 use Rattle.grid.specs.Cells.{cells}
 use Rattle.grid.specs.Fillings.{verified}
-use Rattle.steps.specs.Boards.{Board, at, givensOf, givens, noEntries, fresh, sameBoard}
+use Rattle.steps.specs.Boards.{Board, at, givensOf, givens, noEntries, withMasks, fresh, sameBoard}
 use Rattle.steps.specs.Calls.{Call, Outcome, nakedPairsCall, boxLineCall, xWingCall, nakedSinglesCall, hiddenSinglesCall, advancedCall, wide, settlingCall, chainCall, outcome, checkOf, opened, openedWith}
 use Rattle.steps.specs.Entries.{enter, rubOut, entryAnswer, step, entry, play}
+use Rattle.steps.specs.Instances.{pointing}
 use Rattle.steps.specs.Passes.{Kind, Claiming, removedBy}
 use Rattle.steps.specs.Singles.{Report}
+use Rattle.steps.specs.StepLists.{checkStepsOf, settlingSteps, bytesOf}
 use Rattle.symmetries.specs.Changes.{changedClues, turned}
 use Rattle.board.specs.Boards.{clueCount, handed, openOf, verdictOf}
 use Rattle.board.specs.declared.Verdict.the-variants.{Dead}
@@ -25,7 +27,7 @@ use Rattle.record.specs.declared.forms.Form.the-variants.{Old, New}
 use Rattle.record.specs.Moves.{movedOf}
 use Rattle.record.specs.Records.{bytesIn, recordOf, readOf}
 use Rattle.card.specs.Cards.{cardOf, printed}
-use Rattle.cases.specs.Bytes.{ended, p3Text, p10Text, digitText, p2Line, p3Line, p10Card, fullCard, finishedWord, deadWord}
+use Rattle.cases.specs.Bytes.{ended, p3Text, p10Text, p10Steps, digitText, p2Line, p3Line, p10Card, fullCard, finishedWord, deadWord}
 use Rattle.cases.specs.Grids.{gridA, p1, p4Low, p4High, p5, exchanged, p7, p8, p10, p11, claimed, clothed, twoOpen}
 
 -- the fresh masks of a grid
@@ -214,6 +216,21 @@ pub record CaseClothes : Type 0 where
   pub reports : onFresh nakedSinglesCall twoOpen .reports ≡ record { cell = 1; digit = 2 } ∷ record { cell = 9; digit = 4 } ∷ []
   pub turnedReports : onFresh nakedSinglesCall (changedClues turned twoOpen) .reports ≡ record { cell = 1; digit = 4 } ∷ record { cell = 9; digit = 2 } ∷ []
 
+-- Document 02, F-10.
+pub record CaseSteps : Type 0 where
+  -- P10's own list: in row 0 of the first box alone stand 1, 2 and 3, and Pointing takes each from six cells
+  pub own : settlingSteps (givensOf p10) (freshMasks p10) ≡ pointing 0 0 0 ∷ pointing 0 1 0 ∷ pointing 0 2 0 ∷ []
+  pub bytes : bytesOf (pointing 0 0 0 ∷ pointing 0 1 0 ∷ pointing 0 2 0 ∷ []) ≡ p10Steps
+  -- "that list is always accepted and gives the settled board"
+  pub accepted : checkStepsOf (opened p10) p10Steps ≡ gives (withMasks (opened p10) (onFresh settlingCall p10 .masks))
+  -- its last step twice, and "a shorter last piece"
+  pub twice : checkStepsOf (opened p10) (p10Steps ++ 3 ∷ 18 ∷ 3 ∷ 0 ∷ 0 ∷ 0 ∷ []) ≡ stop (BadStep (pos 3))
+  pub short : checkStepsOf (opened p10) (p10Steps ++ 3 ∷ 18 ∷ 3 ∷ []) ≡ stop (BadStep (pos 3))
+  -- "16, more than 729 steps, with their number": 729 steps and a byte
+  pub many : (bs : List ℕ) → length bs ≡ 4375 → checkStepsOf (opened p10) bs ≡ stop (TooManySteps (pos 730))
+  pub row15 : rowOf (BadStep (pos 3)) ≡ record { number = 15; detail = pos 3 }
+  pub row16 : rowOf (TooManySteps (pos 730)) ≡ record { number = 16; detail = pos 730 }
+
 -- The cases as a group.
 pub record Cases : Type 0 where
   pub one : Case1
@@ -233,3 +250,4 @@ pub record Cases : Type 0 where
   pub equal : CaseEqual
   pub records : CaseRecords
   pub clothes : CaseClothes
+  pub steps : CaseSteps

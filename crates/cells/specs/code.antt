@@ -2,3 +2,4 @@
 pub mod Places
 pub mod Unions
 pub mod Meets
+pub mod Notes

@@ -10,6 +10,7 @@ use candidates::masks;
 use grid::unit_cell;
 
 pub mod meets;
+pub mod notes;
 pub mod unions;
 
 pub fn is_open(givens: &[u8; 81], cell: usize) -> bool

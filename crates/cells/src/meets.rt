@@ -1,11 +1,21 @@
 // The units that meet a unit: the six lines of a box, three rows and then three columns, and the three boxes of a line. A digit that the unit holds in one of them alone is lost by that one's other cells.
 // A box is called `block` here, since `box` is a word of the language.
 ghost use mathlib.Core.Path.{_≡_};
-ghost use Rattle.cells.specs.code.Meets.{metPlaces, metBack, outside, boxUnit, lineUnit, metUnit, meetTurn, meetTurns};
+ghost use Rattle.cells.specs.code.Meets.{meetings, metPlaces, metBack, outside, boxUnit, lineUnit, metUnit, meetTurn};
 use crate::lose_places;
 use candidates::masks;
 
 const MET: [u16; 6] = [7, 56, 448, 73, 146, 292];
+
+// How many they are.
+pub fn meetings(unit: usize) -> usize
+    ensures { λ r. ⌜ r ≡ meetings unit ⌝ }
+{
+    if unit < 18 {
+        return 3;
+    }
+    6
+}
 
 // The places of a unit that are in the nth of them.
 pub fn met_places(nth: usize) -> u16
@@ -80,7 +90,7 @@ pub fn met_unit(unit: usize, nth: usize) -> usize
 }
 
 // `held` are the places of the unit that hold the digit: where all are in the nth of them, its open cells outside the unit lose the digit.
-fn lose_met(
+pub fn lose_met(
     givens: &[u8; 81],
     masks: &mut [u16; 81],
     unit: usize,
@@ -98,27 +108,5 @@ fn lose_met(
             outside(unit, nth),
             masks::digit_mask(digit),
         );
-    }
-}
-
-// The six lines of a box, one after the other.
-pub fn lose_lines(givens: &[u8; 81], masks: &mut [u16; 81], unit: usize, digit: usize, held: u16)
-    ensures { λ _. ⌜ now (masks .exit) ≡ meetTurns (now (givens .entry)) unit 6 digit held (now (masks .entry)) ⌝ }
-{
-    let mut nth: usize = 0;
-    while nth < 6 {
-        lose_met(givens, masks, unit, digit, held, nth);
-        nth += 1;
-    }
-}
-
-// The three boxes of a line. A loop of its own, so that the compiler knows how often it turns.
-pub fn lose_boxes(givens: &[u8; 81], masks: &mut [u16; 81], unit: usize, digit: usize, held: u16)
-    ensures { λ _. ⌜ now (masks .exit) ≡ meetTurns (now (givens .entry)) unit 3 digit held (now (masks .entry)) ⌝ }
-{
-    let mut nth: usize = 0;
-    while nth < 3 {
-        lose_met(givens, masks, unit, digit, held, nth);
-        nth += 1;
     }
 }

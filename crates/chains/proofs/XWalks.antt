@@ -2,7 +2,7 @@
 use mathlib.Core.Path.{_≡_, refl, sym, ap, ap₂, _∙_, subst}
 use mathlib.Core.Logic.{_⊎_, ⊎-elim}
 use mathlib.Core.Bool.{Bool, true, false, cond, _||_}
-use mathlib.Core.List.{List, [], _∷_, _++_, map, append-nil, append-assoc, List·Memᴰ, List·Memᴰ·head, List·Memᴰ·tail, List·Memᴰ·not-nil, List·Memᴰ·cases-cons, List·Memᴰ·eq-of-singleton}
+use mathlib.Core.List.{List, [], _∷_, _++_, map, append-nil, List·Memᴰ, List·Memᴰ·head, List·Memᴰ·tail, List·Memᴰ·not-nil, List·Memᴰ·cases-cons, List·Memᴰ·eq-of-singleton}
 use Prim.Native.Nat.{ℕ, zero, suc, _+_, _-_, _≤_, _<_}
 use native.Mathlib.Omega.{arith}
 use borrow.Author.Tests.{lt-ltb, le-leb, lt-leb, ltb-true, eq-eqb, ne-eqb}
@@ -19,7 +19,7 @@ use Rattle.steps.specs.Loops.{for, select, range, upTo}
 use Rattle.steps.specs.Ported.{holds}
 use Rattle.steps.specs.XChains.{endsFrom}
 use Rattle.steps.proofs.Links.{strong-link}
-use Rattle.steps.proofs.Loops.{for-in, for-same, in-upTo, upTo-in}
+use Rattle.steps.proofs.Loops.{for-in, for-same, in-upTo, upTo-in, for-append}
 use Rattle.steps.proofs.Spots.{holder-holds, holds-holder}
 use Rattle.chains.specs.code.Lists.{listed}
 use Rattle.chains.specs.code.Links.{others, weakIn, strongIn}
@@ -55,11 +55,6 @@ select-rises f k (x ∷ xs) r = go (f x) (select-rises f (suc x) xs (r .1))
 -- ---- lists that loops make
 
 module _ {A B : Type 0} where
-  for-append : (xs ys : List A) (f : A → List B) → for (xs ++ ys) f ≡ for xs f ++ for ys f
-  unfolding for
-  for-append [] ys f = refl
-  for-append (x ∷ xs) ys f = ap (λ (l : List B). f x ++ l) (for-append xs ys f) ∙ sym (append-assoc (f x) (for xs f) (for ys f))
-
   for-map : {C : Type 0} (h : C → A) (xs : List C) (f : A → List B) → for (map h xs) f ≡ for xs (λ x. f (h x))
   unfolding for
   for-map h [] f = refl

@@ -3,4 +3,5 @@ mod Cases
 mod Fitting
 mod Numbers
 mod Pencilled
+mod SettledParts
 mod StepNumbers

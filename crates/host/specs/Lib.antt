@@ -3,6 +3,8 @@ pub mod Sets
 pub mod Boards
 pub mod Entries
 pub mod Steps
+pub mod StepLists
+pub mod Settlings
 pub mod Texts
 pub mod Sheets
 pub mod Records

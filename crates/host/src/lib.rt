@@ -10,7 +10,9 @@ ghost use Rattle.host.specs.Entries.{pencilCode, pencilEntries, pencilMa
 ghost use Rattle.host.specs.Records.{moveCode, movedRecord, recordClues, recordCode, recordEntries, recordMasks, recordReadCode, writtenRecord};
 ghost use Rattle.host.specs.Rounds.{trialClues, trialCode};
 ghost use Rattle.host.specs.Sets.{setCall, nextCall};
+ghost use Rattle.host.specs.Settlings.{settleCode, settleMasks, settleSteps};
 ghost use Rattle.host.specs.Sheets.{sheetClues, sheetCode, sheetReadCode, writtenSheet};
+ghost use Rattle.host.specs.StepLists.{checkedCode, checkedMasks};
 ghost use Rattle.host.specs.Steps.{runCode, runMasks, stepCode, stepMasks, stepReports};
 ghost use Rattle.host.specs.Texts.{cardCode, textCode, writtenCard, writtenText};
 use board::Board;
@@ -20,6 +22,7 @@ mod arrays;
 mod codes;
 mod moves;
 mod sets;
+mod settlings;
 mod step_calls;
 
 // Which parameters the exports have: a caller made for another number must not call them.
@@ -27,7 +30,7 @@ mod step_calls;
 pub extern "C" fn sudoku_abi() -> u32
     ensures { λ r. ⌜ r ≡ abiNumber ⌝ }
 {
-    3
+    4
 }
 
 // Whether 81 numbers are a correct filling.
@@ -245,6 +248,43 @@ pub extern "C" fn sudoku_run(
     let board = done.board;
     *answer = step_calls::of_replaying(replaying, board);
     step_calls::put_run(replaying, board, masks);
+}
+
+// Settling, and the steps of it that removed something, six bytes each.
+#[no_mangle]
+pub extern "C" fn sudoku_settle(
+    clues: &[i32; 81],
+    entries: &[i32; 81],
+    masks: &mut [u16; 81],
+    steps: &mut [u8; 4374],
+    answer: &mut [i64; 4],
+)
+    ensures { λ _. ⌜ (now (answer .exit) ≡ settleCode (handed (now (clues .entry)) (now (entries .entry)) (now (masks .entry)))) × (now (masks .exit) ≡ settleMasks (handed (now (clues .entry)) (now (entries .entry)) (now (masks .entry)))) × (now (steps .exit) ≡ settleSteps (handed (now (clues .entry)) (now (entries .entry)) (now (masks .entry))) (now (steps .entry))) ⌝ }
+{
+    *masks = settlings::settle(*clues, *entries, *masks, steps, answer);
+}
+
+// A list of setters' steps, six bytes each, checked from the fresh board of clues and entries.
+#[no_mangle]
+pub extern "C" fn sudoku_check_steps(
+    steps: &[u8],
+    clues: &[i32; 81],
+    entries: &[i32; 81],
+    masks: &mut [u16; 81],
+    answer: &mut [i64; 4],
+)
+    ensures { λ _. ⌜ (now (answer .exit) ≡ checkedCode (handed (now (clues .entry)) (now (entries .entry)) (now (masks .entry))) (now (steps .entry))) × (now (masks .exit) ≡ checkedMasks (handed (now (clues .entry)) (now (entries .entry)) (now (masks .entry))) (now (steps .entry))) ⌝ }
+{
+    let board = Board {
+        clues: *clues,
+        entries: *entries,
+        masks: *masks,
+    };
+    let done = step_lists::check_steps(board, steps);
+    let check = done.answer;
+    let left = done.board.masks;
+    *answer = codes::of_check(check, 0, 0);
+    arrays::put_masks(check, &left, masks);
 }
 
 // The record of a board.

@@ -1,28 +1,31 @@
--- Pointing and Claiming: an instance by the places of the unit that hold its digit, which none of the unit's instances of that digit change. Assumes nothing.
-use mathlib.Core.Path.{_≡_, refl, sym, ap, _∙_}
+-- Pointing and Claiming: their instances by units, digits and those that meet the unit; an instance by the places of the unit that hold its digit, which none of the unit's instances of that digit change. Assumes nothing.
+use mathlib.Core.Path.{_≡_, refl, sym, ap, _∙_, subst}
 use mathlib.Core.Bool.{Bool, cond}
 use mathlib.Core.List.{List, [], _∷_}
-use Prim.Native.Nat.{ℕ, _+_, _<_}
+use Prim.Native.Nat.{ℕ, _+_, _-_, _≤_, _<_}
+use native.Mathlib.Decide.{decLt}
 use native.Mathlib.Omega.{arith}
-use lib.Dec.{eqb}
+use borrow.Author.Tests.{lt-ltb, le-ltb}
+use lib.Dec.{eqb, ltb}
 use Rattle.candidates.specs.Masks.{has, minus, single, placeMask}
 use Rattle.candidates.proofs.Tests.{by-test}
 use Rattle.grid.specs.Units.{unit, unitCell, inUnit}
-use Rattle.grid.proofs.Lists.{each-same}
+use Rattle.grid.proofs.Lists.{mem-range, each-same}
 use Rattle.grid.proofs.Units.{cell-in}
 use Rattle.steps.specs.Boards.{isOpen}
 use Rattle.steps.specs.Instances.{Instance, lineOf, boxOf, lockedStep, pointing, claiming, stepOf, pointings, claimings}
 use Rattle.steps.specs.Loops.{each, for, range, upTo}
 use Rattle.steps.specs.Passes.{Pointing, Claiming, instances, instanceTaken, pass}
+use Rattle.steps.specs.StepLists.{stepBytes}
 use Rattle.steps.specs.Steps.{Step, loseAll, stepTaken}
-use Rattle.steps.proofs.Loops.{in-upTo}
+use Rattle.steps.proofs.Loops.{in-upTo, each-for}
 use Rattle.steps.proofs.Turns.{each-alike, each-one, each-in}
 use Rattle.cells.specs.code.Places.{losePlaces, heldPlaces}
 use Rattle.cells.specs.code.Meets.{meetings, metPlaces, outside, metUnit, meetTurn, meetTurns}
 use Rattle.cells.proofs.Places.{all-kept}
 use Rattle.cells.proofs.HeldPlaces.{held-same, confined}
 use Rattle.cells.proofs.Meetings.{three-boxes, six-lines, met-box, met-line, on-met, met-lose}
-use Rattle.locked.specs.code.Locked.{lockedDigit, lockedUnit}
+use Rattle.locked.specs.code.Locked.{metInstance, digitInstances, unitInstances, lockedDigit, lockedUnit}
 
 -- ---- one unit and digit
 
@@ -37,7 +40,7 @@ module _ (g : List ℕ) (u d : ℕ) (h : u < 27) (l : d < 9) where
       ∙ ap (λ (x : List ℕ). cond (eqb (minus (heldPlaces m u d) (metPlaces k)) 0) x m) (sym (met-lose u k h n g d l m))
 
   -- what the unit holds of d stays
-  keeps : (held k : ℕ) (m : List ℕ) → k < meetings u → heldPlaces (meetTurn g u d held k m) u d ≡ heldPlaces m u d
+  pub keeps : (held k : ℕ) (m : List ℕ) → k < meetings u → heldPlaces (meetTurn g u d held k m) u d ≡ heldPlaces m u d
   unfolding meetTurn
   keeps held k m n =
       by-test (λ (x : List ℕ). heldPlaces x u d ≡ heldPlaces m u d) (eqb (minus held (metPlaces k)) 0) (losePlaces (isOpen g) (metUnit u k) (outside u k) (placeMask d) m) m
@@ -52,32 +55,72 @@ module _ (g : List ℕ) (u d : ℕ) (h : u < 27) (l : d < 9) where
       each-alike (λ k. stepTaken (isOpen g) (lockedStep u (metUnit u k) d)) (meetTurn g u d (heldPlaces m u d)) (λ (n : List ℕ). heldPlaces n u d ≡ heldPlaces m u d) (upTo (meetings u))
       (λ k i n e. (taken n k (in-upTo (meetings u) k i) ∙ ap (λ (x : ℕ). meetTurn g u d x k n) e, keeps (heldPlaces m u d) k n (in-upTo (meetings u) k i) ∙ e)) m refl .0
 
--- ---- the passes
+-- ---- the instances
+
+-- what holds of Claiming at a line and one of its boxes, and of Pointing at a box and one of its lines, holds of every instance
+by-kind : (P : ℕ → ℕ → Instance → Type 0) (d : ℕ) → ((l k : ℕ) → l < 18 → k < 3 → P l (boxOf l k) (claiming l d k)) → ((b k : ℕ) → b < 9 → k < 6 → P (18 + b) (lineOf b k) (pointing b d k))
+    → (u k : ℕ) → u < 27 → k < meetings u → P u (metUnit u k) (metInstance u d k)
+unfolding metInstance
+by-kind P d line block u k h n = go (decLt u 18)
+  where
+    go : Dec (u < 18) → P u (metUnit u k) (cond (ltb u 18) (claiming u d k) (pointing (u - 18) d k))
+    go (yes l) =
+        let j : k < 3 = omega (arith, three-boxes l, n) in
+        rw (lt-ltb u 18 l, met-box l j) (line u k l j)
+    go (no l) =
+        let b : 18 ≤ u = omega arith in
+        let j : k < 6 = omega (arith, six-lines b, n) in
+        let z : 18 + (u - 18) ≡ u = omega arith in
+        rw (le-ltb u 18 b)
+        (subst (λ (v : ℕ). P v (metUnit v k) (pointing (u - 18) d k)) z (subst (λ (v : ℕ). P (18 + (u - 18)) v (pointing (u - 18) d k)) (sym (met-line (omega arith) j)) (block (u - 18) k (omega arith) j)))
+
+instance-step : (u d k : ℕ) → u < 27 → k < meetings u → stepOf (metInstance u d k) ≡ lockedStep u (metUnit u k) d
+unfolding stepOf
+instance-step u d = by-kind (λ u v x. stepOf x ≡ lockedStep u v d) d (λ l k h n. refl) (λ b k h n. refl) u
+
+-- as it is noted
+pub instance-bytes : (u d k : ℕ) → u < 27 → k < meetings u → {kind v : ℕ} → kind ≡ cond (ltb u 18) 4 3 → v ≡ metUnit u k → kind ∷ u ∷ (d + 1) ∷ v ∷ 0 ∷ 0 ∷ [] ≡ stepBytes (metInstance u d k)
+unfolding stepBytes
+instance-bytes u d k h n p q =
+    rw (p, q)
+    (by-kind (λ u v x. cond (ltb u 18) 4 3 ∷ u ∷ (d + 1) ∷ v ∷ 0 ∷ 0 ∷ [] ≡ stepBytes x) d (λ l k h n. ap (λ (t : Bool). cond t 4 3 ∷ l ∷ (d + 1) ∷ boxOf l k ∷ 0 ∷ 0 ∷ []) (lt-ltb l 18 h))
+    (λ b k h n. ap (λ (t : Bool). cond t 4 3 ∷ (18 + b) ∷ (d + 1) ∷ lineOf b k ∷ 0 ∷ 0 ∷ []) (le-ltb (18 + b) 18 (omega arith))) u k h n)
+
+-- those of the boxes and of the lines
+pub pointings-are : for (range 9 18) unitInstances ≡ instances Pointing
+unfolding for unitInstances digitInstances metInstance meetings instances pointings
+pointings-are = refl
+
+pub claimings-are : for (upTo 18) unitInstances ≡ instances Claiming
+unfolding for unitInstances digitInstances metInstance meetings instances claimings
+claimings-are = refl
 
 module _ (g : List ℕ) where
-  -- a pass whose instances, over units n x, digits and those that meet the unit, are the unit's
-  by-units : (size count : ℕ) (n : ℕ → ℕ) (make : ℕ → ℕ → ℕ → Instance) → ((x : ℕ) → x < size → meetings (n x) ≡ count)
-      → ((x d k : ℕ) → x < size → k < count → stepOf (make x d k) ≡ lockedStep (n x) (metUnit (n x) k) d)
-      → (m : List ℕ) → each (instanceTaken g) (for (upTo size) λ x. for (upTo 9) λ d. for (upTo count) λ k. make x d k ∷ []) m ≡ each (λ x. lockedUnit g (n x)) (upTo size) m
-  unfolding lockedUnit lockedDigit
-  by-units size count n make many is m =
-      each-in (instanceTaken g) (upTo size) (λ x. for (upTo 9) λ d. for (upTo count) λ k. make x d k ∷ []) (λ x. each (λ d. each (λ k. instanceTaken g (make x d k)) (upTo count)) (upTo 9))
-      (λ x. each-in (instanceTaken g) (upTo 9) (λ d. for (upTo count) λ k. make x d k ∷ []) (λ d. each (λ k. instanceTaken g (make x d k)) (upTo count)) (λ d. each-one (instanceTaken g) (upTo count) (make x d))) m
-      ∙ each-same (λ x. each (λ d. each (λ k. instanceTaken g (make x d k)) (upTo count)) (upTo 9)) (λ x. lockedUnit g (n x)) (upTo size)
-      (λ x i s. each-same (λ d. each (λ k. instanceTaken g (make x d k)) (upTo count)) (lockedDigit g (n x)) (upTo 9) (λ d j t. digit x d (in-upTo size x i) t) s) m
-    where
-      digit : (x d : ℕ) → x < size → (t : List ℕ) → each (λ k. instanceTaken g (make x d k)) (upTo count) t ≡ lockedDigit g (n x) d t
-      digit x d h t =
-          each-same (λ k. instanceTaken g (make x d k)) (λ k. stepTaken (isOpen g) (lockedStep (n x) (metUnit (n x) k) d)) (upTo count)
-          (λ k i s. ap (λ (e : Step). stepTaken (isOpen g) e s) (is x d k h (in-upTo count k i))) t
-          ∙ ap (λ (c : ℕ). each (λ k. stepTaken (isOpen g) (lockedStep (n x) (metUnit (n x) k) d)) (upTo c) t) (sym (many x h))
+  pub instance-taken : (u d k : ℕ) → u < 27 → d < 9 → k < meetings u → (m : List ℕ) {held : ℕ} → held ≡ heldPlaces m u d → instanceTaken g (metInstance u d k) m ≡ meetTurn g u d held k m
+  instance-taken u d k h l n m is = rw is (ap (λ (s : Step). stepTaken (isOpen g) s m) (instance-step u d k h n) ∙ taken g u d h l m k n)
+
+  pub digit-each : (u d : ℕ) → u < 27 → (m : List ℕ) → each (instanceTaken g) (digitInstances u d) m ≡ lockedDigit g u d m
+  unfolding digitInstances lockedDigit
+  digit-each u d h m =
+      each-one (instanceTaken g) (upTo (meetings u)) (metInstance u d) m
+      ∙ each-same (λ k. instanceTaken g (metInstance u d k)) (λ k. stepTaken (isOpen g) (lockedStep u (metUnit u k) d)) (upTo (meetings u))
+      (λ k i s. ap (λ (e : Step). stepTaken (isOpen g) e s) (instance-step u d k h (in-upTo (meetings u) k i))) m
+
+  pub unit-each : (u : ℕ) → u < 27 → (m : List ℕ) → each (instanceTaken g) (unitInstances u) m ≡ lockedUnit g u m
+  unfolding unitInstances lockedUnit
+  unit-each u h = each-in (instanceTaken g) (upTo 9) (digitInstances u) (lockedDigit g u) (λ d. digit-each u d h)
+
+  -- ---- the passes
+
+  units-each : (n first : ℕ) → first + n ≤ 27 → (m : List ℕ) → each (instanceTaken g) (for (range n first) unitInstances) m ≡ each (lockedUnit g) (range n first) m
+  units-each n first most m =
+      each-for (instanceTaken g) (range n first) unitInstances m
+      ∙ each-same (λ u. each (instanceTaken g) (unitInstances u)) (lockedUnit g) (range n first) (λ u i. unit-each u (omega (arith, mem-range n first u i))) m
 
   pub pointing-pass : (m : List ℕ) → each (lockedUnit g) (range 9 18) m ≡ pass g Pointing m
-  unfolding pass instances pointings stepOf each
-  pointing-pass m =
-      sym (by-units 9 6 (λ b. 18 + b) pointing (λ b h. six-lines {u = 18 + b} (omega arith)) (λ b d k h n. ap (λ (v : ℕ). lockedStep (18 + b) v d) (sym (met-line h n))) m)
+  unfolding pass
+  pointing-pass m = sym (units-each 9 18 (omega arith) m) ∙ ap (λ (xs : List Instance). each (instanceTaken g) xs m) pointings-are
 
   pub claiming-pass : (m : List ℕ) → each (lockedUnit g) (upTo 18) m ≡ pass g Claiming m
-  unfolding pass instances claimings stepOf
-  claiming-pass m =
-      sym (by-units 18 3 (λ l. l) claiming (λ l h. three-boxes h) (λ l d k h n. ap (λ (v : ℕ). lockedStep l v d) (sym (met-box h n))) m)
+  unfolding pass
+  claiming-pass m = sym (units-each 18 0 (omega arith) m) ∙ ap (λ (xs : List Instance). each (instanceTaken g) xs m) claimings-are

@@ -1,44 +1,120 @@
 // Pointing and Claiming, two of the wide passes (module 8; document 02, F-5), over lent givens and masks. Nothing is asked of either: the contracts hold for any of them. Where the caller has the masks in lanes already, `pointing_lanes` and `claiming_lanes` use these and leave them laid.
 // Both are one step over a unit and those that meet it: Pointing a box and its six lines, Claiming a line and its three boxes.
 ghost use mathlib.Core.Path.{_≡_};
+ghost use mathlib.Core.List.{[], _∷_};
 ghost use Prim.Native.Nat.{_-_, _<_};
-ghost use Rattle.steps.specs.Loops.{each, range};
-ghost use Rattle.steps.specs.Passes.{pass, Pointing, Claiming};
+ghost use Rattle.steps.specs.Loops.{each, for, range};
+ghost use Rattle.steps.specs.Passes.{pass, instances, Pointing, Claiming};
+ghost use Rattle.steps.specs.StepLists.{stepBytes};
+ghost use Rattle.steps.specs.code.Logs.{noted, logAfter};
+ghost use Rattle.cells.specs.code.Meets.{meetings, meetTurn};
+ghost use Rattle.cells.specs.code.Places.{heldPlaces};
 ghost use Rattle.lanes.specs.code.Lanes.{InLanes, laid};
-ghost use Rattle.locked.specs.code.Locked.{lockedDigit, lockedUnit, DigitSkips, BoxesOrLines};
+ghost use Rattle.locked.specs.code.Locked.{hasLoss, metInstance, digitInstances, unitInstances, lockedDigit, lockedUnit, DigitSkips, BoxesOrLines};
 
 mod rests;
 
 use candidates::masks;
 use cells::held_places;
-use cells::meets::lose_boxes;
-use cells::meets::lose_lines;
+use cells::meets::lose_met;
+use cells::meets::meetings;
+use cells::meets::met_places;
+use cells::meets::met_unit;
+use cells::meets::outside;
+use cells::notes::note;
+use cells::unions::join_places;
+use cells::unit_masks;
 use lanes::doors;
 use lanes::lanes_of;
 use lanes::lay;
 
+// Whether the nth of the units that meet this one has anything to lose: this one holds the digit in it alone, and an open cell of it holds the digit outside this one.
+fn has_loss(
+    givens: &[u8; 81],
+    masks: &[u16; 81],
+    unit: usize,
+    digit: usize,
+    held: u16,
+    nth: usize,
+) -> bool
+    ensures { λ r. ⌜ r ≡ hasLoss (now (givens .entry)) unit digit held nth (now (masks .entry)) ⌝ }
+{
+    if masks::is_none(masks::lose(held, met_places(nth))) {
+        let nine = unit_masks(givens, masks, met_unit(unit, nth));
+        return masks::has_digit(join_places(&nine, outside(unit, nth)), digit);
+    }
+    false
+}
+
+// Claiming is noted of a line, Pointing of a box.
+fn note_met(log: &mut [u8; 4376], unit: usize, digit: usize, nth: usize)
+    requires { ⌜ (unit < 27) × (digit < 9) × (nth < meetings unit) ⌝ }
+    ensures { λ _. ⌜ now (log .exit) ≡ noted (stepBytes (metInstance unit digit nth)) (now (log .entry)) ⌝ }
+{
+    if unit < 18 {
+        note(log, 4, unit, digit + 1, met_unit(unit, nth), 0, 0);
+    } else {
+        note(log, 3, unit, digit + 1, met_unit(unit, nth), 0, 0);
+    }
+}
+
+// One instance. `held` are the places of the unit that hold the digit.
+fn locked_at(
+    givens: &[u8; 81],
+    masks: &mut [u16; 81],
+    log: &mut [u8; 4376],
+    unit: usize,
+    digit: usize,
+    held: u16,
+    nth: usize,
+)
+    requires { ⌜ (unit < 27) × (digit < 9) × (nth < meetings unit) × (held ≡ heldPlaces (now masks) unit digit) ⌝ }
+    ensures { λ _. ⌜ now (masks .exit) ≡ meetTurn (now (givens .entry)) unit digit held nth (now (masks .entry)) ⌝ }
+    ensures { λ _. ⌜ now (log .exit) ≡ logAfter (now (givens .entry)) (metInstance unit digit nth ∷ []) (now (masks .entry)) (now (log .entry)) ⌝ }
+{
+    if has_loss(givens, masks, unit, digit, held, nth) {
+        lose_met(givens, masks, unit, digit, held, nth);
+        note_met(log, unit, digit, nth);
+    }
+}
+
 // The instances of a digit. None of them changes which places of the unit hold it.
-fn locked_digit(givens: &[u8; 81], masks: &mut [u16; 81], unit: usize, digit: usize)
+fn locked_digit(
+    givens: &[u8; 81],
+    masks: &mut [u16; 81],
+    log: &mut [u8; 4376],
+    unit: usize,
+    digit: usize,
+)
     requires { ⌜ (unit < 27) × (digit < 9) ⌝ }
     ensures { λ _. ⌜ now (masks .exit) ≡ lockedDigit (now (givens .entry)) unit digit (now (masks .entry)) ⌝ }
+    ensures { λ _. ⌜ now (log .exit) ≡ logAfter (now (givens .entry)) (digitInstances unit digit) (now (masks .entry)) (now (log .entry)) ⌝ }
 {
     let held = held_places(masks, unit, digit);
-    if unit < 18 {
-        lose_boxes(givens, masks, unit, digit, held);
-    } else {
-        lose_lines(givens, masks, unit, digit, held);
+    let count = meetings(unit);
+    let mut nth: usize = 0;
+    while nth < count {
+        locked_at(givens, masks, log, unit, digit, held, nth);
+        nth += 1;
     }
 }
 
 // The due instances of a unit. Which digits are due is asked once, since the instances of a digit change no other.
-fn locked_unit(givens: &[u8; 81], masks: &mut [u16; 81], unit: usize, due: u16)
+fn locked_unit(
+    givens: &[u8; 81],
+    masks: &mut [u16; 81],
+    log: &mut [u8; 4376],
+    unit: usize,
+    due: u16,
+)
     requires { ⌜ (unit < 27) × DigitSkips (now givens) (now masks) unit due ⌝ }
     ensures { λ _. ⌜ now (masks .exit) ≡ lockedUnit (now (givens .entry)) unit (now (masks .entry)) ⌝ }
+    ensures { λ _. ⌜ now (log .exit) ≡ logAfter (now (givens .entry)) (unitInstances unit) (now (masks .entry)) (now (log .entry)) ⌝ }
 {
     let mut digit: usize = 0;
     while digit < 9 {
         if masks::has_digit(due, digit) {
-            locked_digit(givens, masks, unit, digit);
+            locked_digit(givens, masks, log, unit, digit);
         }
         digit += 1;
     }
@@ -48,6 +124,7 @@ fn locked_unit(givens: &[u8; 81], masks: &mut [u16; 81], unit: usize, due: u16)
 fn locked_lanes(
     givens: &[u8; 81],
     masks: &mut [u16; 81],
+    log: &mut [u8; 4376],
     doors: &[u16; 432],
     lanes: &mut [u16; 432],
     first: usize,
@@ -57,6 +134,7 @@ fn locked_lanes(
     requires { ⌜ InLanes (now givens) (now masks) (now doors) (now lanes) × BoxesOrLines first end boxes ⌝ }
     ensures { λ _. ⌜ now (masks .exit) ≡ each (lockedUnit (now (givens .entry))) (range (end - first) first) (now (masks .entry)) ⌝ }
     ensures { λ _. ⌜ now (lanes .exit) ≡ laid (now (masks .exit)) ⌝ }
+    ensures { λ _. ⌜ now (log .exit) ≡ logAfter (now (givens .entry)) (for (range (end - first) first) unitInstances) (now (masks .entry)) (now (log .entry)) ⌝ }
 {
     let mut rests = [0u16; 288];
     rests::put_rests(lanes, doors, &mut rests, boxes);
@@ -64,7 +142,7 @@ fn locked_lanes(
     while unit < end {
         let due = rests::due_digits(&rests, unit);
         if due != 0 {
-            locked_unit(givens, masks, unit, due);
+            locked_unit(givens, masks, log, unit, due);
             lay(masks, lanes);
             rests::put_rests(lanes, doors, &mut rests, boxes);
         }
@@ -76,44 +154,50 @@ fn locked_lanes(
 pub fn pointing_lanes(
     givens: &[u8; 81],
     masks: &mut [u16; 81],
+    log: &mut [u8; 4376],
     doors: &[u16; 432],
     lanes: &mut [u16; 432],
 )
     requires { ⌜ InLanes (now givens) (now masks) (now doors) (now lanes) ⌝ }
     ensures { λ _. ⌜ now (masks .exit) ≡ pass (now (givens .entry)) Pointing (now (masks .entry)) ⌝ }
     ensures { λ _. ⌜ now (lanes .exit) ≡ laid (now (masks .exit)) ⌝ }
+    ensures { λ _. ⌜ now (log .exit) ≡ logAfter (now (givens .entry)) (instances Pointing) (now (masks .entry)) (now (log .entry)) ⌝ }
 {
-    locked_lanes(givens, masks, doors, lanes, 18, 27, true);
+    locked_lanes(givens, masks, log, doors, lanes, 18, 27, true);
 }
 
 // Claiming, likewise.
 pub fn claiming_lanes(
     givens: &[u8; 81],
     masks: &mut [u16; 81],
+    log: &mut [u8; 4376],
     doors: &[u16; 432],
     lanes: &mut [u16; 432],
 )
     requires { ⌜ InLanes (now givens) (now masks) (now doors) (now lanes) ⌝ }
     ensures { λ _. ⌜ now (masks .exit) ≡ pass (now (givens .entry)) Claiming (now (masks .entry)) ⌝ }
     ensures { λ _. ⌜ now (lanes .exit) ≡ laid (now (masks .exit)) ⌝ }
+    ensures { λ _. ⌜ now (log .exit) ≡ logAfter (now (givens .entry)) (instances Claiming) (now (masks .entry)) (now (log .entry)) ⌝ }
 {
-    locked_lanes(givens, masks, doors, lanes, 0, 18, false);
+    locked_lanes(givens, masks, log, doors, lanes, 0, 18, false);
 }
 
 // Pointing: all cells of a box that hold d are on one line: the line's cells outside the box lose d.
 pub fn pointing(givens: &[u8; 81], masks: &mut [u16; 81])
     ensures { λ _. ⌜ now (masks .exit) ≡ pass (now (givens .entry)) Pointing (now (masks .entry)) ⌝ }
 {
+    let mut log = [0u8; 4376];
     let doors = lanes_of(&doors(givens));
     let mut lanes = lanes_of(masks);
-    pointing_lanes(givens, masks, &doors, &mut lanes);
+    pointing_lanes(givens, masks, &mut log, &doors, &mut lanes);
 }
 
 // Claiming: all cells of a row or column that hold d are in one box: the other cells of that box lose d.
 pub fn claiming(givens: &[u8; 81], masks: &mut [u16; 81])
     ensures { λ _. ⌜ now (masks .exit) ≡ pass (now (givens .entry)) Claiming (now (masks .entry)) ⌝ }
 {
+    let mut log = [0u8; 4376];
     let doors = lanes_of(&doors(givens));
     let mut lanes = lanes_of(masks);
-    claiming_lanes(givens, masks, &doors, &mut lanes);
+    claiming_lanes(givens, masks, &mut log, &doors, &mut lanes);
 }

@@ -2,7 +2,6 @@
 // Where a line and a box meet, a digit that the rest of one holds and the rest of the other does not is due: what the one holds of it outside the other is lost.
 // The nth rest of lane l stands at 48 n + l. Of the units that may lose, open cells count alone.
 ghost use mathlib.Core.Path.{_≡_};
-ghost use mathlib.Core.Bool.{not};
 ghost use Prim.Native.Nat.{_+_, _*_, _<_};
 ghost use Rattle.locked.specs.code.Rests.{looseMasks, nineOf, putRest, putLane, putLanes, putRests, dueThree, rowDue, colDue, boxDue, unitDue};
 use candidates::masks;

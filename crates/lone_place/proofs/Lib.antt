@@ -1,3 +1,5 @@
+pub mod Gone
+pub mod Blocks
 pub mod Taking
 pub mod Peers
 pub mod PlaceTurns

@@ -1,4 +1,4 @@
--- The peers of a cell are the other cells of its row, its column and its box: where these lose digits and the cell gets back what it held, the peers have lost them. Assumes nothing.
+-- The peers of a cell are the other cells of its row, its column and its box: where these lose digits while the cell holds nothing, and it gets back what it held, the peers have lost them. Assumes nothing.
 use mathlib.Core.Path.{_≡_, sym, ap, _∙_, subst}
 use mathlib.Core.Logic.{_≢_, _↔_, ⊎-elim}
 use mathlib.Core.Bool.{true, true≢false}
@@ -6,6 +6,7 @@ use mathlib.Core.List.{List, _++_, List·Memᴰ, List·Memᴰ·append-cases, Mem
 use Prim.Native.Nat.{ℕ, _+_, _≤_, _<_}
 use native.Mathlib.Decide.{ℕ-discrete, decLt}
 use native.Mathlib.Omega.{arith}
+use lib.Dec.{eqb}
 use lib.ListN.{length, set, length-set, List·getD-eq-default}
 use lib.Seq.{getD-set-same, getD-set-other, set-out}
 use Rattle.candidates.specs.Masks.{has, union, Sub}
@@ -16,16 +17,17 @@ use Rattle.grid.specs.Cells.{row, col, box, peers}
 use Rattle.grid.specs.Units.{unit, inUnit}
 use Rattle.grid.proofs.Cells.{row-below, col-below, box-below, row-in, col-in, box-in, share-sees, sees-irrefl, sees-shared, peer-sees, sees-peer}
 use Rattle.grid.proofs.Units.{kind, by-unit, member-below, member-in, member-mem, mem-member}
-use Rattle.steps.specs.Boards.{at, isOpen}
+use Rattle.steps.specs.Boards.{at, isOpen, Under, sameMasks}
 use Rattle.steps.specs.Published.{Candidate, Without}
 use Rattle.steps.specs.Steps.{loseAt, loseAll}
 use Rattle.steps.proofs.Loops.{each-append}
 use Rattle.steps.proofs.Losses.{Lost, lost-digits, without-same}
-use Rattle.steps.proofs.Steps.{all-length}
+use Rattle.steps.proofs.Steps.{all-under, all-length}
 use Rattle.cells.specs.code.Places.{losePlaces}
 use Rattle.cells.proofs.Places.{places-lose}
 use Rattle.lone_place.specs.code.Turns.{peersLose}
 use Rattle.lone_place.specs.code.Due.{around}
+use Rattle.lone_place.proofs.Gone.{Went, went-on, went-apart}
 
 pub not-own : (c : ℕ) → List·Memᴰ c (peers c) → ⊥
 not-own c k = true≢false (sym (peer-sees c c k .1) ∙ sees-irrefl c)
@@ -77,11 +79,11 @@ module _ (g : List ℕ) (c k : ℕ) (h : c < 81) (m : List ℕ) where
       (λ r. Memᴰ·append-right (unit (row c)) (Memᴰ·append-right (unit (9 + col c)) r)) (q .shared) (kind (q .shared) (q .within)) (member-in (q .within) (q .first)) (member-mem (q .within) (q .second))
 
   lost : List ℕ
-  lost = loseAll (isOpen g) three (λ _. k) m
+  lost = loseAll (isOpen g) three (λ _. k) (set m c 0)
 
   same-size : length lost ≡ length m
   unfolding lost
-  same-size = all-length (isOpen g) three (λ _. k) m
+  same-size = all-length (isOpen g) three (λ _. k) (set m c 0) ∙ length-set m c 0
 
   back : Without m (Lost (isOpen g) (λ _. k) (peers c)) (set lost c (at m c))
   back = record { size = length-set lost c (at m c) ∙ same-size; left = λ e d. go e d (ℕ-discrete e c) }
@@ -97,33 +99,48 @@ module _ (g : List ℕ) (c k : ℕ) (h : c < 81) (m : List ℕ) where
       go e d (no n) =
           by-mask e d (getD-set-other lost c e (at m c) 0 n)
           (unfold lost in
-          let w = lost-digits (isOpen g) (λ _. k) three m e d in (
-            λ t. (w .0 t .0, λ l. w .0 t .1 (record { listed = peer-listed e (l .listed); free = l .free; digit = l .digit })),
-            λ v. w .1 (v .0, λ l. v .1 (record { listed = listed-peer e n (l .listed); free = l .free; digit = l .digit })),
+          let w = lost-digits (isOpen g) (λ _. k) three (set m c 0) e d in
+          let other = ap (λ (x : ℕ). has x d) (getD-set-other m c e 0 0 n) in (
+            λ t. (sym other ∙ w .0 t .0, λ l. w .0 t .1 (record { listed = peer-listed e (l .listed); free = l .free; digit = l .digit })),
+            λ v. w .1 (other ∙ v .0, λ l. v .1 (record { listed = listed-peer e n (l .listed); free = l .free; digit = l .digit })),
           ))
 
   whole : (u : ℕ) → u < 27 → (n : List ℕ) → losePlaces (isOpen g) u 511 k n ≡ loseAll (isOpen g) (unit u) (λ _. k) n
   whole u l n = places-lose (isOpen g) u l 511 k (λ _. k) (λ i o. sym (cond-true (has 511 i) k 0 (held-all i o))) n
 
-  as-one : losePlaces (isOpen g) (18 + box c) 511 k (losePlaces (isOpen g) (9 + col c) 511 k (losePlaces (isOpen g) (row c) 511 k m)) ≡ lost
-  unfolding lost three
-  as-one =
-      whole (18 + box c) (omega (arith, box-below c h)) (losePlaces (isOpen g) (9 + col c) 511 k (losePlaces (isOpen g) (row c) 511 k m))
-      ∙ ap (loseAll (isOpen g) (unit (18 + box c)) (λ _. k))
-      (whole (9 + col c) (omega (arith, col-below c)) (losePlaces (isOpen g) (row c) 511 k m) ∙ ap (loseAll (isOpen g) (unit (9 + col c)) (λ _. k)) (whole (row c) (omega (arith, row-below c h)) m))
-      ∙ sym (each-append one (unit (9 + col c)) (unit (18 + box c)) (loseAll (isOpen g) (unit (row c)) (λ _. k) m)) ∙ sym (each-append one (unit (row c)) (unit (9 + col c) ++ unit (18 + box c)) m)
-    where
-      one : ℕ → List ℕ → List ℕ
-      one e n = loseAt (isOpen g) e k n
-
   -- as code goes about it
-  pub units-lose : {r p b : ℕ} {first second third : List ℕ} → r ≡ row c → p ≡ col c → b ≡ box c
-      → first ≡ losePlaces (isOpen g) r 511 k m → second ≡ losePlaces (isOpen g) (9 + p) 511 k first → third ≡ losePlaces (isOpen g) (18 + b) 511 k second
-      → set third c (at m c) ≡ peersLose g c k m
-  unfolding peersLose
-  units-lose {r} {p} {b} {first} {second} {third} er ep eb e₁ e₂ e₃ =
-      ap (λ (n : List ℕ). set n c (at m c)) (steps ∙ as-one)
-      ∙ without-same back (record { size = all-length (isOpen g) (peers c) (λ _. k) m; left = lost-digits (isOpen g) (λ _. k) (peers c) m })
-    where
-      steps : third ≡ losePlaces (isOpen g) (18 + box c) 511 k (losePlaces (isOpen g) (9 + col c) 511 k (losePlaces (isOpen g) (row c) 511 k m))
-      steps = rw (e₃, e₂, e₁, er, ep, eb)
+  module _ {r p b : ℕ} {first second third : List ℕ} (er : r ≡ row c) (ep : p ≡ col c) (eb : b ≡ box c)
+      (e₁ : first ≡ losePlaces (isOpen g) r 511 k (set m c 0)) (e₂ : second ≡ losePlaces (isOpen g) (9 + p) 511 k first) (e₃ : third ≡ losePlaces (isOpen g) (18 + b) 511 k second) where
+    in-row : r < 27
+    in-row = omega (arith, row-below c h)
+
+    in-col : 9 + p < 27
+    in-col = omega (arith, col-below c)
+
+    in-box : 18 + b < 27
+    in-box = omega (arith, box-below c h)
+
+    as-one : third ≡ lost
+    unfolding lost three
+    as-one =
+        e₃ ∙ whole (18 + b) in-box second ∙ ap (loseAll (isOpen g) (unit (18 + b)) (λ _. k)) (e₂ ∙ whole (9 + p) in-col first ∙ ap (loseAll (isOpen g) (unit (9 + p)) (λ _. k)) (e₁ ∙ whole r in-row (set m c 0)))
+        ∙ rw (er, ep, eb)
+        (sym (each-append one (unit (9 + col c)) (unit (18 + box c)) (loseAll (isOpen g) (unit (row c)) (λ _. k) (set m c 0))) ∙ sym (each-append one (unit (row c)) (unit (9 + col c) ++ unit (18 + box c)) (set m c 0)))
+      where
+        one : ℕ → List ℕ → List ℕ
+        one e n = loseAt (isOpen g) e k n
+
+    pub units-lose : set third c (at m c) ≡ peersLose g c k m
+    unfolding peersLose
+    units-lose =
+        ap (λ (n : List ℕ). set n c (at m c)) as-one
+        ∙ without-same back (record { size = all-length (isOpen g) (peers c) (λ _. k) m; left = lost-digits (isOpen g) (λ _. k) (peers c) m })
+
+    -- what the three tell
+    pub units-tell : (x y z : ℕ) → eqb x 0 ≡ sameMasks (set m c 0) first → eqb y 0 ≡ sameMasks first second → eqb z 0 ≡ sameMasks second third → eqb (union (union x y) z) 0 ≡ sameMasks m (set third c (at m c))
+    units-tell x y z t₁ t₂ t₃ = went-apart m c (went-on (went-on (went r in-row x e₁ t₁) (went (9 + p) in-col y e₂ t₂)) (went (18 + b) in-box z e₃ t₃))
+      where
+        went : (u : ℕ) → u < 27 → (x : ℕ) {n o : List ℕ} → o ≡ losePlaces (isOpen g) u 511 k n → eqb x 0 ≡ sameMasks n o → Went x n o
+        went u l x {n} {o} e t =
+            let q = e ∙ whole u l n in
+            record { under = subst (λ (v : List ℕ). Under v n) (sym q) (all-under (isOpen g) (unit u) (λ _. k) n); size = ap length q ∙ all-length (isOpen g) (unit u) (λ _. k) n; told = t }

@@ -34,13 +34,13 @@ spares-digit : (d : ℕ) → d < 9 → has (minus 511 (single d)) d ≡ false
 spares-digit d h = has-except (single d) d h ∙ ap not (has-power d d ∙ eq-eqb d d refl)
 
 module _ (g : List ℕ) (u d : ℕ) (h : u < 27) (l : d < 9) where
-  taken : (m : List ℕ) (i : ℕ) → i < 9 → instanceTaken g (place u d i) m ≡ placeTurn g u d (heldPlaces m u d) i m
+  pub taken : (m : List ℕ) (i : ℕ) → i < 9 → instanceTaken g (place u d i) m ≡ placeTurn g u d (heldPlaces m u d) i m
   unfolding stepOf stepTaken placeTurn each
   taken m i n =
       ap (λ (t : Bool). cond t (loseAt (isOpen g) (unitCell u i) (minus 511 (single d)) m) m)
       (confined m u d (λ e. eqb e (unitCell u i)) (single i) h (λ j k. has-place u h i j n k))
 
-  keeps : (held i : ℕ) (m : List ℕ) → heldPlaces (placeTurn g u d held i m) u d ≡ heldPlaces m u d
+  pub keeps : (held i : ℕ) (m : List ℕ) → heldPlaces (placeTurn g u d held i m) u d ≡ heldPlaces m u d
   unfolding placeTurn each
   keeps held i m =
       by-test (λ (n : List ℕ). heldPlaces n u d ≡ heldPlaces m u d) (eqb (minus held (single i)) 0) (loseAt (isOpen g) (unitCell u i) (minus 511 (single d)) m) m

@@ -3,6 +3,7 @@ ghost use mathlib.Core.Path.{_≡_};
 ghost use Rattle.steps.specs.Passes.{pass, Lone, Place};
 
 pub mod lones;
+pub mod losses;
 pub mod places;
 
 use lanes::doors;
@@ -14,7 +15,8 @@ pub fn lone(givens: &[u8; 81], masks: &mut [u16; 81])
 {
     let doors = lanes_of(&doors(givens));
     let mut lanes = lanes_of(masks);
-    lones::lone_lanes(givens, masks, &doors, &mut lanes);
+    let mut log = [0u8; 4376];
+    lones::lone_lanes(givens, masks, &mut log, &doors, &mut lanes);
 }
 
 // Place: no other cell of a unit holds d: the cell loses all but d.
@@ -23,5 +25,6 @@ pub fn place(givens: &[u8; 81], masks: &mut [u16; 81])
 {
     let doors = lanes_of(&doors(givens));
     let mut lanes = lanes_of(masks);
-    places::place_lanes(givens, masks, &doors, &mut lanes);
+    let mut log = [0u8; 4376];
+    places::place_lanes(givens, masks, &mut log, &doors, &mut lanes);
 }

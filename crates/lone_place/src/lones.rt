@@ -1,59 +1,45 @@
 // Lone, by rows, cells and instances. What two cells of a unit hold is found for all lanes at once; a row is passed over where by that no cell of it can take anything from a peer.
 ghost use mathlib.Core.Path.{_≡_};
+ghost use mathlib.Core.List.{[], _∷_};
 ghost use Prim.Native.Nat.{_<_};
-ghost use Rattle.steps.specs.Boards.{isOpen};
 ghost use Rattle.steps.specs.Instances.{lone};
-ghost use Rattle.steps.specs.Passes.{instanceTaken, pass, Lone};
-ghost use Rattle.cells.specs.code.Places.{losePlaces};
+ghost use Rattle.steps.specs.Passes.{instances, instanceTaken, pass, Lone};
+ghost use Rattle.steps.specs.code.Logs.{logAfter};
 ghost use Rattle.lanes.specs.code.Lanes.{InLanes, laid};
-ghost use Rattle.lone_place.specs.code.Turns.{peersLose, loneCell, loneRow};
+ghost use Rattle.lone_place.specs.code.Turns.{loneCell, loneRow, cellLones, rowLones};
 ghost use Rattle.lone_place.specs.code.Due.{looseIn, looseNear, loneHeld, sharedLanes, nearRow, loneDue, dueFlag, dueRow, Near, NearRow, Covers, Kept};
+use crate::losses::lose_peers;
 use candidates::masks;
-use cells::lose_at;
 use cells::mask_at;
+use cells::notes::note;
 use cells::unions::join_all;
 use cells::unions::shared;
 use cells::unit_masks;
 use grid::box_of;
 use grid::col_of;
 use grid::row_of;
-use grid::unit_cell;
 use lanes::join_sets;
 use lanes::lane_masks;
 use lanes::lay;
 use lanes::loose;
 
-// The open cells of the unit lose the digits of `lost`.
-fn lose_unit(givens: &[u8; 81], masks: &mut [u16; 81], unit: usize, lost: u16)
-    ensures { λ _. ⌜ now (masks .exit) ≡ losePlaces (isOpen (now (givens .entry))) unit 511 lost (now (masks .entry)) ⌝ }
-{
-    let mut place: usize = 0;
-    while place < 9 {
-        lose_at(givens, masks, unit_cell(unit, place), lost);
-        place += 1;
-    }
-}
-
-// The open peers of the cell lose them: its row, its column and its box do, and the cell gets back what it held.
-fn lose_peers(givens: &[u8; 81], masks: &mut [u16; 81], cell: usize, lost: u16)
-    requires { ⌜ cell < 81 ⌝ }
-    ensures { λ _. ⌜ now (masks .exit) ≡ peersLose (now (givens .entry)) cell lost (now (masks .entry)) ⌝ }
-{
-    let own = masks[cell];
-    lose_unit(givens, masks, row_of(cell), lost);
-    lose_unit(givens, masks, 9 + col_of(cell), lost);
-    lose_unit(givens, masks, 18 + box_of(cell), lost);
-    masks[cell] = own;
-}
-
 // One instance.
-fn lone_at(givens: &[u8; 81], masks: &mut [u16; 81], cell: usize, digit: usize)
+fn lone_at(
+    givens: &[u8; 81],
+    masks: &mut [u16; 81],
+    log: &mut [u8; 4376],
+    cell: usize,
+    digit: usize,
+)
     requires { ⌜ (cell < 81) × (digit < 9) ⌝ }
     ensures { λ _. ⌜ now (masks .exit) ≡ instanceTaken (now (givens .entry)) (lone cell digit) (now (masks .entry)) ⌝ }
+    ensures { λ _. ⌜ now (log .exit) ≡ logAfter (now (givens .entry)) (lone cell digit ∷ []) (now (masks .entry)) (now (log .entry)) ⌝ }
 {
     let one = masks::digit_mask(digit);
     if masks::is_none(masks::meet(mask_at(masks, cell), masks::lose(511, one))) {
-        lose_peers(givens, masks, cell, one);
+        if lose_peers(givens, masks, cell, one) != 0 {
+            note(log, 0, cell, digit + 1, 0, 0, 0);
+        }
     }
 }
 
@@ -89,15 +75,16 @@ fn lone_held(givens: &[u8; 81], masks: &[u16; 81], cell: usize) -> u16
 }
 
 // The instances of a cell, without those that lose nothing.
-fn lone_digits(givens: &[u8; 81], masks: &mut [u16; 81], cell: usize)
+fn lone_digits(givens: &[u8; 81], masks: &mut [u16; 81], log: &mut [u8; 4376], cell: usize)
     requires { ⌜ cell < 81 ⌝ }
     ensures { λ _. ⌜ now (masks .exit) ≡ loneCell (now (givens .entry)) cell (now (masks .entry)) ⌝ }
+    ensures { λ _. ⌜ now (log .exit) ≡ logAfter (now (givens .entry)) (cellLones cell) (now (masks .entry)) (now (log .entry)) ⌝ }
 {
     let held = lone_held(givens, masks, cell);
     let mut digit: usize = 0;
     while digit < 9 {
         if masks::has_digit(held, digit) {
-            lone_at(givens, masks, cell, digit);
+            lone_at(givens, masks, log, cell, digit);
         }
         digit += 1;
     }
@@ -111,22 +98,30 @@ fn lone_due(mask: u16, near: u16) -> bool
 }
 
 // The instances of a cell, where every digit that it shares with a peer is among `near`.
-fn lone_cell(givens: &[u8; 81], masks: &mut [u16; 81], near: u16, cell: usize)
+fn lone_cell(givens: &[u8; 81], masks: &mut [u16; 81], log: &mut [u8; 4376], near: u16, cell: usize)
     requires { ⌜ (cell < 81) × Near (now masks) cell near ⌝ }
     ensures { λ _. ⌜ now (masks .exit) ≡ loneCell (now (givens .entry)) cell (now (masks .entry)) ⌝ }
+    ensures { λ _. ⌜ now (log .exit) ≡ logAfter (now (givens .entry)) (cellLones cell) (now (masks .entry)) (now (log .entry)) ⌝ }
 {
     if lone_due(masks::meet(masks[cell], 511), near) {
-        lone_digits(givens, masks, cell);
+        lone_digits(givens, masks, log, cell);
     }
 }
 
-fn lone_row(givens: &[u8; 81], masks: &mut [u16; 81], near: &[u16; 16], row: usize)
+fn lone_row(
+    givens: &[u8; 81],
+    masks: &mut [u16; 81],
+    log: &mut [u8; 4376],
+    near: &[u16; 16],
+    row: usize,
+)
     requires { ⌜ (row < 9) × NearRow (now masks) row (now near) ⌝ }
     ensures { λ _. ⌜ now (masks .exit) ≡ loneRow (now (givens .entry)) row (now (masks .entry)) ⌝ }
+    ensures { λ _. ⌜ now (log .exit) ≡ logAfter (now (givens .entry)) (rowLones row) (now (masks .entry)) (now (log .entry)) ⌝ }
 {
     let mut nth: usize = 0;
     while nth < 9 {
-        lone_cell(givens, masks, near[nth], 9 * row + nth);
+        lone_cell(givens, masks, log, near[nth], 9 * row + nth);
         nth += 1;
     }
 }
@@ -185,17 +180,23 @@ fn near_row(sets: &[u16; 48], row: usize) -> [u16; 16]
 }
 
 // The rows in which a cell is due; whether there are any. The sets may be of earlier masks, since masks only shrink.
-fn lone_rows(givens: &[u8; 81], masks: &mut [u16; 81], sets: &[u16; 48]) -> bool
+fn lone_rows(
+    givens: &[u8; 81],
+    masks: &mut [u16; 81],
+    log: &mut [u8; 4376],
+    sets: &[u16; 48],
+) -> bool
     requires { ⌜ Covers (now sets) (now masks) ⌝ }
     ensures { λ _. ⌜ now (masks .exit) ≡ pass (now (givens .entry)) Lone (now (masks .entry)) ⌝ }
     ensures { λ r. ⌜ Kept r (now (masks .entry)) (now (masks .exit)) ⌝ }
+    ensures { λ _. ⌜ now (log .exit) ≡ logAfter (now (givens .entry)) (instances Lone) (now (masks .entry)) (now (log .entry)) ⌝ }
 {
     let mut any = false;
     let mut row: usize = 0;
     while row < 9 {
         let near = near_row(sets, row);
         if due_row(masks, &near, row) != 0 {
-            lone_row(givens, masks, &near, row);
+            lone_row(givens, masks, log, &near, row);
             any = true;
         }
         row += 1;
@@ -207,19 +208,21 @@ fn lone_rows(givens: &[u8; 81], masks: &mut [u16; 81], sets: &[u16; 48]) -> bool
 pub fn lone_lanes(
     givens: &[u8; 81],
     masks: &mut [u16; 81],
+    log: &mut [u8; 4376],
     doors: &[u16; 432],
     lanes: &mut [u16; 432],
 )
     requires { ⌜ InLanes (now givens) (now masks) (now doors) (now lanes) ⌝ }
     ensures { λ _. ⌜ now (masks .exit) ≡ pass (now (givens .entry)) Lone (now (masks .entry)) ⌝ }
     ensures { λ _. ⌜ now (lanes .exit) ≡ laid (now (masks .exit)) ⌝ }
+    ensures { λ _. ⌜ now (log .exit) ≡ logAfter (now (givens .entry)) (instances Lone) (now (masks .entry)) (now (log .entry)) ⌝ }
 {
     let free = loose(lanes, doors, 0);
     if join_sets(&free) == 0 {
         return;
     }
     let sets = shared_lanes(lanes);
-    if lone_rows(givens, masks, &sets) {
+    if lone_rows(givens, masks, log, &sets) {
         lay(masks, lanes);
     }
 }

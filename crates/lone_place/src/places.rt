@@ -1,17 +1,21 @@
 // Place, by units, digits and instances.
 ghost use mathlib.Core.Path.{_≡_};
 ghost use mathlib.Core.Bool.{cond};
+ghost use mathlib.Core.List.{[], _∷_};
 ghost use Prim.Native.Nat.{_<_, _≤_};
 ghost use lib.Dec.{eqb};
-ghost use Rattle.steps.specs.Passes.{pass, Place};
-ghost use Rattle.cells.specs.code.Places.{allMasks};
-ghost use Rattle.lone_place.specs.code.Turns.{placeTurn, placeDigit, placeUnit};
+ghost use Rattle.steps.specs.Instances as named;
+ghost use Rattle.steps.specs.Passes.{instances, pass, Place};
+ghost use Rattle.steps.specs.code.Logs.{logAfter};
+ghost use Rattle.cells.specs.code.Places.{allMasks, heldPlaces};
+ghost use Rattle.lone_place.specs.code.Turns.{placeTurn, placeDigit, placeUnit, digitPlaces, unitPlaces, familyPlaces};
 ghost use Rattle.lanes.specs.code.Lanes.{InLanes, laid, laneMasks};
 ghost use Rattle.lone_place.specs.code.Due.{dueOf, placeDue, placeSets, placeFamily, Spares, PlaceSpares};
+use crate::losses::lose_cell;
 use candidates::masks;
 use cells::all_masks;
 use cells::held_places;
-use cells::lose_at;
+use cells::notes::note;
 use cells::unions::join_all;
 use cells::unions::several;
 use cells::unions::shared;
@@ -25,29 +29,41 @@ use lanes::loose;
 fn place_at(
     givens: &[u8; 81],
     masks: &mut [u16; 81],
+    log: &mut [u8; 4376],
     unit: usize,
     digit: usize,
     held: u16,
     place: usize,
 )
-    requires { ⌜ (unit < 27) × (digit < 9) × (place < 9) ⌝ }
+    requires { ⌜ (unit < 27) × (digit < 9) × (place < 9) × (held ≡ heldPlaces (now masks) unit digit) ⌝ }
     ensures { λ _. ⌜ now (masks .exit) ≡ placeTurn (now (givens .entry)) unit digit held place (now (masks .entry)) ⌝ }
+    ensures { λ _. ⌜ now (log .exit) ≡ logAfter (now (givens .entry)) (named.place unit digit place ∷ []) (now (masks .entry)) (now (log .entry)) ⌝ }
 {
     if masks::is_none(masks::lose(held, masks::digit_mask(place))) {
         let others = masks::lose(511, masks::digit_mask(digit));
-        lose_at(givens, masks, unit_cell(unit, place), others);
+        let cell = unit_cell(unit, place);
+        if lose_cell(givens, masks, cell, others) != 0 {
+            note(log, 1, unit, digit + 1, cell, 0, 0);
+        }
     }
 }
 
 // The instances of a digit. None of them changes which places hold it.
-fn place_digit(givens: &[u8; 81], masks: &mut [u16; 81], unit: usize, digit: usize)
+fn place_digit(
+    givens: &[u8; 81],
+    masks: &mut [u16; 81],
+    log: &mut [u8; 4376],
+    unit: usize,
+    digit: usize,
+)
     requires { ⌜ (unit < 27) × (digit < 9) ⌝ }
     ensures { λ _. ⌜ now (masks .exit) ≡ placeDigit (now (givens .entry)) unit digit (now (masks .entry)) ⌝ }
+    ensures { λ _. ⌜ now (log .exit) ≡ logAfter (now (givens .entry)) (digitPlaces unit digit) (now (masks .entry)) (now (log .entry)) ⌝ }
 {
     let held = held_places(masks, unit, digit);
     let mut place: usize = 0;
     while place < 9 {
-        place_at(givens, masks, unit, digit, held, place);
+        place_at(givens, masks, log, unit, digit, held, place);
         place += 1;
     }
 }
@@ -68,15 +84,22 @@ fn due_digits(masks: &[u16; 81], unit: usize) -> u16
 }
 
 // The instances of a unit. Those of a digit are passed over where none of them loses anything; `first` are the digits of which some may, as the masks are.
-fn place_unit(givens: &[u8; 81], masks: &mut [u16; 81], unit: usize, first: u16)
+fn place_unit(
+    givens: &[u8; 81],
+    masks: &mut [u16; 81],
+    log: &mut [u8; 4376],
+    unit: usize,
+    first: u16,
+)
     requires { ⌜ (unit < 27) × Spares (now givens) unit first (now masks) ⌝ }
     ensures { λ _. ⌜ now (masks .exit) ≡ placeUnit (now (givens .entry)) unit (now (masks .entry)) ⌝ }
+    ensures { λ _. ⌜ now (log .exit) ≡ logAfter (now (givens .entry)) (unitPlaces unit) (now (masks .entry)) (now (log .entry)) ⌝ }
 {
     let mut due = first;
     let mut digit: usize = 0;
     while digit < 9 {
         if masks::has_digit(due, digit) {
-            place_digit(givens, masks, unit, digit);
+            place_digit(givens, masks, log, unit, digit);
             due = due_digits(masks, unit);
         }
         digit += 1;
@@ -116,15 +139,22 @@ fn due_lanes(lanes: &[u16; 432], free: &[u16; 16], first: usize) -> [u16; 16]
 }
 
 // The units of a family whose sets hold anything.
-fn place_due(givens: &[u8; 81], masks: &mut [u16; 81], due: &[u16; 16], family: usize)
+fn place_due(
+    givens: &[u8; 81],
+    masks: &mut [u16; 81],
+    log: &mut [u8; 4376],
+    due: &[u16; 16],
+    family: usize,
+)
     requires { ⌜ (family < 3) × PlaceSpares (now givens) (now masks) family (now due) ⌝ }
     ensures { λ _. ⌜ now (masks .exit) ≡ placeFamily (now (givens .entry)) family (now (masks .entry)) ⌝ }
+    ensures { λ _. ⌜ now (log .exit) ≡ logAfter (now (givens .entry)) (familyPlaces family) (now (masks .entry)) (now (log .entry)) ⌝ }
 {
     let mut nth: usize = 0;
     while nth < 9 {
         if due[nth] != 0 {
             let unit = 9 * family + nth;
-            place_unit(givens, masks, unit, due[nth]);
+            place_unit(givens, masks, log, unit, due[nth]);
         }
         nth += 1;
     }
@@ -133,6 +163,7 @@ fn place_due(givens: &[u8; 81], masks: &mut [u16; 81], due: &[u16; 16], family: 
 fn place_family(
     givens: &[u8; 81],
     masks: &mut [u16; 81],
+    log: &mut [u8; 4376],
     doors: &[u16; 432],
     lanes: &mut [u16; 432],
     family: usize,
@@ -140,13 +171,14 @@ fn place_family(
     requires { ⌜ (family < 3) × InLanes (now givens) (now masks) (now doors) (now lanes) ⌝ }
     ensures { λ _. ⌜ now (masks .exit) ≡ placeFamily (now (givens .entry)) family (now (masks .entry)) ⌝ }
     ensures { λ _. ⌜ now (lanes .exit) ≡ laid (now (masks .exit)) ⌝ }
+    ensures { λ _. ⌜ now (log .exit) ≡ logAfter (now (givens .entry)) (familyPlaces family) (now (masks .entry)) (now (log .entry)) ⌝ }
 {
     let free = loose(lanes, doors, 16 * family);
     let due = due_lanes(lanes, &free, 16 * family);
     if join_sets(&due) == 0 {
         return;
     }
-    place_due(givens, masks, &due, family);
+    place_due(givens, masks, log, &due, family);
     lay(masks, lanes);
 }
 
@@ -154,16 +186,18 @@ fn place_family(
 pub fn place_lanes(
     givens: &[u8; 81],
     masks: &mut [u16; 81],
+    log: &mut [u8; 4376],
     doors: &[u16; 432],
     lanes: &mut [u16; 432],
 )
     requires { ⌜ InLanes (now givens) (now masks) (now doors) (now lanes) ⌝ }
     ensures { λ _. ⌜ now (masks .exit) ≡ pass (now (givens .entry)) Place (now (masks .entry)) ⌝ }
     ensures { λ _. ⌜ now (lanes .exit) ≡ laid (now (masks .exit)) ⌝ }
+    ensures { λ _. ⌜ now (log .exit) ≡ logAfter (now (givens .entry)) (instances Place) (now (masks .entry)) (now (log .entry)) ⌝ }
 {
     let mut family: usize = 0;
     while family < 3 {
-        place_family(givens, masks, doors, lanes, family);
+        place_family(givens, masks, log, doors, lanes, family);
         family += 1;
     }
 }

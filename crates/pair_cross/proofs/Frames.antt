@@ -126,7 +126,7 @@ module _ (g : List ℕ) (i j : ℕ) (hi : i < 9) (hj : j < 9) where
       (λ k e. subst (λ (x : ℕ). inUnit (f + x) (unitCell (f + r) l) ≡ true) e (cell-in (f + r) l (crossing f (h .0) .below r n) o)) w))
       (unit (9 - f + a) ++ unit (9 - f + b)) m))
 
-  two-keeps : (F : Frame) → Framed F → (held a b : ℕ) (m : List ℕ) → twoHeld (twoTurn g F i j held a b m) F i j ≡ twoHeld m F i j
+  pub two-keeps : (F : Frame) → Framed F → (held a b : ℕ) (m : List ℕ) → twoHeld (twoTurn g F i j held a b m) F i j ≡ twoHeld m F i j
   unfolding twoHeld twoTurn
   two-keeps F h held a b m =
       by-test (λ (n : List ℕ). bitAnd (union (lineHeld n F i) (lineHeld n F j)) 511 ≡ bitAnd (union (lineHeld m F i) (lineHeld m F j)) 511) (eqb (minus held (both a b)) 0) (twoLose g F i j a b m) m

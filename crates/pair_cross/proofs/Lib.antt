@@ -13,4 +13,6 @@ pub mod LinesLeft
 pub mod PairLanes
 pub mod SpotLines
 pub mod CrossLanes
+pub mod FrameInstances
 pub mod FramePasses
+pub mod FrameLogs

@@ -16,14 +16,15 @@ use Rattle.candidates.proofs.Held.{Held, none-held, held-ext, held-sub, held-al
 use Rattle.candidates.proofs.Order.{sub-all, sub-le, sub-of-minus, minus-of-sub, union-sub}
 use Rattle.candidates.proofs.Tests.{neither}
 use Rattle.grid.proofs.Lists.{at-upTo, map-same}
-use Rattle.steps.specs.Boards.{at, isOpen}
+use Rattle.steps.specs.Boards.{at, isOpen, sameMasks}
 use Rattle.steps.specs.Instances.{both}
 use Rattle.steps.specs.Loops.{upTo, above, each}
 use Rattle.steps.proofs.Loops.{in-upTo, upTo-in}
+use Rattle.steps.proofs.Masks.{same-eq}
 use Rattle.cells.proofs.NineBits.{held-meet}
-use Rattle.cells.proofs.Shared.{union-at}
+use Rattle.cells.proofs.Shared.{union-at, union-held}
 use Rattle.lanes.specs.code.Lanes.{doorsOf, nines}
-use Rattle.pair_cross.specs.code.Twos.{firstOf, secondOf, Framed, lineHeld, lineMasks, reachOf, linesTurned, linesTaken, frameTaken}
+use Rattle.pair_cross.specs.code.Twos.{firstOf, secondOf, Framed, lineHeld, twoHeld, lineMasks, reachOf, linesTurned, linesTaken, frameTaken}
 use Rattle.pair_cross.specs.code.Lively.{tallyOf, lostOf, small, lone, anyHot}
 use Rattle.pair_cross.specs.code.Search.{heatOf, openHeld, linesLeft, Seen}
 use Rattle.pair_cross.specs.declared.twos.Frame.{Frame}
@@ -58,6 +59,19 @@ module _ (doors : List ℕ) (i j k c : ℕ) where
       go p (yes q) = absurd (none-held c (subst (λ (x : ℕ). Held x c) (ap (at (set (set doors i 0) j 0)) q ∙ set-none (set doors i 0) j) t))
       go (yes p) (no q) = absurd (none-held c (subst (λ (x : ℕ). Held x c) (getD-set-other (set doors i 0) j k 0 0 q ∙ ap (at (set doors i 0)) p ∙ set-none doors i) t))
       go (no p) (no q) = (p, q, subst (λ (x : ℕ). Held x c) (other-door p q) t)
+
+-- lines that lose nothing hold nothing that can be lost
+left-none : (held doors : List ℕ) (lost : ℕ) → linesLeft held doors lost ≡ held → bitAnd (openHeld held doors) lost ≡ 0
+unfolding linesLeft openHeld
+left-none held doors lost e = held-ext _ 0 (λ c. (λ t. absurd (clash c (held-meet (openHeld held doors) lost c .0 t)), λ t. absurd (none-held c t)))
+  where
+    clash : (c : ℕ) → Held (openHeld held doors) c × Held lost c → ⊥
+    clash c t =
+        let w = union-held (λ l. bitAnd (at held l) (at doors l)) 9 c (t .0) in
+        let k = w .0 in
+        let p = held-meet (at held k) (at doors k) c .0 (w .2) in
+        let left = sym (at-upTo (λ l. minus (at held l) (bitAnd (at doors l) lost)) 0 9 k (w .1)) ∙ ap (λ (z : List ℕ). at z k) e in
+        held-minus (at held k) (bitAnd (at doors k) lost) c .0 (subst (λ (x : ℕ). Held x c) (sym left) (p .0)) .1 (held-meet (at doors k) lost c .1 (p .1, t .1))
 
 module _ (g m : List ℕ) (F : Frame) (framed : Framed F) where
   abbrev N : List ℕ
@@ -109,7 +123,7 @@ module _ (g m : List ℕ) (F : Frame) (framed : Framed F) where
         nothing (cool-none (at N) 511 (line-low m F framed) i j up hj
         (λ s c r. absurd (omega (arith, lone-few (at N i) (omega (arith, line-low m F framed i hi)) t))) (none-hot (at N) i hi e) (none-hot (at N) j hj e))
 
-    pub two-low : union (at (nines (lineMasks m F)) i) (at (nines (lineMasks m F)) j) < 512
+    two-low : union (at (nines (lineMasks m F)) i) (at (nines (lineMasks m F)) j) < 512
     two-low = omega (arith, sub-le (union-sub (sub-all (at N i) (line-low m F framed i hi)) (sub-all (at N j) (line-low m F framed j hj))))
 
     pub turned-taken : linesTurned g F i j (union (at (nines (lineMasks m F)) i) (at (nines (lineMasks m F)) j)) m ≡ linesTaken g F i j m
@@ -227,13 +241,23 @@ module _ {g m : List ℕ} {F : Frame} {q n : List ℕ} {h : ℕ} (w : Seen g m F
                 let o = neither (not (eqb (heatOf N) 0)) (not (lone (at N i))) .0 t in
                 lone-still g m F (w .framed) i j up hj (eqb-true (heatOf N) 0 (not-not (eqb (heatOf N) 0) (o .0))) (not-not (lone (at N i)) (o .1))
 
-    pub two-seen : union (at n i) (at n j) < 512
-    two-seen = by-lines (λ q n h. union (at n i) (at n j) < 512) (two-low g m F (w .framed) i j up hj)
-
     pub turned-seen : linesTurned g F i j (union (at n i) (at n j)) m ≡ linesTaken g F i j m
     turned-seen = by-lines (λ q n h. linesTurned g F i j (union (at n i) (at n j)) m ≡ linesTaken g F i j m) (turned-taken g m F (w .framed) i j up hj)
+
+    pub held-seen : union (at n i) (at n j) ≡ twoHeld m F i j
+    held-seen = by-lines (λ q n h. union (at n i) (at n j) ≡ twoHeld m F i j) (sym (held-is m F (w .framed) i j (omega arith) hj))
 
     pub left-seen : linesLeft n (set (set q i 0) j 0) (reachOf (union (at n i) (at n j))) ≡ nines (lineMasks (linesTurned g F i j (union (at n i) (at n j)) m) F)
     left-seen =
         by-lines (λ q n h. linesLeft n (set (set q i 0) j 0) (reachOf (union (at n i) (at n j))) ≡ nines (lineMasks (linesTurned g F i j (union (at n i) (at n j)) m) F))
         (sym (lines-turned g m F (w .framed) i j up hj (union (at (nines (lineMasks m F)) i) (at (nines (lineMasks m F)) j)) (two-low g m F (w .framed) i j up hj)))
+
+    -- something is lost, if an open cell of another line holds what can be lost
+    pub lost-seen : bitAnd (openHeld n (set (set q i 0) j 0)) (reachOf (union (at n i) (at n j))) ≢ 0 → sameMasks m (linesTurned g F i j (union (at n i) (at n j)) m) ≡ false
+    lost-seen some = go (sameMasks m (linesTurned g F i j (union (at n i) (at n j)) m)) refl
+      where
+        go : (t : Bool) → sameMasks m (linesTurned g F i j (union (at n i) (at n j)) m) ≡ t → t ≡ false
+        go false e = refl
+        go true e =
+            absurd (some (left-none n (set (set q i 0) j 0) (reachOf (union (at n i) (at n j)))
+            (left-seen ∙ sym (ap (λ (o : List ℕ). nines (lineMasks o F)) (same-eq m (linesTurned g F i j (union (at n i) (at n j)) m) e)) ∙ sym (w .held))))

@@ -1,9 +1,10 @@
 // Cross by digits, for rows and then, exchanged, for columns. The instances of a digit change no other: where its lane shows at the start that a digit is not lost, it is not lost when its turn comes.
 ghost use mathlib.Core.Path.{_≡_};
 ghost use Prim.Native.Nat.{_*_, _<_};
-ghost use Rattle.steps.specs.Passes.{pass, Cross};
+ghost use Rattle.steps.specs.Passes.{pass, instances, Cross};
+ghost use Rattle.steps.specs.code.Logs.{logAfter};
 ghost use Rattle.lanes.specs.code.Lanes.{InLanes, laid, doorsOf};
-ghost use Rattle.pair_cross.specs.code.Twos.{crossLines};
+ghost use Rattle.pair_cross.specs.code.Twos.{crossLines, crossInstances};
 ghost use Rattle.pair_cross.specs.code.Spots.{DigitLanes, CrossSkips};
 use crate::lively::lively_lanes;
 use crate::search::two_frame;
@@ -20,6 +21,7 @@ use lanes::loose;
 fn cross_due(
     givens: &[u8; 81],
     masks: &mut [u16; 81],
+    log: &mut [u8; 4376],
     doors: &[u16; 432],
     digits: &[u16; 432],
     due: &[u16; 16],
@@ -27,6 +29,7 @@ fn cross_due(
 )
     requires { ⌜ (half < 2) × (now doors ≡ laid (doorsOf (now givens))) × DigitLanes (laid (now masks)) (16 * half) (now digits) × CrossSkips (now givens) (now masks) half (now due) ⌝ }
     ensures { λ _. ⌜ now (masks .exit) ≡ crossLines (now (givens .entry)) (9 * half) (now (masks .entry)) ⌝ }
+    ensures { λ _. ⌜ now (log .exit) ≡ logAfter (now (givens .entry)) (crossInstances (9 * half)) (now (masks .entry)) (now (log .entry)) ⌝ }
 {
     let first = 9 * half;
     let places = open_places(doors, 16 * half);
@@ -36,6 +39,7 @@ fn cross_due(
             two_frame(
                 givens,
                 masks,
+                log,
                 Frame::Lines(first, digit),
                 &places,
                 lane_masks(digits, digit),
@@ -48,6 +52,7 @@ fn cross_due(
 fn cross_half(
     givens: &[u8; 81],
     masks: &mut [u16; 81],
+    log: &mut [u8; 4376],
     doors: &[u16; 432],
     lanes: &mut [u16; 432],
     half: usize,
@@ -55,6 +60,7 @@ fn cross_half(
     requires { ⌜ (half < 2) × InLanes (now givens) (now masks) (now doors) (now lanes) ⌝ }
     ensures { λ _. ⌜ now (masks .exit) ≡ crossLines (now (givens .entry)) (9 * half) (now (masks .entry)) ⌝ }
     ensures { λ _. ⌜ now (lanes .exit) ≡ laid (now (masks .exit)) ⌝ }
+    ensures { λ _. ⌜ now (log .exit) ≡ logAfter (now (givens .entry)) (crossInstances (9 * half)) (now (masks .entry)) (now (log .entry)) ⌝ }
 {
     let held = join_sets(&loose(lanes, doors, 16 * half));
     let digits = digit_lanes(lanes, 16 * half);
@@ -63,7 +69,7 @@ fn cross_half(
     if join_sets(&due) == 0 {
         return;
     }
-    cross_due(givens, masks, doors, &digits, &due, half);
+    cross_due(givens, masks, log, doors, &digits, &due, half);
     lay(masks, lanes);
 }
 
@@ -71,13 +77,15 @@ fn cross_half(
 pub fn cross_lanes(
     givens: &[u8; 81],
     masks: &mut [u16; 81],
+    log: &mut [u8; 4376],
     doors: &[u16; 432],
     lanes: &mut [u16; 432],
 )
     requires { ⌜ InLanes (now givens) (now masks) (now doors) (now lanes) ⌝ }
     ensures { λ _. ⌜ now (masks .exit) ≡ pass (now (givens .entry)) Cross (now (masks .entry)) ⌝ }
     ensures { λ _. ⌜ now (lanes .exit) ≡ laid (now (masks .exit)) ⌝ }
+    ensures { λ _. ⌜ now (log .exit) ≡ logAfter (now (givens .entry)) (instances Cross) (now (masks .entry)) (now (log .entry)) ⌝ }
 {
-    cross_half(givens, masks, doors, lanes, 0);
-    cross_half(givens, masks, doors, lanes, 1);
+    cross_half(givens, masks, log, doors, lanes, 0);
+    cross_half(givens, masks, log, doors, lanes, 1);
 }

@@ -18,7 +18,8 @@ pub fn pair(givens: &[u8; 81], masks: &mut [u16; 81])
 {
     let doors = lanes_of(&doors(givens));
     let mut lanes = lanes_of(masks);
-    pairs::pair_lanes(givens, masks, &doors, &mut lanes);
+    let mut log = [0u8; 4376];
+    pairs::pair_lanes(givens, masks, &mut log, &doors, &mut lanes);
 }
 
 // Cross: all cells that hold d in two rows are in two columns: the other cells of those columns lose d. Then the same with rows and columns exchanged.
@@ -27,5 +28,6 @@ pub fn cross(givens: &[u8; 81], masks: &mut [u16; 81])
 {
     let doors = lanes_of(&doors(givens));
     let mut lanes = lanes_of(masks);
-    crosses::cross_lanes(givens, masks, &doors, &mut lanes);
+    let mut log = [0u8; 4376];
+    crosses::cross_lanes(givens, masks, &mut log, &doors, &mut lanes);
 }

@@ -1,9 +1,10 @@
 // Pair by families of units, the rows, the columns and the boxes. The units of a family are disjoint: where its lane shows at the family's start that a unit loses nothing, it loses nothing when its turn comes.
 ghost use mathlib.Core.Path.{_≡_};
 ghost use Prim.Native.Nat.{_<_};
-ghost use Rattle.steps.specs.Passes.{pass, Pair};
+ghost use Rattle.steps.specs.Passes.{pass, instances, Pair};
+ghost use Rattle.steps.specs.code.Logs.{logAfter};
 ghost use Rattle.lanes.specs.code.Lanes.{InLanes, laid};
-ghost use Rattle.pair_cross.specs.code.Lively.{pairFamily, PairSkips};
+ghost use Rattle.pair_cross.specs.code.Lively.{pairFamily, familyInstances, PairSkips};
 use crate::lively::lively_lanes;
 use crate::search::two_frame;
 use crate::twos::Frame;
@@ -16,6 +17,7 @@ use lanes::loose;
 fn pair_due(
     givens: &[u8; 81],
     masks: &mut [u16; 81],
+    log: &mut [u8; 4376],
     doors: &[u16; 432],
     lanes: &[u16; 432],
     due: &[u16; 16],
@@ -23,6 +25,7 @@ fn pair_due(
 )
     requires { ⌜ (family < 3) × InLanes (now givens) (now masks) (now doors) (now lanes) × PairSkips (now givens) (now masks) family (now due) ⌝ }
     ensures { λ _. ⌜ now (masks .exit) ≡ pairFamily (now (givens .entry)) family (now (masks .entry)) ⌝ }
+    ensures { λ _. ⌜ now (log .exit) ≡ logAfter (now (givens .entry)) (familyInstances family) (now (masks .entry)) (now (log .entry)) ⌝ }
 {
     let mut nth: usize = 0;
     while nth < 9 {
@@ -31,6 +34,7 @@ fn pair_due(
             two_frame(
                 givens,
                 masks,
+                log,
                 Frame::Unit(9 * family + nth),
                 &lane_masks(doors, lane),
                 lane_masks(lanes, lane),
@@ -43,6 +47,7 @@ fn pair_due(
 fn pair_family(
     givens: &[u8; 81],
     masks: &mut [u16; 81],
+    log: &mut [u8; 4376],
     doors: &[u16; 432],
     lanes: &mut [u16; 432],
     family: usize,
@@ -50,13 +55,14 @@ fn pair_family(
     requires { ⌜ (family < 3) × InLanes (now givens) (now masks) (now doors) (now lanes) ⌝ }
     ensures { λ _. ⌜ now (masks .exit) ≡ pairFamily (now (givens .entry)) family (now (masks .entry)) ⌝ }
     ensures { λ _. ⌜ now (lanes .exit) ≡ laid (now (masks .exit)) ⌝ }
+    ensures { λ _. ⌜ now (log .exit) ≡ logAfter (now (givens .entry)) (familyInstances family) (now (masks .entry)) (now (log .entry)) ⌝ }
 {
     let free = loose(lanes, doors, 16 * family);
     let due = lively_lanes(lanes, &free, 16 * family);
     if join_sets(&due) == 0 {
         return;
     }
-    pair_due(givens, masks, doors, lanes, &due, family);
+    pair_due(givens, masks, log, doors, lanes, &due, family);
     lay(masks, lanes);
 }
 
@@ -64,16 +70,18 @@ fn pair_family(
 pub fn pair_lanes(
     givens: &[u8; 81],
     masks: &mut [u16; 81],
+    log: &mut [u8; 4376],
     doors: &[u16; 432],
     lanes: &mut [u16; 432],
 )
     requires { ⌜ InLanes (now givens) (now masks) (now doors) (now lanes) ⌝ }
     ensures { λ _. ⌜ now (masks .exit) ≡ pass (now (givens .entry)) Pair (now (masks .entry)) ⌝ }
     ensures { λ _. ⌜ now (lanes .exit) ≡ laid (now (masks .exit)) ⌝ }
+    ensures { λ _. ⌜ now (log .exit) ≡ logAfter (now (givens .entry)) (instances Pair) (now (masks .entry)) (now (log .entry)) ⌝ }
 {
     let mut family: usize = 0;
     while family < 3 {
-        pair_family(givens, masks, doors, lanes, family);
+        pair_family(givens, masks, log, doors, lanes, family);
         family += 1;
     }
 }

@@ -5,8 +5,9 @@ ghost use Prim.Native.Nat.{_<_};
 ghost use lib.Dec.{eqb};
 ghost use lib.ListN.{set};
 ghost use Rattle.steps.specs.Loops.{each, above};
+ghost use Rattle.steps.specs.code.Logs.{logAfter};
 ghost use Rattle.lanes.specs.code.Lanes.{doorsOf, nines};
-ghost use Rattle.pair_cross.specs.code.Twos.{Framed, lineMasks, linesTaken, frameTaken};
+ghost use Rattle.pair_cross.specs.code.Twos.{Framed, lineMasks, linesTaken, frameTaken, linesInstances, lineInstances, frameInstances};
 ghost use Rattle.pair_cross.specs.code.Lively.{small, lone};
 ghost use Rattle.pair_cross.specs.code.Search.{heatOf, openHeld, linesLeft, Seen};
 use crate::lively::any_hot;
@@ -65,6 +66,7 @@ fn lines_left(held: &[u16; 9], doors: &[u16; 9], lost: u16) -> [u16; 9]
 fn two_turn(
     givens: &[u8; 81],
     masks: &mut [u16; 81],
+    log: &mut [u8; 4376],
     frame: Frame,
     doors: &[u16; 9],
     held: &mut [u16; 9],
@@ -75,6 +77,7 @@ fn two_turn(
     requires { ⌜ Seen (now givens) (now masks) frame (now doors) (now held) heat × (i < j) × (j < 9) ⌝ }
     ensures { λ _. ⌜ now (masks .exit) ≡ linesTaken (now (givens .entry)) frame i j (now (masks .entry)) ⌝ }
     ensures { λ r. ⌜ Seen (now (givens .entry)) (now (masks .exit)) frame (now (doors .entry)) (now (held .exit)) r ⌝ }
+    ensures { λ _. ⌜ now (log .exit) ≡ logAfter (now (givens .entry)) (linesInstances frame i j) (now (masks .entry)) (now (log .entry)) ⌝ }
 {
     let two = masks::join(held[i], held[j]);
     let lost = reach(two);
@@ -85,7 +88,7 @@ fn two_turn(
     if masks::meet(open_held(held, &rest), lost) == 0 {
         return heat;
     }
-    two_lines(givens, masks, frame, i, j, two);
+    two_lines(givens, masks, log, frame, i, j, two);
     let left = lines_left(held, &rest, lost);
     *held = left;
     heat_of(&left)
@@ -105,6 +108,7 @@ fn asks(x: u16, y: u16, heat: u16) -> bool
 fn line_turns(
     givens: &[u8; 81],
     masks: &mut [u16; 81],
+    log: &mut [u8; 4376],
     frame: Frame,
     doors: &[u16; 9],
     held: &mut [u16; 9],
@@ -114,12 +118,13 @@ fn line_turns(
     requires { ⌜ Seen (now givens) (now masks) frame (now doors) (now held) start × (i < 9) ⌝ }
     ensures { λ _. ⌜ now (masks .exit) ≡ each (linesTaken (now (givens .entry)) frame i) (above i 9) (now (masks .entry)) ⌝ }
     ensures { λ r. ⌜ Seen (now (givens .entry)) (now (masks .exit)) frame (now (doors .entry)) (now (held .exit)) r ⌝ }
+    ensures { λ _. ⌜ now (log .exit) ≡ logAfter (now (givens .entry)) (lineInstances frame i) (now (masks .entry)) (now (log .entry)) ⌝ }
 {
     let mut heat = start;
     let mut j: usize = i + 1;
     while j < 9 {
         if asks(held[i], held[j], heat) {
-            heat = two_turn(givens, masks, frame, doors, held, heat, i, j);
+            heat = two_turn(givens, masks, log, frame, doors, held, heat, i, j);
         }
         j += 1;
     }
@@ -144,19 +149,21 @@ fn leads(held: u16, heat: u16) -> bool
 pub fn two_frame(
     givens: &[u8; 81],
     masks: &mut [u16; 81],
+    log: &mut [u8; 4376],
     frame: Frame,
     doors: &[u16; 9],
     start: [u16; 9],
 )
     requires { ⌜ Framed frame × (now doors ≡ nines (lineMasks (doorsOf (now givens)) frame)) × (start ≡ nines (lineMasks (now masks) frame)) ⌝ }
     ensures { λ _. ⌜ now (masks .exit) ≡ frameTaken (now (givens .entry)) frame (now (masks .entry)) ⌝ }
+    ensures { λ _. ⌜ now (log .exit) ≡ logAfter (now (givens .entry)) (frameInstances frame) (now (masks .entry)) (now (log .entry)) ⌝ }
 {
     let mut held = start;
     let mut heat = heat_of(&held);
     let mut i: usize = 0;
     while i < 9 {
         if leads(held[i], heat) {
-            heat = line_turns(givens, masks, frame, doors, &mut held, heat, i);
+            heat = line_turns(givens, masks, log, frame, doors, &mut held, heat, i);
         }
         i += 1;
     }

@@ -1,11 +1,18 @@
 // Pair and Cross, which are one: a frame has nine lines of nine places each. Where two of its lines hold nothing outside two places, the other lines lose those.
 ghost use mathlib.Core.Path.{_≡_};
+ghost use mathlib.Core.Bool.{false};
+ghost use mathlib.Core.List.{[], _∷_};
 ghost use Prim.Native.Nat.{_<_};
-ghost use Rattle.steps.specs.Boards.{at};
-ghost use Rattle.pair_cross.specs.code.Twos.{Framed, reachOf, twoLose, twoTurn, linesTurned};
+ghost use Rattle.steps.specs.Boards.{at, sameMasks};
+ghost use Rattle.steps.specs.StepLists.{stepBytes};
+ghost use Rattle.steps.specs.code.Logs.{noted, logAfter};
+ghost use Rattle.pair_cross.specs.code.Twos.{Framed, frameInstance, twoHeld, reachOf, twoLose, twoTurn, linesTurned, linesInstances};
 use candidates::masks;
 use cells::all_but;
+use cells::changed;
 use cells::lose_places;
+use cells::notes::note;
+use grid::unit_cell;
 
 // What the lines and places of a search are.
 pub enum Frame {
@@ -149,10 +156,32 @@ fn lose_two(
     }
 }
 
+// The step of lines i and j and places a and b: Pair, Cross, or Cross exchanged, whose lines are columns.
+fn note_two(log: &mut [u8; 4376], frame: Frame, i: usize, j: usize, a: usize, b: usize)
+    requires { ⌜ Framed frame × (i < 9) × (j < 9) × (a < 9) × (b < 9) ⌝ }
+    ensures { λ _. ⌜ now (log .exit) ≡ noted (stepBytes (frameInstance frame i j a b)) (now (log .entry)) ⌝ }
+{
+    match frame {
+        Frame::Unit(unit) => {
+            let cell = unit_cell(unit, i);
+            let other = unit_cell(unit, j);
+            note(log, 2, unit, cell, other, a + 1, b + 1);
+        }
+        Frame::Lines(first, digit) => {
+            if first == 0 {
+                note(log, 5, digit + 1, i, j, 9 + a, 9 + b);
+            } else {
+                note(log, 6, digit + 1, 9 + i, 9 + j, a, b);
+            }
+        }
+    }
+}
+
 // One instance, where `held` is what the two lines hold.
 fn two_at(
     givens: &[u8; 81],
     masks: &mut [u16; 81],
+    log: &mut [u8; 4376],
     frame: Frame,
     i: usize,
     j: usize,
@@ -160,33 +189,42 @@ fn two_at(
     a: usize,
     b: usize,
 )
-    requires { ⌜ Framed frame × (i < 9) × (j < 9) × (a < 9) × (b < 9) ⌝ }
+    requires { ⌜ Framed frame × (i < 9) × (j < 9) × (a < 9) × (b < 9) × (held ≡ twoHeld (now masks) frame i j) ⌝ }
     ensures { λ _. ⌜ now (masks .exit) ≡ twoTurn (now (givens .entry)) frame i j held a b (now (masks .entry)) ⌝ }
+    ensures { λ _. ⌜ now (log .exit) ≡ logAfter (now (givens .entry)) (frameInstance frame i j a b ∷ []) (now (masks .entry)) (now (log .entry)) ⌝ }
 {
     if masks::is_none(masks::lose(
         held,
         masks::join(masks::digit_mask(a), masks::digit_mask(b)),
     )) {
+        let before = *masks;
         lose_two(givens, masks, frame, i, j, a, b);
+        let after = *masks;
+        if changed(before, after) {
+            note_two(log, frame, i, j, a, b);
+        }
     }
 }
 
-// The instances of two lines. None of them changes what the two hold; where they hold two places, only the instance of those two loses anything.
+// The instances of two lines, which lose something. None of them changes what the two hold; where they hold two places, only the instance of those two loses anything.
 pub fn two_lines(
     givens: &[u8; 81],
     masks: &mut [u16; 81],
+    log: &mut [u8; 4376],
     frame: Frame,
     i: usize,
     j: usize,
     held: u16,
 )
-    requires { ⌜ Framed frame × (i < 9) × (j < 9) × (held < 512) ⌝ }
+    requires { ⌜ Framed frame × (i < 9) × (j < 9) × (held ≡ twoHeld (now masks) frame i j) × (sameMasks (now masks) (linesTurned (now givens) frame i j held (now masks)) ≡ false) ⌝ }
     ensures { λ _. ⌜ now (masks .exit) ≡ linesTurned (now (givens .entry)) frame i j held (now (masks .entry)) ⌝ }
+    ensures { λ _. ⌜ now (log .exit) ≡ logAfter (now (givens .entry)) (linesInstances frame i j) (now (masks .entry)) (now (log .entry)) ⌝ }
 {
     if masks::is_two(held) {
         let a = masks::lowest_digit(held);
         let b = masks::lowest_digit(masks::lose_lowest(held));
         lose_two(givens, masks, frame, i, j, a, b);
+        note_two(log, frame, i, j, a, b);
         return;
     }
     let firsts = FIRSTS;
@@ -196,6 +234,7 @@ pub fn two_lines(
         two_at(
             givens,
             masks,
+            log,
             frame,
             i,
             j,

@@ -11,11 +11,16 @@ use lib.ListN.{getD, List·getD-eq-default}
 use Rattle.candidates.proofs.Tests.{by-test}
 use Rattle.grid.proofs.Lists.{turn-done, turns-over}
 use Rattle.steps.specs.Boards.{sameMasks}
-use Rattle.steps.specs.Loops.{each, range, upTo}
-use Rattle.steps.specs.Passes.{Cross, kinds, pass, changed, sweep}
+use Rattle.steps.specs.Instances.{Instance}
+use Rattle.steps.specs.Loops.{each, for, range, upTo}
+use Rattle.steps.specs.Passes.{Cross, kinds, instances, instanceTaken, pass, changed, sweep}
+use Rattle.steps.specs.StepLists.{sweepInstances}
+use Rattle.steps.specs.code.Logs.{logAfter}
 use Rattle.steps.proofs.Loops.{each-idle, in-upTo}
 use Rattle.steps.proofs.Masks.{under-antisym, same-eq, differ}
 use Rattle.steps.proofs.Reach.{Reach, start, reach-trans, reach-under, reach-length, pass-reach}
+use Rattle.steps.proofs.StepLogs.{log-idle}
+use Rattle.steps.proofs.Turns.{each-in}
 use Rattle.passes.specs.code.Rounds.{nthKind, IdleTo, LastIdle, Swept}
 
 -- the fifth and later ones
@@ -35,6 +40,17 @@ module _ (g : List ℕ) where
   sweep-turns : (m : List ℕ) → sweep g m ≡ each turn (upTo 6) m
   unfolding sweep nthKind each
   sweep-turns m = refl
+
+  -- the instances of the nth pass
+  abbrev pub passInstances : ℕ → List Instance
+  passInstances n = instances (nthKind n)
+
+  pub sweep-blocks : for (upTo 6) passInstances ≡ sweepInstances
+  unfolding sweepInstances nthKind for
+  sweep-blocks = refl
+
+  blocks-each : (ns : List ℕ) (m : List ℕ) → each (instanceTaken g) (for ns passInstances) m ≡ each turn ns m
+  blocks-each ns m = each-in (instanceTaken g) ns passInstances turn (λ n o. unfold pass in refl) m
 
   -- what is removed does not come back
   stays : {m n o : List ℕ} → Reach g m n → Reach g n o → o ≡ m → n ≡ m
@@ -119,6 +135,10 @@ module _ (g : List ℕ) where
 
         all-idle : sweep g m ≡ m
         all-idle = sweep-turns m ∙ each-idle turn (upTo 6) m (λ j at. none j (in-upTo 6 j at) (decLt j w))
+
+    -- then those that are left note nothing
+    pub left-silent : Swept g m n 6 → (l : List ℕ) → logAfter g (for (range (6 - w) w) passInstances) n l ≡ l
+    left-silent s l = log-idle g (for (range (6 - w) w) passInstances) n l (blocks-each (range (6 - w) w) n ∙ so .rest ∙ sym (s .swept))
 
     -- six passes are done
     pub swept-end : 6 ≤ w → Swept g m n i

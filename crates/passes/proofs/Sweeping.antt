@@ -7,8 +7,11 @@ use native.Mathlib.Omega.{arith}
 use Rattle.candidates.proofs.Tests.{cond-true, by-test}
 use Rattle.steps.specs.Boards.{sameMasks, total}
 use Rattle.steps.specs.Passes.{sweep, Sweeps, settleIn}
+use Rattle.steps.specs.StepLists.{sweepInstances}
+use Rattle.steps.specs.code.Logs.{logAfter}
 use Rattle.steps.proofs.Masks.{total-under, same-refl, same-eq}
 use Rattle.steps.proofs.Reach.{Reach, start, reach-trans, reach-under, reach-length, sweep-reach}
+use Rattle.steps.proofs.StepLogs.{sweepsOf, log-sweep, log-last}
 use Rattle.passes.specs.code.Rounds.{Swept}
 
 module _ (g : List ℕ) where
@@ -40,6 +43,17 @@ module _ (g : List ℕ) where
       settle-goes l =
           goes-on (λ e. s .goes l .0 (s .swept ∙ e))
           ∙ ap (λ (o : List ℕ). record { sweeps = settleIn (730 - (i + 1)) g o .sweeps + 1; left = settleIn (730 - (i + 1)) g o .left }) (sym (s .swept))
+
+      -- the log likewise
+      module _ (l : List ℕ) {l₁ whole : List ℕ} (noted : l₁ ≡ logAfter g sweepInstances m l) (all : logAfter g (sweepsOf g (settleIn (730 - i) g m .sweeps)) m l ≡ whole) where
+        pub log-stops : idle ≡ 6 → l₁ ≡ whole
+        log-stops e = noted ∙ sym (log-last g m l) ∙ ap (λ (x : Sweeps). logAfter g (sweepsOf g (x .sweeps)) m l) (sym (settle-stops e)) ∙ all
+
+        pub log-goes : idle < 6 → logAfter g (sweepsOf g (settleIn (730 - (i + 1)) g n .sweeps)) n l₁ ≡ whole
+        log-goes k =
+            let rest = settleIn (730 - (i + 1)) g n .sweeps in
+            ap (λ (o : List ℕ). logAfter g (sweepsOf g rest) o l₁) (s .swept) ∙ ap (logAfter g (sweepsOf g rest) (sweep g m)) noted
+            ∙ sym (log-sweep g rest m l) ∙ ap (λ (x : Sweeps). logAfter g (sweepsOf g (x .sweeps)) m l) (sym (settle-goes k)) ∙ all
 
   pub settle-ends : (i : ℕ) (m : List ℕ) → 730 ≤ i → settleIn (730 - i) g m ≡ record { sweeps = 0; left = m }
   unfolding settleIn

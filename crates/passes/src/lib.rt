@@ -2,7 +2,9 @@
 ghost use mathlib.Core.Path.{_≡_};
 ghost use mathlib.Core.Bool.{cond};
 ghost use Prim.Native.Nat.{_+_, _<_};
-ghost use Rattle.steps.specs.Passes.{pass, changed, settle, removedBy};
+ghost use Rattle.steps.specs.Passes.{pass, instances, changed, settle, removedBy};
+ghost use Rattle.steps.specs.StepLists.{sweepInstances, settlingInstances};
+ghost use Rattle.steps.specs.code.Logs.{logAfter};
 ghost use Rattle.board.specs.Boards.{boardOf};
 ghost use Rattle.lanes.specs.code.Lanes.{InLanes, laid};
 ghost use Rattle.passes.specs.Settlings.{Settles};
@@ -11,6 +13,8 @@ use board::Board;
 use board::check_given;
 use board::entries::givens_of;
 use cells::changed;
+use cells::notes::Steps;
+use cells::notes::steps_of;
 use cells::total;
 use lanes::doors;
 use lanes::lanes_of;
@@ -23,10 +27,11 @@ use pair_cross::pairs::pair_lanes;
 use stops::Check;
 use stops::Stop;
 
-// A wide pass by its number in a sweep. The masks stand in lanes too, and `doors` are those of the givens.
+// A wide pass by its number in a sweep. The masks stand in lanes too, and `doors` are those of the givens. The log takes the steps that remove something.
 fn nth_pass(
     givens: &[u8; 81],
     masks: &mut [u16; 81],
+    log: &mut [u8; 4376],
     doors: &[u16; 432],
     lanes: &mut [u16; 432],
     nth: usize,
@@ -34,14 +39,15 @@ fn nth_pass(
     requires { ⌜ InLanes (now givens) (now masks) (now doors) (now lanes) ⌝ }
     ensures { λ _. ⌜ now (masks .exit) ≡ pass (now (givens .entry)) (nthKind nth) (now (masks .entry)) ⌝ }
     ensures { λ _. ⌜ now (lanes .exit) ≡ laid (now (masks .exit)) ⌝ }
+    ensures { λ _. ⌜ now (log .exit) ≡ logAfter (now (givens .entry)) (instances (nthKind nth)) (now (masks .entry)) (now (log .entry)) ⌝ }
 {
     match nth {
-        0 => lone_lanes(givens, masks, doors, lanes),
-        1 => place_lanes(givens, masks, doors, lanes),
-        2 => pair_lanes(givens, masks, doors, lanes),
-        3 => pointing_lanes(givens, masks, doors, lanes),
-        4 => claiming_lanes(givens, masks, doors, lanes),
-        _ => cross_lanes(givens, masks, doors, lanes),
+        0 => lone_lanes(givens, masks, log, doors, lanes),
+        1 => place_lanes(givens, masks, log, doors, lanes),
+        2 => pair_lanes(givens, masks, log, doors, lanes),
+        3 => pointing_lanes(givens, masks, log, doors, lanes),
+        4 => claiming_lanes(givens, masks, log, doors, lanes),
+        _ => cross_lanes(givens, masks, log, doors, lanes),
     }
 }
 
@@ -61,6 +67,7 @@ fn idle_after(idle: usize, before: [u16; 81], after: [u16; 81]) -> usize
 fn sweep(
     givens: &[u8; 81],
     masks: &mut [u16; 81],
+    log: &mut [u8; 4376],
     doors: &[u16; 432],
     lanes: &mut [u16; 432],
     idle: usize,
@@ -68,6 +75,7 @@ fn sweep(
     requires { ⌜ InLanes (now givens) (now masks) (now doors) (now lanes) × (idle < 6) × LastIdle (now givens) idle (now masks) ⌝ }
     ensures { λ r. ⌜ Swept (now (givens .entry)) (now (masks .entry)) (now (masks .exit)) r ⌝ }
     ensures { λ _. ⌜ now (lanes .exit) ≡ laid (now (masks .exit)) ⌝ }
+    ensures { λ _. ⌜ now (log .exit) ≡ logAfter (now (givens .entry)) sweepInstances (now (masks .entry)) (now (log .entry)) ⌝ }
 {
     let mut still = idle;
     let mut nth: usize = 0;
@@ -76,7 +84,7 @@ fn sweep(
             return 6;
         }
         let before = *masks;
-        nth_pass(givens, masks, doors, lanes, nth);
+        nth_pass(givens, masks, log, doors, lanes, nth);
         let after = *masks;
         still = idle_after(still, before, after);
         nth += 1;
@@ -85,16 +93,17 @@ fn sweep(
 }
 
 // Sweeps until one removes nothing; that last one is counted too, though it is not always run to its end. 730 are always enough.
-fn sweep_on(givens: &[u8; 81], masks: &mut [u16; 81]) -> usize
+fn sweep_on(givens: &[u8; 81], masks: &mut [u16; 81], log: &mut [u8; 4376]) -> usize
     ensures { λ r. ⌜ r ≡ settle (now (givens .entry)) (now (masks .entry)) .sweeps ⌝ }
     ensures { λ _. ⌜ now (masks .exit) ≡ settle (now (givens .entry)) (now (masks .entry)) .left ⌝ }
+    ensures { λ _. ⌜ now (log .exit) ≡ logAfter (now (givens .entry)) (settlingInstances (now (givens .entry)) (now (masks .entry))) (now (masks .entry)) (now (log .entry)) ⌝ }
 {
     let doors = lanes_of(&doors(givens));
     let mut lanes = lanes_of(masks);
     let mut idle: usize = 0;
     let mut sweeps: usize = 0;
     while sweeps < 730 {
-        idle = sweep(givens, masks, &doors, &mut lanes, idle);
+        idle = sweep(givens, masks, log, &doors, &mut lanes, idle);
         sweeps += 1;
         if idle == 6 {
             return sweeps;
@@ -111,14 +120,15 @@ pub struct Counts {
     pub removed: usize,
 }
 
-// Sweeps until nothing more is removed.
-pub fn settle(givens: &[u8; 81], masks: &mut [u16; 81]) -> Counts
+// Sweeps until nothing more is removed. The log takes the steps that removed something.
+pub fn settle(givens: &[u8; 81], masks: &mut [u16; 81], log: &mut [u8; 4376]) -> Counts
     ensures { λ r. ⌜ r .sweeps ≡ settle (now (givens .entry)) (now (masks .entry)) .sweeps ⌝ }
     ensures { λ r. ⌜ r .removed ≡ removedBy (now (masks .entry)) (now (masks .exit)) ⌝ }
     ensures { λ _. ⌜ now (masks .exit) ≡ settle (now (givens .entry)) (now (masks .entry)) .left ⌝ }
+    ensures { λ _. ⌜ now (log .exit) ≡ logAfter (now (givens .entry)) (settlingInstances (now (givens .entry)) (now (masks .entry))) (now (masks .entry)) (now (log .entry)) ⌝ }
 {
     let before = *masks;
-    let sweeps = sweep_on(givens, masks);
+    let sweeps = sweep_on(givens, masks, log);
     let after = *masks;
     Counts {
         sweeps,
@@ -132,10 +142,11 @@ pub enum Settling {
     Refused(Stop),
 }
 
-// The board that settling leaves; as it was beside a refusal.
+// The board that settling leaves, and its steps that removed something; beside a refusal the board as it was and no step.
 pub struct SettledBoard {
     pub answer: Settling,
     pub board: Board,
+    pub steps: Steps,
 }
 
 // Sweeps until nothing more is removed. The board is checked once, before the first sweep.
@@ -146,6 +157,7 @@ pub fn apply_settling(board: Board) -> SettledBoard
     let entries = board.entries;
     let mut masks = board.masks;
     let givens = givens_of(&clues, &entries);
+    let mut log = [0u8; 4376];
     match check_given(&clues, &entries, &givens, &masks) {
         Check::Refused(stop) => SettledBoard {
             answer: Settling::Refused(stop),
@@ -154,9 +166,10 @@ pub fn apply_settling(board: Board) -> SettledBoard
                 entries,
                 masks,
             },
+            steps: steps_of(&log),
         },
         Check::Passed => {
-            let counts = settle(&givens, &mut masks);
+            let counts = settle(&givens, &mut masks, &mut log);
             SettledBoard {
                 answer: Settling::Counted(counts.sweeps, counts.removed),
                 board: Board {
@@ -164,6 +177,7 @@ pub fn apply_settling(board: Board) -> SettledBoard
                     entries,
                     masks,
                 },
+                steps: steps_of(&log),
             }
         }
     }

@@ -37,3 +37,8 @@ pub mod ListTheorem
 pub mod Lists
 pub mod EntriesStand
 pub mod SinglesHold
+pub mod StepBytes
+pub mod StepPieces
+pub mod StepLogs
+pub mod LogBytes
+pub mod StepPromises

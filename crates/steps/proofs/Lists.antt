@@ -128,6 +128,15 @@ reached-admissible {b} r = record { clues = r .clues; entries = r .entries; mask
 pub keeping-admissible : {b : Board} → Good Keeping b → Good Admissible b
 keeping-admissible r = record { clues = r .clues; entries = r .entries; masks = r .masks .admissible }
 
+-- on such a board
+pub keeping-fillings : (B : Board) → Good Keeping B → FillingsStay B
+keeping-fillings B p f l v =
+    let t = together-clues (B .clues) (B .entries) (p .clues) (p .entries) in
+    let r = verified-correct f l v in (
+      λ i. together-keeps B f (p .clues) (p .entries) (in-keeps (together (B .clues) (B .entries)) t f r (B .masks) (p .masks .admissible) i),
+      λ k. record { held = p .masks .fillings (placed f) (correct-filling f r) (keeps-fresh (together (B .clues) (B .entries)) t f r (keeps-together B f k)) },
+    )
+
 pub admitted-good : (b : Board) → Admitted b → Good Admissible b
 admitted-good b a = let w = admits b a in record { clues = w .0; entries = w .1; masks = w .2 }
 
@@ -230,14 +239,7 @@ module _ (clues entries : List ℤ) (ok : Clues clues) (en : Entries clues entri
   never-refused xs = accepted (play xs O) (play-admits xs O (opened-good Admissible fresh-admissible clues entries ok en))
 
   fillings-stay : (xs : List Deed) → withoutPorted (callsIn xs) ≡ true → FillingsStay (play xs O)
-  fillings-stay xs n f l v =
-      let B = play xs O in
-      let p = played xs n in
-      let t = together-clues (B .clues) (B .entries) (p .clues) (p .entries) in
-      let r = verified-correct f l v in (
-        λ i. together-keeps B f (p .clues) (p .entries) (in-keeps (together (B .clues) (B .entries)) t f r (B .masks) (p .masks .admissible) i),
-        λ k. record { held = p .masks .fillings (placed f) (correct-filling f r) (keeps-fresh (together (B .clues) (B .entries)) t f r (keeps-together B f k)) },
-      )
+  fillings-stay xs n = keeping-fillings (play xs O) (played xs n)
 
   lists-end : (ks ls : List Call) → withoutChain ks ≡ true → withoutChain ls ≡ true → OneEnd (run ks O) (run ls O)
   lists-end ks ls nk nl s = (λ e. subst BoardSettled e s, λ t. same t)

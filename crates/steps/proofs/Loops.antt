@@ -1,10 +1,10 @@
 -- Laws of the loops: what each member of a list does, and what a list made by loops holds. Assumes nothing.
 use mathlib.Core.Path.{_≡_, refl, sym, ap, _∙_, subst}
-use mathlib.Core.Bool.{Bool, true, false, cond, _||_, true≢false}
+use mathlib.Core.Bool.{Bool, true, false, cond, _&&_, _||_, true≢false}
 use mathlib.Core.Logic.{inl, inr, ⊎-elim}
 use mathlib.Core.List.{List, [], _∷_, _++_, append-nil, append-assoc, List·Memᴰ, List·Memᴰ·head, List·Memᴰ·tail, List·Memᴰ·not-nil, List·Memᴰ·cases-cons, List·Memᴰ·append-cases, Memᴰ·append-left, Memᴰ·append-right}
 use mathlib.Core.Option.{Option, none, some, Option·some-ne-none}
-use Prim.Native.Nat.{ℕ, _+_, _-_, _<_, zero-le}
+use Prim.Native.Nat.{ℕ, _+_, _*_, _-_, _<_, zero-le}
 use native.Mathlib.Omega.{arith}
 use Rattle.candidates.proofs.Tests.{by-test, either}
 pub use Rattle.grid.proofs.Lists.{all-member, member-all}
@@ -40,6 +40,12 @@ module _ {A B : Type 0} where
   each-adds f [] ys = sym (append-nil ys)
   each-adds f (x ∷ xs) ys = each-adds f xs (ys ++ f x) ∙ append-assoc ys (f x) (for xs f)
 
+  -- a loop over two lists, one after the other
+  pub for-append : (xs ys : List A) (f : A → List B) → for (xs ++ ys) f ≡ for xs f ++ for ys f
+  unfolding for
+  for-append [] ys f = refl
+  for-append (x ∷ xs) ys f = ap (λ (l : List B). f x ++ l) (for-append xs ys f) ∙ sym (append-assoc (f x) (for xs f) (for ys f))
+
   -- a member of a list made by a loop comes from one of the loop's members
   pub in-for : (xs : List A) (h : A → List B) (y : B) → List·Memᴰ y (for xs h) → (x : A) × List·Memᴰ x xs × List·Memᴰ y (h x)
   unfolding for
@@ -68,6 +74,23 @@ for-same f g (x ∷ xs) h =
     let p = h x (List·Memᴰ·head refl) in
     let r = for-same f g xs (λ y k. h y (List·Memᴰ·tail k)) in
     cc
+
+-- a loop over what a loop makes
+for-for : {A B C : Type 0} (xs : List A) (h : A → List B) (f : B → List C) → for (for xs h) f ≡ for xs (λ x. for (h x) f)
+unfolding for
+for-for [] h f = refl
+for-for {C = C} (x ∷ xs) h f = for-append (h x) (for xs h) f ∙ ap (λ (l : List C). for (h x) f ++ l) (for-for xs h f)
+
+for-one : {A B C : Type 0} (xs : List A) (h : A → B) (f : B → List C) → for (for xs λ x. h x ∷ []) f ≡ for xs (λ x. f (h x))
+unfolding for
+for-one [] h f = refl
+for-one {C = C} (x ∷ xs) h f = ap (λ (l : List C). f (h x) ++ l) (for-one xs h f)
+
+-- 9 n turns are n times nine
+pub nines : {B : Type 0} (f : ℕ → List B) (n : ℕ) → upTo (9 * n) ≡ for (upTo n) (λ i. for (upTo 9) λ k. (9 * i + k) ∷ []) → for (upTo (9 * n)) f ≡ for (upTo n) (λ i. for (upTo 9) λ k. f (9 * i + k))
+nines f n e =
+    ap (λ (is : List ℕ). for is f) e ∙ for-for (upTo n) (λ i. for (upTo 9) λ k. (9 * i + k) ∷ []) f
+    ∙ for-same (λ i. for (for (upTo 9) λ k. (9 * i + k) ∷ []) f) (λ i. for (upTo 9) λ k. f (9 * i + k)) (upTo n) (λ i _. for-one (upTo 9) (λ k. 9 * i + k) f)
 
 -- members of the two loops over numbers
 pub in-upTo : (n i : ℕ) → List·Memᴰ i (upTo n) → i < n
@@ -110,6 +133,14 @@ module _ (f : ℕ → Bool) where
   unfolding first
   first-by P [] p h = p
   first-by P (x ∷ xs) p h = by-test P (f x) (some x) (first f xs) (λ t. h x (List·Memᴰ·head refl)) (λ t. first-by P xs p (λ y k. h y (List·Memᴰ·tail k)))
+
+  pub all-both : (xs ys : List ℕ) → all f (xs ++ ys) ≡ (all f xs && all f ys)
+  all-both [] ys = refl
+  all-both (x ∷ xs) ys = ap (λ (b : Bool). f x && b) (all-both xs ys) ∙ assoc (f x)
+    where
+      assoc : (a : Bool) → (a && (all f xs && all f ys)) ≡ ((a && all f xs) && all f ys)
+      assoc true = refl
+      assoc false = refl
 
   pub all-append : (xs ys : List ℕ) → all f xs ≡ true → all f ys ≡ true → all f (xs ++ ys) ≡ true
   all-append xs ys p q = member-all f (xs ++ ys) (λ x k. ⊎-elim (all-member f xs p x) (all-member f ys q x) (List·Memᴰ·append-cases xs k))

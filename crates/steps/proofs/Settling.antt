@@ -20,7 +20,7 @@ use Rattle.steps.proofs.Steps.{take-under, take-length}
 -- ---- a sweep that changes nothing leaves nothing to do
 
 -- a loop that shrinks at each turn and ends where it began does nothing at any turn
-each-still : {A : Type 0} (f : A → List ℕ → List ℕ) → ((x : A) (m : List ℕ) → Under (f x m) m) → ((x : A) (m : List ℕ) → length (f x m) ≡ length m)
+pub each-still : {A : Type 0} (f : A → List ℕ → List ℕ) → ((x : A) (m : List ℕ) → Under (f x m) m) → ((x : A) (m : List ℕ) → length (f x m) ≡ length m)
     → (xs : List A) (m : List ℕ) → each f xs m ≡ m → (x : A) → List·Memᴰ x xs → f x m ≡ m
 unfolding each
 each-still f down long [] m e x k = absurd (List·Memᴰ·not-nil k)
@@ -44,7 +44,7 @@ pub record SettledIn (g m : List ℕ) (s : Sweeps) : Type 0 where
   pub goes : (j : ℕ) → j < s .sweeps - 1 → sweep g (swept g j m) ≢ swept g j m
 
 module _ (g : List ℕ) where
-  all-kinds : (k : Kind) → List·Memᴰ k kinds
+  pub all-kinds : (k : Kind) → List·Memᴰ k kinds
   all-kinds Lone = List·Memᴰ·head refl
   all-kinds Place = List·Memᴰ·tail (List·Memᴰ·head refl)
   all-kinds Pair = List·Memᴰ·tail (List·Memᴰ·tail (List·Memᴰ·head refl))

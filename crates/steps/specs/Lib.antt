@@ -14,3 +14,6 @@ pub mod Entries
 pub mod Fillings
 pub mod Demand2
 pub mod SinglesHold
+pub mod StepLists
+pub mod StepPromises
+pub mod code

@@ -2,7 +2,7 @@
 use Prim.Native.Nat.{ℕ}
 use lib.IntN.{ℤ, pos}
 use Rattle.stops.specs.declared.Stop.{Stop}
-use Rattle.stops.specs.declared.Stop.the-variants.{TextLength, OtherByte, BadClue, BadDigit, NoCell, TooFewBytes, RecordBytes, RecordEntry, NotFresh, BadMask, SheetLength, SheetCells, BadEntry, ClueCell, AlreadyEntered, NotEntered, RecordEntries, BadPercentage, BadSolution}
+use Rattle.stops.specs.declared.Stop.the-variants.{TextLength, OtherByte, BadClue, BadDigit, NoCell, TooFewBytes, RecordBytes, RecordEntry, NotFresh, BadMask, SheetLength, SheetCells, BadEntry, ClueCell, AlreadyEntered, NotEntered, RecordEntries, BadStep, TooManySteps, BadPercentage, BadSolution}
 
 pub record Row : Type 0 where
   pub number : ℕ
@@ -32,6 +32,9 @@ rowOf (AlreadyEntered n) = row 13 (pos n)
 rowOf (NotEntered n) = row 13 (pos n)
 -- document 02, F-8: "14, a move back of a record with entries, with the offset of its entry count"
 rowOf (RecordEntries z) = row 14 z
+-- document 02, F-10: "15, a step that names no instance, whose condition does not hold or that removes nothing, with the index of the first such step; 16, more than 729 steps, with their number"
+rowOf (BadStep z) = row 15 z
+rowOf (TooManySteps z) = row 16 z
 -- document 02, F-11: "percentage above 100, with the percentage"; "the solution does not pass the verifier, with detail 0"
 rowOf (BadPercentage n) = row 17 (pos n)
 rowOf BadSolution = row 18 (pos 0)

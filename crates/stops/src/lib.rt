@@ -39,6 +39,10 @@ pub enum Stop {
     NotEntered(u32),
     // The offset of the entry count of a record with entries, which was to be moved back.
     RecordEntries(i64),
+    // The index of the first step of a list that names no instance, whose condition does not hold or that removes nothing.
+    BadStep(i64),
+    // How many steps a list has, which are more than 729.
+    TooManySteps(i64),
     // A percentage above 100.
     BadPercentage(u32),
     // A solution that does not pass the verifier; nothing stands beside it.
@@ -85,6 +89,8 @@ pub fn number(stop: Stop) -> u8
         Stop::AlreadyEntered(_) => 13,
         Stop::NotEntered(_) => 13,
         Stop::RecordEntries(_) => 14,
+        Stop::BadStep(_) => 15,
+        Stop::TooManySteps(_) => 16,
         Stop::BadPercentage(_) => 17,
         Stop::BadSolution => 18,
     }
@@ -112,6 +118,8 @@ pub fn detail(stop: Stop) -> i64
         Stop::AlreadyEntered(cell) => cell as i64,
         Stop::NotEntered(cell) => cell as i64,
         Stop::RecordEntries(offset) => offset,
+        Stop::BadStep(index) => index,
+        Stop::TooManySteps(count) => count,
         Stop::BadPercentage(percentage) => percentage as i64,
         Stop::BadSolution => 0,
     }

@@ -1,9 +1,9 @@
 //! Compares the engine, the plain implementation and the Rust original.
 //!
-//!     compare --seed N --seconds S [--lists N] [--records N]
+//!     compare --seed N --seconds S [--lists N] [--records N] [--settlings N]
 //!
 //! Runs until the seconds have passed (or, with --lists, until so many lists with ported calls were compared). With --records so many records
-//! are compared and nothing else. The status is 0 where no difference was found; the last line says what was compared and how often. A
+//! are compared and nothing else, with --settlings so many boards settled, each with its step list. The status is 0 where no difference was found; the last line says what was compared and how often. A
 //! difference is printed with its smallest case.
 
 use std::fmt::Display;
@@ -19,14 +19,16 @@ use sudoku_host::round_cases as rounds;
 use sudoku_host::sheet_cases as sheets;
 use sudoku_host::shrink::{shrunk, Smaller};
 use sudoku_host::sides::{steps, Call, Engine, Original, Plain, Side, PORTED, STEPS};
+use sudoku_host::step_cases as lists;
 use sudoku_host::text_cases as texts;
-use sudoku_host::{abi, counted, digits, grids, plain, read, set, single_candidate, verify, SetAnswer, SetCall, Stop, ABI};
+use sudoku_host::{abi, counted, digits, grids, plain, read, set, single_candidate, step_lists, verify, SetAnswer, SetCall, Stop, ABI};
 
 struct Options {
     seed: u64,
     seconds: u64,
     lists: u64,
     records: Option<u64>,
+    settlings: Option<u64>,
 }
 
 #[derive(Default)]
@@ -54,24 +56,31 @@ struct Counts {
     changed: u64,
     sweeps: u64,
     relabelled: u64,
+    settled: u64,
+    from_fresh: u64,
+    step_lists: u64,
+    bad_lists: u64,
 }
 
 impl std::fmt::Display for Counts {
     fn fmt(&self, out: &mut std::fmt::Formatter) -> std::fmt::Result {
         let Counts { sets, grids, texts, lists, calls, entry_calls, boards, damaged, runs, pairs, fillings, entries, .. } = self;
         let Counts { records, bytes, moves, written, sheets, canonical, cards, rounds, changed, sweeps, relabelled, .. } = self;
+        let Counts { settled, from_fresh, step_lists, bad_lists, .. } = self;
         write!(out, "{sets} set calls, {grids} filled grids, {texts} texts, ")?;
         write!(out, "{lists} lists of {calls} ported calls and {entry_calls} enterings and rubbings out, ")?;
         write!(out, "{boards} boards through the wide passes, {damaged} damaged boards, {runs} runs of lists, {pairs} pairs of lists settled, ")?;
         write!(out, "{fillings} lists with enterings held to a filling, {entries} pairs of lists that leave the same entries, ")?;
         write!(out, "{records} boards written as records and read back, {bytes} damaged and random records read, {moves} old and new records moved, ")?;
         write!(out, "{written} texts written, {sheets} sheets read, {canonical} canonical sheets written, {cards} cards, {rounds} trial rounds, ")?;
-        write!(out, "{changed} boards settled in other clothes, {sweeps} of them in another number of sweeps, {relabelled} lists relabelled")
+        write!(out, "{changed} boards settled in other clothes, {sweeps} of them in another number of sweeps, {relabelled} lists relabelled, ")?;
+        write!(out, "{settled} boards settled with their step lists, {from_fresh} of them from the fresh board and their lists checked, ")?;
+        write!(out, "{step_lists} step lists on other masks, {bad_lists} damaged ones")
     }
 }
 
 fn options() -> Options {
-    let mut found = Options { seed: 1, seconds: 60, lists: u64::MAX, records: None };
+    let mut found = Options { seed: 1, seconds: 60, lists: u64::MAX, records: None, settlings: None };
     let words: Vec<String> = std::env::args().skip(1).collect();
     for pair in words.chunks(2) {
         let number = pair.get(1).and_then(|word| word.parse().ok());
@@ -80,6 +89,7 @@ fn options() -> Options {
             ("--seconds", Some(number)) => found.seconds = number,
             ("--lists", Some(number)) => found.lists = number,
             ("--records", Some(number)) => found.records = Some(number),
+            ("--settlings", Some(number)) => found.settlings = Some(number),
             _ => usage(),
         }
     }
@@ -87,7 +97,7 @@ fn options() -> Options {
 }
 
 fn usage() -> ! {
-    eprintln!("compare --seed N --seconds S [--lists N] [--records N]");
+    eprintln!("compare --seed N --seconds S [--lists N] [--records N] [--settlings N]");
     std::process::exit(2)
 }
 
@@ -110,17 +120,19 @@ fn main() {
 
 fn run(options: &Options, counts: &mut Counts) -> Result<(), String> {
     let end = Instant::now() + Duration::from_secs(options.seconds);
-    if options.records.is_none() {
+    if options.records.is_none() && options.settlings.is_none() {
         all_sets(counts)?;
         published(counts)?;
     }
     let mut progress = Progress::new();
     let mut round = 0;
-    while Instant::now() < end && counts.lists < options.lists && counts.records < options.records.unwrap_or(u64::MAX) {
+    let most = |number: Option<u64>| number.unwrap_or(u64::MAX);
+    while Instant::now() < end && counts.lists < options.lists && counts.records < most(options.records) && counts.settled < most(options.settlings) {
         let mut random = Random::of_case(options.seed, round);
-        match options.records {
-            Some(_) => a_record(&mut random, counts)?,
-            None => a_round(round, &mut random, counts)?,
+        match (options.records, options.settlings) {
+            (Some(_), _) => a_record(&mut random, counts)?,
+            (None, Some(_)) => a_settled_board(&mut random, counts)?,
+            (None, None) => a_round(round, &mut random, counts)?,
         }
         round += 1;
         progress.show(counts);
@@ -153,6 +165,10 @@ fn a_round(round: u64, random: &mut Random, counts: &mut Counts) -> Result<(), S
         0 => a_changed_board(random, counts)?,
         2 => a_relabelled_list(random, counts)?,
         _ => {}
+    }
+    a_settled_board(random, counts)?;
+    if round % 8 == 5 {
+        some_step_lists(random, counts)?;
     }
     a_trial_round(random, counts)
 }
@@ -403,6 +419,30 @@ fn a_trial_round(random: &mut Random, counts: &mut Counts) -> Result<(), String>
     counts.rounds += 1;
     sound(&round, "a trial round, engine and plain", &rounds::round_differs)?;
     sound(&round, "a trial round's solution on the engine", &rounds::solution_lost)
+}
+
+/// Settling with its step list; where it began on the fresh board, that list checked.
+fn a_settled_board(random: &mut Random, counts: &mut Counts) -> Result<(), String> {
+    let case = lists::to_settle(random);
+    counts.settled += 1;
+    sound(&case, "settling and its step list, engine and plain", &|case| lists::settled_differs(plain::settle, case))?;
+    if !lists::is_fresh(&lists::reached(&case)) {
+        return Ok(());
+    }
+    counts.from_fresh += 1;
+    sound(&case, "settling's own list on the engine", &lists::own_refused)
+}
+
+/// Settling's own list, on other masks and on a board that may be refused, and damaged ones.
+fn some_step_lists(random: &mut Random, counts: &mut Counts) -> Result<(), String> {
+    let differ = |list: &lists::StepList| lists::answers_differ(step_lists::check_steps, list);
+    let own = lists::own(random);
+    counts.step_lists += 1;
+    sound(&own, "a step list, engine and plain", &differ)?;
+    let mut others: Vec<_> = (0..8).map(|_| lists::damaged(random, &own)).collect();
+    others.push(lists::refused(random));
+    counts.bad_lists += others.len() as u64;
+    others.iter().try_for_each(|list| sound(list, "a step list, engine and plain", &differ))
 }
 
 fn sound<T: Smaller + Display>(case: &T, what: &str, fault: &dyn Fn(&T) -> Option<String>) -> Result<(), String> {

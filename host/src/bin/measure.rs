@@ -3,8 +3,8 @@
 //!     measure SIDE CALL ROUNDS [BOARDS]
 //!
 //! SIDE is original, plain or engine; CALL a step number, 255 for no step, or one of `verify`, `repeat` (the verifier where the second cell
-//! repeats the first), `read`, `open`, `count`, `enter`, `rub_out`, `sheet`, `canonical` (a canonical sheet written), `record`, `card` and
-//! `setN` (0 insert, 1 remove, 2 contains, 3 len, 4 single_candidate). A round is 64 boards; for a step of the engine the boards of the file
+//! repeats the first), `read`, `open`, `count`, `enter`, `rub_out`, `sheet`, `canonical` (a canonical sheet written), `record`, `card`,
+//! `settle` (settling with its step list), `steps` (that list checked) and `setN` (0 insert, 1 remove, 2 contains, 3 len, 4 single_candidate). A round is 64 boards; for a step of the engine the boards of the file
 //! BOARDS in their place, where that is named: a line each, 81 clue characters, a space and 81 masks of three hexadecimal digits. What a call
 //! costs is the difference of two runs, divided by the difference of their calls; for a step also less what making the board costs, which 255
 //! has alone:
@@ -18,8 +18,8 @@ use sudoku_host::random::Random;
 use sudoku_host::sheet_cases::{ruled, BOXED};
 use sudoku_host::sides::{Call, Original, Plain, Side};
 use sudoku_host::records::{self, Form};
-use sudoku_host::{card, clue_count, enter, grids, open, plain, read, read_record, read_sheet, rub_out, set, step, verify, write_record, write_sheet};
-use sudoku_host::{Board, Clues, SetCall, NO_ENTRIES};
+use sudoku_host::{card, check_steps, clue_count, enter, grids, open, plain, read, read_record, read_sheet, rub_out, set, settle, step, step_lists, verify};
+use sudoku_host::{write_record, write_sheet, Board, Clues, SetCall, NO_ENTRIES};
 
 const BOARDS: usize = 64;
 
@@ -44,6 +44,8 @@ fn main() {
         ("plain" | "engine", "canonical") => canonical(side, &mut random, rounds),
         ("plain" | "engine", "record") => recording(side, &mut random, rounds),
         ("plain" | "engine", "card") => carding(side, &mut random, rounds),
+        ("plain" | "engine", "settle") => settling(side, &mut random, rounds),
+        ("plain" | "engine", "steps") => checking(side, &mut random, rounds),
         (_, call) if call.starts_with("set") => setting(side, call[3..].parse().unwrap_or_else(|_| usage()), rounds),
         ("original", step) => stepping::<Original>(&mut random, number(step), rounds),
         ("plain", step) => stepping::<Plain>(&mut random, number(step), rounds),
@@ -53,7 +55,7 @@ fn main() {
 }
 
 fn usage() -> ! {
-    eprintln!("measure original|plain|engine STEP|verify|repeat|read|open|count|enter|rub_out|sheet|canonical|record|card|setN ROUNDS [BOARDS]");
+    eprintln!("measure original|plain|engine STEP|verify|repeat|read|open|count|enter|rub_out|sheet|canonical|record|card|settle|steps|setN ROUNDS [BOARDS]");
     std::process::exit(2)
 }
 
@@ -265,6 +267,36 @@ fn carding(side: &str, random: &mut Random, rounds: usize) {
             match side {
                 "engine" => drop(black_box(card(black_box(text.as_bytes()), &mut bytes))),
                 _ => drop(black_box(plain::card(black_box(text.as_bytes())))),
+            }
+        }
+    }
+}
+
+/// Settling with its step list, from the fresh board; the original has none.
+fn settling(side: &str, random: &mut Random, rounds: usize) {
+    let mut bytes = [0; 4374];
+    for Board { clues, .. } in boards(random) {
+        let fresh = plain::afresh(&clues, &NO_ENTRIES);
+        for _ in 0..rounds {
+            let mut board = fresh;
+            match side {
+                "engine" => drop(black_box(settle(black_box(&mut board), &mut bytes))),
+                _ => drop(black_box(plain::settle(black_box(&board)))),
+            }
+        }
+    }
+}
+
+/// The step list of settling, checked.
+fn checking(side: &str, random: &mut Random, rounds: usize) {
+    for Board { clues, .. } in boards(random) {
+        let fresh = plain::afresh(&clues, &NO_ENTRIES);
+        let (_, list) = plain::settle(&fresh).unwrap();
+        for _ in 0..rounds {
+            let mut board = fresh;
+            match side {
+                "engine" => drop(black_box(check_steps(black_box(&list), &mut board))),
+                _ => drop(black_box(step_lists::check_steps(&board, black_box(&list)))),
             }
         }
     }

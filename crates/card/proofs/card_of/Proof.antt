@@ -39,7 +39,7 @@ unfolding cardFor outcome reportsOf
 returns c =
     let counted = c .before .before in
     let settled = counted .before in
-    let found = settled .before .before .before in
+    let found = settled .before .before .before .before in
     let made = found .before .before .before in
     let given = made .before .before in
     let g = givensOf (given .before .args .clues .now) in
@@ -48,7 +48,7 @@ returns c =
     let masks : made .fresh-masks .result ≡ f = made .fresh-masks .ensures ∙ ap fresh is in
     let reports : found .singles .result ≡ reportsOf (nakedSingles g f ++ hiddenSingles g f) = found .singles .ensures ∙ rw (is, masks) in
     let s = settled .settle .ensures in
-    let left : settled .settle .last .1 .0 ≡ settle g f .left = s .1 .1 ∙ rw (is, masks) in
+    let left : settled .settle .last .1 .0 ≡ settle g f .left = s .1 .1 .0 ∙ rw (is, masks) in
     let sweeps : settled .settle .result .sweeps ≡ settle g f .sweeps = s .0 ∙ rw (is, masks) in
     let removed : settled .settle .result .removed ≡ removedBy f (settle g f .left) = s .1 .0 ∙ rw (masks, left) in
     let clues : counted .count-clues .result ≡ clueCount g cells = counted .count-clues .ensures in

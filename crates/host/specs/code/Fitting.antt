@@ -1,9 +1,15 @@
 -- The value of an answer fits an `i64`.
-use lib.IntN.{ℤ}
+use lib.IntN.{ℤ, pos}
 use mir.Syntax.{w64}
 use mir.Val.{SFits}
 use Rattle.stops.specs.Answer.{Answer, gives, stop}
+use Rattle.passes.specs.declared.Counts.{Counts}
 
 abbrev pub Fitting : Answer ℤ → Type 0
 Fitting (gives z) = SFits w64 z
 Fitting (stop s) = Unit {0}
+
+-- what settling counts
+abbrev pub CountsFit : Answer Counts → Type 0
+CountsFit (gives k) = SFits w64 (pos (k .sweeps)) × SFits w64 (pos (k .removed))
+CountsFit (stop s) = Unit {0}

@@ -16,7 +16,7 @@ lanes-of-requires-2 c κs = search needs
 
 claiming-lanes-requires : tie.Need-claiming-lanes-requires
 claiming-lanes-requires c κs =
-    let second = c .before .before .before in
+    let second = c .before .before .before .before in
     let first = second .before .before in
     record { doors = first .lanes-of .ensures ∙ ap laid (first .before .before .doors .ensures); masks = second .lanes-of2 .ensures }
 

@@ -1,42 +1,106 @@
--- `locked::locked_digit` meets its contract. Assumes nothing.
-use mathlib.Core.Path.{_≡_, sym, _∙_}
-use mathlib.Core.List.{List}
-use Prim.Native.Nat.{ℕ, _<_}
+-- `locked::locked_digit` meets its contract. The invariant: those that are left still make the whole, of the masks and of the log, and the unit holds the digit where it did. Assumes nothing.
+use mathlib.Core.Path.{_≡_, sym, ap, _∙_}
+use mathlib.Core.List.{List, [], _∷_}
+use Prim.Native.Nat.{ℕ, _-_, _≤_, _<_}
+use native.Mathlib.Omega.{arith}
 use borrow.Author.Needs.{needs}
-use Rattle.cells.specs.code.Meets.{meetings, meetTurns}
+use Rattle.grid.proofs.Lists.{turn-done, turns-over}
+use Rattle.steps.specs.Loops.{each, for, range, upTo}
+use Rattle.steps.specs.Instances.{Instance}
+use Rattle.steps.specs.code.Logs.{logAfter}
+use Rattle.steps.proofs.StepLogs.{log-done, log-over}
+use Rattle.cells.specs.code.Meets.{meetings, meetTurn, meetTurns}
 use Rattle.cells.specs.code.Places.{heldPlaces}
-use Rattle.cells.proofs.Meetings.{three-boxes, six-lines}
-use Rattle.locked.specs.code.Locked.{lockedDigit}
-use Rattle.locked.proofs.LockedTurns.{locked-digit}
+use Rattle.locked.specs.code.Locked.{metInstance, digitInstances, lockedDigit}
+use Rattle.locked.proofs.LockedTurns.{keeps, locked-digit, instance-taken}
 use Rattle.locked.proofs.locked_digit.Statement.{statement}
 use Rattle.locked.proofs.locked_digit.Tie as tie
 
--- all that meet the unit, n of them
-turned : (g : List ℕ) (u d : ℕ) → u < 27 → d < 9 → (m : List ℕ) {n held : ℕ} → meetings u ≡ n → held ≡ heldPlaces m u d → meetTurns g u n d held m ≡ lockedDigit g u d m
-turned g u d h l m many is = rw (← many, is) (sym (locked-digit g u d h l m))
+abbrev block : ℕ → ℕ → ℕ → List Instance
+block u d k = metInstance u d k ∷ []
 
-held-places-requires : tie.Need-held-places-requires
+abbrev Inv-loop : tie.InvT-loop
+Inv-loop givens masks₀ log₀ unit digit held count nth₀ masks log nth =
+    (nth ≤ count) × (held ≡ heldPlaces masks unit digit) × (each (meetTurn givens unit digit held) (range (count - nth) nth) masks ≡ lockedDigit givens unit digit masks₀)
+    × (logAfter givens (for (range (count - nth) nth) (block unit digit)) masks log ≡ logAfter givens (digitInstances unit digit) masks₀ log₀)
+
+abbrev μ-loop : tie.MeasureT-loop
+μ-loop givens masks₀ log₀ unit digit held count nth₀ masks log nth = count - nth
+
+held-places-requires : tie.Need-held-places-requires Inv-loop μ-loop
 held-places-requires c κs = search needs
 
-lose-boxes-requires : tie.Need-lose-boxes-requires
-lose-boxes-requires c κs = search needs
+meetings-requires : tie.Need-meetings-requires Inv-loop μ-loop
+meetings-requires c κs = search needs
 
-lose-lines-requires : tie.Need-lose-lines-requires
-lose-lines-requires c κs = search needs
+loop-holds : tie.Need-loop-holds Inv-loop μ-loop
+unfolding meetTurns digitInstances
+loop-holds c =
+    let start = c .before .before .before in
+    let a = start .args in
+    let g = a .givens .now in
+    let held = c .before .held-places .ensures in
+    let all : c .meetings .result - 0 ≡ meetings (a .unit) = omega (arith, c .meetings .ensures) in (
+      omega arith,
+      held,
+      ap (λ (n : ℕ). meetTurns g (a .unit) n (a .digit) (c .before .held-places .result) (a .masks .now)) all
+          ∙ ap (λ (x : ℕ). meetTurns g (a .unit) (meetings (a .unit)) (a .digit) x (a .masks .now)) held ∙ sym (locked-digit g (a .unit) (a .digit) (start .pre .0) (start .pre .1) (a .masks .now)),
+      ap (λ (n : ℕ). logAfter g (for (upTo n) (block (a .unit) (a .digit))) (a .masks .now) (a .log .now)) all,
+    )
 
-returns : tie.Need-returns
+locked-at-requires : tie.Need-locked-at-requires Inv-loop μ-loop
+locked-at-requires c κs =
+    let l = c .before .before .before .loop in
+    let counted = c .before .before .before .before in
+    let start = counted .before .before .before in
+    (start .pre .0, start .pre .1, omega (arith, counted .meetings .ensures), l .inv .1)
+
+add-nth : tie.Need-add-nth Inv-loop μ-loop
+add-nth c = omega arith
+
+loop-less : tie.Need-loop-less Inv-loop μ-loop
+loop-less c = omega arith
+
+loop-again : tie.Need-loop-again Inv-loop μ-loop
+unfolding each
+loop-again c =
+    let l = c .before .before .before .before .loop in
+    let counted = c .before .before .before .before .before in
+    let start = counted .before .before .before in
+    let a = start .args in
+    let g = a .givens .now in
+    let held = counted .before .held-places .result in
+    let few : l .nth < meetings (a .unit) = omega (arith, counted .meetings .ensures) in
+    let done = c .locked-at .ensures .0 in (
+      omega arith,
+      l .inv .1 ∙ sym (keeps g (a .unit) (a .digit) (start .pre .0) (start .pre .1) held (l .nth) (l .masks) few) ∙ ap (λ (m : List ℕ). heldPlaces m (a .unit) (a .digit)) (sym done),
+      turn-done (meetTurn g (a .unit) (a .digit) held) (counted .meetings .result) (l .nth) (omega arith) done (l .inv .2),
+      log-done g (block (a .unit) (a .digit)) (counted .meetings .result) (l .nth) (l .masks) (l .log) (omega arith)
+          (done ∙ sym (instance-taken g (a .unit) (a .digit) (l .nth) (start .pre .0) (start .pre .1) few (l .masks) (l .inv .1))) (c .locked-at .ensures .1) (l .inv .3),
+    )
+
+returns : tie.Need-returns Inv-loop μ-loop
 returns c =
-    let test = c .before .before in
-    let start = test .before .before .before in
-    let a = start .args in
-    c .lose-boxes .ensures ∙ turned (a .givens .now) (a .unit) (a .digit) (start .pre .0) (start .pre .1) (a .masks .now) (three-boxes (test .if1 .taken)) (test .before .held-places .ensures)
-
-returns-2 : tie.Need-returns-2
-returns-2 c =
-    let test = c .before .before in
-    let start = test .before .before .before in
-    let a = start .args in
-    c .lose-lines .ensures ∙ turned (a .givens .now) (a .unit) (a .digit) (start .pre .0) (start .pre .1) (a .masks .now) (six-lines (test .if1 .left)) (test .before .held-places .ensures)
+    let l = c .before .loop in
+    let counted = c .before .before in
+    let a = counted .before .before .before .args in
+    let g = a .givens .now in
+    let n = counted .meetings .result in (
+      turns-over (meetTurn g (a .unit) (a .digit) (counted .before .held-places .result)) n (l .nth) (c .loop-test .left) (l .inv .2),
+      log-over g (block (a .unit) (a .digit)) n (l .nth) (l .masks) (l .log) (c .loop-test .left) (l .inv .3),
+    )
 
 pub locked-digit-spec : {M : Type 1} → statement M
-locked-digit-spec = tie.close (tie.spec held-places-requires lose-boxes-requires lose-lines-requires returns returns-2)
+locked-digit-spec =
+    tie.close
+    (tie.spec
+    Inv-loop
+    μ-loop
+    held-places-requires
+    meetings-requires
+    loop-holds
+    locked-at-requires
+    add-nth
+    loop-less
+    loop-again
+    returns)

@@ -1,24 +1,30 @@
--- `locked::locked_unit` meets its contract. The invariant: the digits that are left still make the whole, and of them the masks hold what they held. Assumes nothing.
-use mathlib.Core.Path.{sym, _∙_}
+-- `locked::locked_unit` meets its contract. The invariant: the digits that are left still make the whole, of the masks and of the log, and of them the masks hold what they held. Assumes nothing.
+use mathlib.Core.Path.{_≡_, refl, sym, _∙_}
 use mathlib.Core.Logic.{⊎-elim}
 use Prim.Native.Nat.{_-_}
 use native.Mathlib.Omega.{arith}
 use borrow.Author.Needs.{needs}
+use Rattle.steps.specs.Loops.{for, range}
+use Rattle.steps.specs.code.Logs.{logAfter}
+use Rattle.steps.proofs.StepLogs.{log-idle, log-done, log-over}
 use Rattle.lanes.specs.code.Lanes.{Alike}
 use Rattle.lanes.proofs.Turns.{Going, going-start, going-on, going-past, going-end}
-use Rattle.locked.specs.code.Locked.{lockedDigit, lockedUnit}
+use Rattle.locked.specs.code.Locked.{digitInstances, unitInstances, lockedDigit, lockedUnit}
+use Rattle.locked.proofs.LockedTurns.{digit-each}
 use Rattle.locked.proofs.LockedDue.{digits-parted}
 use Rattle.locked.proofs.locked_unit.Statement.{statement}
 use Rattle.locked.proofs.locked_unit.Tie as tie
 
 abbrev Inv-loop : tie.InvT-loop
-Inv-loop givens masks₀ unit due digit₀ masks digit = Going Alike (lockedDigit givens unit) masks₀ masks digit
+Inv-loop givens masks₀ log₀ unit due digit₀ masks log digit =
+    Going Alike (lockedDigit givens unit) masks₀ masks digit × (logAfter givens (for (range (9 - digit) digit) (digitInstances unit)) masks log ≡ logAfter givens (unitInstances unit) masks₀ log₀)
 
 abbrev μ-loop : tie.MeasureT-loop
-μ-loop givens masks₀ unit due digit₀ masks digit = 9 - digit
+μ-loop givens masks₀ log₀ unit due digit₀ masks log digit = 9 - digit
 
 loop-holds : tie.Need-loop-holds Inv-loop μ-loop
-loop-holds c = going-start (digits-parted (c .args .givens .now) (c .args .unit)) (c .args .masks .now)
+unfolding unitInstances
+loop-holds c = (going-start (digits-parted (c .args .givens .now) (c .args .unit)) (c .args .masks .now), refl)
 
 has-digit-requires : tie.Need-has-digit-requires Inv-loop μ-loop
 has-digit-requires c κs = search needs
@@ -38,13 +44,26 @@ loop-again c =
     let start = c .before .before .before .before in
     let a = start .args in
     let parts = digits-parted (a .givens .now) (a .unit) in
-    ⊎-elim (λ w. going-on parts (l .inv) (omega arith) (w .3 ∙ w .2 .ensures))
-    (λ w. going-past parts (l .inv) (omega arith) (w .1) (start .pre .1 .idle (l .digit) (omega arith) (sym (c .before .has-digit .ensures) ∙ w .0 .left) (l .masks) (l .inv .same (l .digit) (omega arith) (omega arith))))
+    let g = a .givens .now in
+    let same = digit-each g (a .unit) (l .digit) (start .pre .0) (l .masks) in
+    let go = log-done g (digitInstances (a .unit)) 9 (l .digit) (l .masks) (l .log) in
+    ⊎-elim
+    (λ w. (going-on parts (l .inv .0) (omega arith) (w .4 ∙ w .3 .ensures .0), go (omega arith) (w .4 ∙ w .3 .ensures .0 ∙ sym same) (w .5 ∙ w .3 .ensures .1) (l .inv .1)))
+    (λ w.
+    let idle = start .pre .1 .idle (l .digit) (omega arith) (sym (c .before .has-digit .ensures) ∙ w .0 .left) (l .masks) (l .inv .0 .same (l .digit) (omega arith) (omega arith)) in (
+      going-past parts (l .inv .0) (omega arith) (w .1) idle,
+      go (omega arith) (w .1 ∙ sym (same ∙ idle)) (w .2 ∙ sym (log-idle g (digitInstances (a .unit) (l .digit)) (l .masks) (l .log) (same ∙ idle))) (l .inv .1),
+    ))
     (c .if1 .came)
 
 returns : tie.Need-returns Inv-loop μ-loop
 unfolding lockedUnit
-returns c = going-end (digits-parted (c .before .before .args .givens .now) (c .before .before .args .unit)) (c .before .loop .inv) (c .loop-test .left)
+returns c =
+    let l = c .before .loop in
+    let a = c .before .before .args in (
+      going-end (digits-parted (a .givens .now) (a .unit)) (l .inv .0) (c .loop-test .left),
+      log-over (a .givens .now) (digitInstances (a .unit)) 9 (l .digit) (l .masks) (l .log) (c .loop-test .left) (l .inv .1),
+    )
 
 pub locked-unit-spec : {M : Type 1} → statement M
 locked-unit-spec =

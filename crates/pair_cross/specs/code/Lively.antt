@@ -6,9 +6,10 @@ use lib.Bits.{bitAnd}
 use lib.Dec.{eqb}
 use Rattle.candidates.specs.Masks.{minus, union, tail}
 use Rattle.steps.specs.Boards.{at}
-use Rattle.steps.specs.Loops.{each, upTo, above}
+use Rattle.steps.specs.Instances.{Instance}
+use Rattle.steps.specs.Loops.{each, for, upTo, above}
 use Rattle.lanes.specs.code.Lanes.{laneMasks, SameOn, Skips}
-use Rattle.pair_cross.specs.code.Twos.{reachOf, frameTaken}
+use Rattle.pair_cross.specs.code.Twos.{reachOf, frameTaken, frameInstances}
 use Rattle.pair_cross.specs.declared.lively.Tally.{Tally}
 use Rattle.pair_cross.specs.declared.twos.Frame.the-variants.{Unit}
 
@@ -75,6 +76,9 @@ pairTurn g f k = frameTaken g (Unit (9 * f + k))
 
 unfoldable pub pairFamily : List ℕ → ℕ → List ℕ → List ℕ
 pairFamily g f m = each (pairTurn g f) (upTo 9) m
+
+unfoldable pub familyInstances : ℕ → List Instance
+familyInstances f = for (upTo 9) λ k. frameInstances (Unit (9 * f + k))
 
 -- where a set holds nothing, the turn of its unit is idle
 abbrev pub PairSkips : List ℕ → List ℕ → ℕ → List ℕ → Type 0

@@ -10,8 +10,8 @@ use lib.ListN.{getD}
 use Rattle.candidates.specs.Masks.{minus, union, count, tail}
 use Rattle.grid.specs.Units.{unitCell}
 use Rattle.steps.specs.Boards.{at, isOpen}
-use Rattle.steps.specs.Instances.{both, pairStep, crossStep}
-use Rattle.steps.specs.Loops.{each, upTo}
+use Rattle.steps.specs.Instances.{Instance, pair, cross, exchanged, both, pairStep, crossStep}
+use Rattle.steps.specs.Loops.{each, for, upTo, above}
 use Rattle.steps.specs.Steps.{Step, loseAll, stepTaken}
 use Rattle.cells.specs.code.Places.{allMasks, heldPlaces}
 use Rattle.pair_cross.specs.declared.twos.Frame.{Frame}
@@ -48,6 +48,11 @@ Framed (Lines f d) = FirstLine f × (d < 9)
 abbrev pub frameStep : Frame → ℕ → ℕ → ℕ → ℕ → Step
 frameStep (Unit u) i j a b = pairStep u (unitCell u i) (unitCell u j) a b
 frameStep (Lines f d) i j a b = crossStep d (f + i) (f + j) (9 - f + a) (9 - f + b)
+
+-- the instance whose step it is: of rows Cross, of columns Cross exchanged
+abbrev pub frameInstance : Frame → ℕ → ℕ → ℕ → ℕ → Instance
+frameInstance (Unit u) i j a b = pair u i j a b
+frameInstance (Lines f d) i j a b = cond (eqb f 0) (cross d i j a b) (exchanged d i j a b)
 
 -- what line i holds, clue cells too
 abbrev pub lineHeld : List ℕ → Frame → ℕ → ℕ
@@ -91,3 +96,20 @@ frameTaken g F m = each (λ p. linesTaken g F (firstOf p) (secondOf p)) (upTo 36
 
 unfoldable pub crossLines : List ℕ → ℕ → List ℕ → List ℕ
 crossLines g f m = each (λ d. frameTaken g (Lines f d)) (upTo 9) m
+
+-- ---- the instances of the loops, in their order
+
+-- of lines i and j
+unfoldable pub linesInstances : Frame → ℕ → ℕ → List Instance
+linesInstances F i j = for (upTo 36) λ q. frameInstance F i j (firstOf q) (secondOf q) ∷ []
+
+-- of line i and those above it
+abbrev pub lineInstances : Frame → ℕ → List Instance
+lineInstances F i = for (above i 9) (linesInstances F i)
+
+unfoldable pub frameInstances : Frame → List Instance
+frameInstances F = for (upTo 9) (lineInstances F)
+
+-- of each digit, for rows or columns from the first one
+unfoldable pub crossInstances : ℕ → List Instance
+crossInstances f = for (upTo 9) λ d. frameInstances (Lines f d)

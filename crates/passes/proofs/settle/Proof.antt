@@ -20,12 +20,12 @@ total-requires-2 c κs = search needs
 
 -- how many candidates are left
 left-total : (c : tie.After-total2)
-    → c .total2 .result ≡ total (settle (c .before .before .before .before .before .before .args .givens .now) (c .before .before .before .before .before .before .args .masks .now) .left)
-left-total c = c .total2 .ensures ∙ ap total (c .before .before .before .sweep-on .ensures .1)
+    → c .total2 .result ≡ total (settle (c .before .before .before .before .before .before .before .args .givens .now) (c .before .before .before .before .before .before .before .args .masks .now) .left)
+left-total c = c .total2 .ensures ∙ ap total (c .before .before .before .sweep-on .ensures .1 .0)
 
-sub-t9 : tie.Need-sub-t9
-sub-t9 c =
-    let a = c .before .before .before .before .before .before .args in
+sub-t11 : tie.Need-sub-t11
+sub-t11 c =
+    let a = c .before .before .before .before .before .before .before .args in
     omega (arith, left-total c, c .before .total .ensures, settle-fewer (a .givens .now) 730 (a .masks .now))
 
 returns : tie.Need-returns
@@ -36,4 +36,4 @@ returns c =
 pub settle-spec : {M : Type 1} → statement M
 settle-spec =
     tie.close
-    (tie.spec sweep-on-requires total-requires total-requires-2 sub-t9 returns)
+    (tie.spec sweep-on-requires total-requires total-requires-2 sub-t11 returns)

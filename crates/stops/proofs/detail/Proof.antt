@@ -82,6 +82,12 @@ enum-known-stop-17 c = search needs
 enum-known-stop-18 : tie.Need-enum-known-stop-18
 enum-known-stop-18 c = search needs
 
+enum-known-stop-19 : tie.Need-enum-known-stop-19
+enum-known-stop-19 c = search needs
+
+enum-known-stop-20 : tie.Need-enum-known-stop-20
+enum-known-stop-20 c = search needs
+
 cast-result-6 : tie.Need-cast-result-6
 cast-result-6 c = search needs
 
@@ -140,10 +146,16 @@ returns-17 : tie.Need-returns-17
 returns-17 c = beside (c .before .stop17 .given .1) (search needs) refl
 
 returns-18 : tie.Need-returns-18
-returns-18 c = beside (c .before .stop18 .given .1) (small (omega (arith, c .known-told18 .given .0 .1))) refl
+returns-18 c = beside (c .before .stop18 .given .1) (search needs) refl
 
 returns-19 : tie.Need-returns-19
-returns-19 c = beside (c .enum-told .given .1) refl refl
+returns-19 c = beside (c .before .stop19 .given .1) (search needs) refl
+
+returns-20 : tie.Need-returns-20
+returns-20 c = beside (c .before .stop20 .given .1) (small (omega (arith, c .known-told20 .given .0 .1))) refl
+
+returns-21 : tie.Need-returns-21
+returns-21 c = beside (c .enum-told .given .1) refl refl
 
 pub detail-spec : {M : Type 1} → statement M
 detail-spec =
@@ -172,6 +184,8 @@ detail-spec =
     cast-result-5
     enum-known-stop-17
     enum-known-stop-18
+    enum-known-stop-19
+    enum-known-stop-20
     cast-result-6
     enum-told
     returns
@@ -192,4 +206,6 @@ detail-spec =
     returns-16
     returns-17
     returns-18
-    returns-19)
+    returns-19
+    returns-20
+    returns-21)

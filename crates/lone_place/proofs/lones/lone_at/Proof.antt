@@ -1,9 +1,18 @@
 -- `lone_place::lones::lone_at` meets its contract. Assumes nothing.
 use mathlib.Core.Path.{_≡_, sym, ap, _∙_}
+use mathlib.Core.List.{List}
 use Prim.Native.Nat.{ℕ}
+use native.Mathlib.Omega.{arith}
 use borrow.Author.Needs.{needs}
+use borrow.Author.Tests.{eq-eqb, ne-eqb}
 use lib.Dec.{eqb}
 use Rattle.candidates.specs.Masks.{count, single}
+use Rattle.steps.specs.Boards.{sameMasks}
+use Rattle.steps.specs.Instances.{lone}
+use Rattle.steps.specs.Passes.{instanceTaken}
+use Rattle.steps.specs.StepLists.{stepBytes}
+use Rattle.steps.proofs.Masks.{same-eq}
+use Rattle.steps.proofs.StepLogs.{log-one, log-none}
 use Rattle.cells.proofs.NineBits.{place-is}
 use Rattle.lone_place.specs.code.Turns.{peersLose}
 use Rattle.lone_place.proofs.Taking.{loneTest, lone-taken, lone-left}
@@ -28,6 +37,12 @@ is-none-requires c κs = search needs
 lose-peers-requires : tie.Need-lose-peers-requires
 lose-peers-requires c κs = search needs
 
+add-note : tie.Need-add-note
+add-note c = omega arith
+
+note-requires : tie.Need-note-requires
+note-requires c κs = omega arith
+
 -- the digit's mask
 one : (c : tie.After-digit-mask) → c .digit-mask .result ≡ single (c .before .args .digit)
 one c = c .digit-mask .ensures ∙ place-is (c .before .args .digit) (c .before .pre .1)
@@ -38,18 +53,50 @@ tested c =
     let is-one = one (c .before .before .before .before .before) in
     c .is-none .ensures ∙ ap (λ (x : ℕ). eqb (count x) 0) (cc)
 
-returns : tie.Need-returns
-returns c =
+-- where the test passes, the peers' loss is the step
+taken : (c : tie.After-lose-peers) {o : List ℕ} → let a = c .before .before .before .before .before .before .before .before .before .args in
+    o ≡ peersLose (a .givens .now) (a .cell) (c .before .before .before .before .before .before .before .before .digit-mask .result) (a .masks .now) → o ≡ instanceTaken (a .givens .now) (lone (a .cell) (a .digit)) (a .masks .now)
+taken c e =
     let start = c .before .before .before .before .before .before .before .before .before in
     let a = start .args in
-    c .lose-peers .ensures ∙ ap (λ (k : ℕ). peersLose (a .givens .now) (a .cell) k (a .masks .now)) (one (c .before .before .before .before .before .before .before .before))
+    e ∙ ap (λ (k : ℕ). peersLose (a .givens .now) (a .cell) k (a .masks .now)) (one (c .before .before .before .before .before .before .before .before))
     ∙ lone-taken (a .givens .now) (a .masks .now) (a .cell) (a .digit) (start .pre .0) (sym (tested (c .before .before .before)) ∙ c .before .before .if1 .taken)
+
+returns : tie.Need-returns
+unfolding stepBytes
+returns c =
+    let lost = c .before .before .before in
+    let a = lost .before .before .before .before .before .before .before .before .before .args in
+    let m = a .masks .now in
+    let e = taken lost (lost .lose-peers .ensures .0) in
+    (e, c .note .ensures ∙ sym (log-one (a .givens .now) (lone (a .cell) (a .digit)) m (a .log .now) (ap (sameMasks m) (sym e) ∙ sym (lost .lose-peers .ensures .1) ∙ ne-eqb (lost .lose-peers .result) 0 (c .before .before .if2 .taken))))
 
 returns-2 : tie.Need-returns-2
 returns-2 c =
+    let lost = c .before in
+    let a = lost .before .before .before .before .before .before .before .before .before .args in
+    let e = taken lost (lost .lose-peers .ensures .0) in
+    (e, sym (log-none (a .givens .now) (lone (a .cell) (a .digit)) (a .masks .now) (a .log .now) (sym e ∙ sym (same-eq (a .masks .now) _ (sym (lost .lose-peers .ensures .1) ∙ eq-eqb (lost .lose-peers .result) 0 (c .if2 .left))))))
+
+returns-3 : tie.Need-returns-3
+returns-3 c =
     let start = c .before .before .before .before .before .before .before in
     let a = start .args in
-    lone-left (a .givens .now) (a .masks .now) (a .cell) (a .digit) (start .pre .0) (sym (tested (c .before)) ∙ c .if1 .left)
+    let e = lone-left (a .givens .now) (a .masks .now) (a .cell) (a .digit) (start .pre .0) (sym (tested (c .before)) ∙ c .if1 .left) in
+    (e, sym (log-none (a .givens .now) (lone (a .cell) (a .digit)) (a .masks .now) (a .log .now) (sym e)))
 
 pub lone-at-spec : {M : Type 1} → statement M
-lone-at-spec = tie.close (tie.spec digit-mask-requires mask-at-requires lose-requires meet-requires is-none-requires lose-peers-requires returns returns-2)
+lone-at-spec =
+    tie.close
+    (tie.spec
+    digit-mask-requires
+    mask-at-requires
+    lose-requires
+    meet-requires
+    is-none-requires
+    lose-peers-requires
+    add-note
+    note-requires
+    returns
+    returns-2
+    returns-3)

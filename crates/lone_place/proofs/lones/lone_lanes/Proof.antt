@@ -4,6 +4,8 @@ use mathlib.Core.List.{List}
 use Prim.Native.Nat.{ℕ}
 use native.Mathlib.Omega.{arith}
 use borrow.Author.Needs.{needs}
+use Rattle.steps.specs.Passes.{Lone, instances, pass}
+use Rattle.steps.proofs.StepLogs.{log-idle}
 use Rattle.lanes.specs.code.Lanes.{laid}
 use Rattle.lone_place.specs.code.Due.{sharedLanes, Covers}
 use Rattle.lone_place.proofs.LoneLanes.{sets-cover, none-loose}
@@ -17,35 +19,40 @@ join-sets-requires : tie.Need-join-sets-requires
 join-sets-requires c κs = search needs
 
 returns : tie.Need-returns
+unfolding pass
 returns c =
     let joined = c .before in
     let free = joined .before .before in
     let start = free .before .before in
-    (sym (none-loose (start .args .givens .now) (start .args .masks .now) (start .pre) (free .loose .ensures) (sym (joined .join-sets .ensures) ∙ c .if1 .taken)), start .pre .masks)
+    let a = start .args in
+    let idle = none-loose (a .givens .now) (a .masks .now) (start .pre) (free .loose .ensures) (sym (joined .join-sets .ensures) ∙ c .if1 .taken) in
+    (sym idle, (start .pre .masks, sym (log-idle (a .givens .now) (instances Lone) (a .masks .now) (a .log .now) idle)))
 
 shared-lanes-requires : tie.Need-shared-lanes-requires
 shared-lanes-requires c κs = search needs
 
 lone-rows-requires : tie.Need-lone-rows-requires
 lone-rows-requires c κs =
-    let sets = c .before .before in
+    let sets = c .before .before .before in
     let start = sets .before .before .before .before .before .before .before in
     let m = start .args .masks .now in
     subst (λ (s : List ℕ). Covers s m) (sym (sets .shared-lanes .ensures ∙ ap sharedLanes (start .pre .masks))) (sets-cover m)
 
 lay-requires : tie.Need-lay-requires
 lay-requires c κs =
-    let start = c .before .before .before .before .before .before .before .before .before .before .before .before .before in
+    let start = c .before .before .before .before .before .before .before .before .before .before .before .before .before .before in
     record { of = start .args .masks .now; is = start .pre .masks }
 
 returns-2 : tie.Need-returns-2
-returns-2 c = (c .before .before .before .before .lone-rows .ensures .0, c .lay .ensures)
+returns-2 c =
+    let rows = c .before .before .before .before in
+    (rows .lone-rows .ensures .0, (c .lay .ensures, rows .lone-rows .ensures .1 .1))
 
 returns-3 : tie.Need-returns-3
 returns-3 c =
     let rows = c .before in
-    let start = rows .before .before .before .before .before .before .before .before .before .before in
-    (rows .lone-rows .ensures .0, start .pre .masks ∙ ap laid (sym (rows .lone-rows .ensures .1 .is (c .if2 .left))))
+    let start = rows .before .before .before .before .before .before .before .before .before .before .before in
+    (rows .lone-rows .ensures .0, (start .pre .masks ∙ ap laid (sym (rows .lone-rows .ensures .1 .0 .is (c .if2 .left))), rows .lone-rows .ensures .1 .1))
 
 pub lone-lanes-spec : {M : Type 1} → statement M
 lone-lanes-spec =

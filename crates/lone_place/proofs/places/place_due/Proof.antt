@@ -1,23 +1,35 @@
--- `lone_place::places::place_due` meets its contract. The invariant: the units that are left still make the whole, and stand as they stood. Assumes nothing.
-use mathlib.Core.Path.{_∙_}
+-- `lone_place::places::place_due` meets its contract. The invariant: the units that are left still make the whole and its log, and stand as they stood. Assumes nothing.
+use mathlib.Core.Path.{_≡_, refl, sym, _∙_}
 use mathlib.Core.Logic.{⊎-elim}
-use Prim.Native.Nat.{_+_, _*_, _-_}
+use mathlib.Core.List.{List}
+use Prim.Native.Nat.{ℕ, _+_, _*_, _-_}
 use native.Mathlib.Omega.{arith}
+use Rattle.steps.specs.Instances.{Instance}
+use Rattle.steps.specs.Loops.{for, range}
+use Rattle.steps.specs.code.Logs.{logAfter}
+use Rattle.steps.proofs.StepLogs.{log-idle, log-done, log-over}
 use Rattle.lanes.specs.code.Lanes.{SameOn}
 use Rattle.lanes.proofs.Turns.{Going, going-start, going-on, going-past, going-end}
+use Rattle.lone_place.specs.code.Turns.{unitPlaces, familyPlaces}
 use Rattle.lone_place.specs.code.Due.{placeTurnOf, placeFamily}
+use Rattle.lone_place.proofs.Blocks.{place-unit}
 use Rattle.lone_place.proofs.PlaceLanes.{place-parted, spares-skips}
 use Rattle.lone_place.proofs.places.place_due.Statement.{statement}
 use Rattle.lone_place.proofs.places.place_due.Tie as tie
 
+block : ℕ → ℕ → List Instance
+block f k = unitPlaces (9 * f + k)
+
 abbrev Inv-loop : tie.InvT-loop
-Inv-loop givens masks₀ due family nth₀ masks nth = Going (λ k. SameOn (9 * family + k)) (placeTurnOf givens family) masks₀ masks nth
+Inv-loop givens masks₀ log₀ due family nth₀ masks log nth =
+    Going (λ k. SameOn (9 * family + k)) (placeTurnOf givens family) masks₀ masks nth × (logAfter givens (for (range (9 - nth) nth) (block family)) masks log ≡ logAfter givens (familyPlaces family) masks₀ log₀)
 
 abbrev μ-loop : tie.MeasureT-loop
-μ-loop givens masks₀ due family nth₀ masks nth = 9 - nth
+μ-loop givens masks₀ log₀ due family nth₀ masks log nth = 9 - nth
 
 loop-holds : tie.Need-loop-holds Inv-loop μ-loop
-loop-holds c = going-start (place-parted (c .args .givens .now) (c .args .family) (c .pre .0)) (c .args .masks .now)
+unfolding familyPlaces block
+loop-holds c = (going-start (place-parted (c .args .givens .now) (c .args .family) (c .pre .0)) (c .args .masks .now), refl)
 
 mul-if1 : tie.Need-mul-if1 Inv-loop μ-loop
 mul-if1 c = omega arith
@@ -39,9 +51,9 @@ element-copy-out-place-unit c = omega arith
 
 place-unit-requires : tie.Need-place-unit-requires Inv-loop μ-loop
 place-unit-requires c κs =
-    let l = c .before .before .before .before .before .loop in
-    let start = c .before .before .before .before .before .before in
-    (omega arith, start .pre .1 .of (l .nth) (omega arith) (l .masks) (l .inv .same (l .nth) (omega arith) (omega arith)))
+    let l = c .before .before .before .before .before .before .loop in
+    let start = c .before .before .before .before .before .before .before in
+    (omega arith, start .pre .1 .of (l .nth) (omega arith) (l .masks) (l .inv .0 .same (l .nth) (omega arith) (omega arith)))
 
 add-nth : tie.Need-add-nth Inv-loop μ-loop
 add-nth c = omega arith
@@ -50,20 +62,35 @@ loop-less : tie.Need-loop-less Inv-loop μ-loop
 loop-less c = omega arith
 
 loop-again : tie.Need-loop-again Inv-loop μ-loop
+unfolding block
 loop-again c =
     let l = c .before .before .before .loop in
     let start = c .before .before .before .before in
     let a = start .args in
-    let parts = place-parted (a .givens .now) (a .family) (start .pre .0) in
-    ⊎-elim (λ w. going-on parts (l .inv) (omega arith) (w .4 ∙ w .3 .ensures))
-    (λ w. going-past parts (l .inv) (omega arith) (w .1) (spares-skips (start .pre .1) .idle (l .nth) (omega arith) (w .0 .left) (l .masks) (l .inv .same (l .nth) (omega arith) (omega arith))))
+    let g = a .givens .now in
+    let u = 9 * a .family + l .nth in
+    let parts = place-parted g (a .family) (start .pre .0) in
+    let unit = place-unit g u (l .masks) in
+    ⊎-elim
+    (λ w.
+    let e = w .5 ∙ w .4 .ensures .0 in
+    (going-on parts (l .inv .0) (omega arith) e, log-done g (block (a .family)) 9 (l .nth) (l .masks) (l .log) (omega arith) (e ∙ unit) (w .6 ∙ w .4 .ensures .1) (l .inv .1)))
+    (λ w.
+    let idle = spares-skips (start .pre .1) .idle (l .nth) (omega arith) (w .0 .left) (l .masks) (l .inv .0 .same (l .nth) (omega arith) (omega arith)) in (
+      going-past parts (l .inv .0) (omega arith) (w .1) idle,
+      log-done g (block (a .family)) 9 (l .nth) (l .masks) (l .log) (omega arith) (w .1 ∙ sym idle ∙ unit) (w .2 ∙ sym (log-idle g (unitPlaces u) (l .masks) (l .log) (sym unit ∙ idle))) (l .inv .1),
+    ))
     (c .if1 .came)
 
 returns : tie.Need-returns Inv-loop μ-loop
 unfolding placeFamily
 returns c =
     let start = c .before .before in
-    going-end (place-parted (start .args .givens .now) (start .args .family) (start .pre .0)) (c .before .loop .inv) (c .loop-test .left)
+    let a = start .args in
+    let l = c .before .loop in (
+      going-end (place-parted (a .givens .now) (a .family) (start .pre .0)) (l .inv .0) (c .loop-test .left),
+      log-over (a .givens .now) (block (a .family)) 9 (l .nth) (l .masks) (l .log) (c .loop-test .left) (l .inv .1),
+    )
 
 pub place-due-spec : {M : Type 1} → statement M
 place-due-spec =

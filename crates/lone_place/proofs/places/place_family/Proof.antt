@@ -2,8 +2,11 @@
 use mathlib.Core.Path.{sym, _∙_}
 use native.Mathlib.Omega.{arith}
 use borrow.Author.Needs.{needs}
+use Rattle.steps.proofs.StepLogs.{log-idle}
 use Rattle.lanes.proofs.Turns.{skips-idle}
+use Rattle.lone_place.specs.code.Turns.{familyPlaces}
 use Rattle.lone_place.specs.code.Due.{placeFamily, PlaceSpares}
+use Rattle.lone_place.proofs.Blocks.{place-family}
 use Rattle.lone_place.proofs.PlaceLanes.{place-spared, spares-skips, place-parted}
 use Rattle.lone_place.proofs.places.place_family.Statement.{statement}
 use Rattle.lone_place.proofs.places.place_family.Tie as tie
@@ -35,20 +38,24 @@ unfolding placeFamily
 returns c =
     let tested = c .before .before .before in
     let start = tested .before .before .before .before .before in
-    (sym (skips-idle (place-parted (start .args .givens .now) (start .args .family) (start .pre .0)) (spares-skips (spares tested)) (sym (c .before .join-sets .ensures) ∙ c .if1 .taken)), start .pre .1 .masks)
+    let a = start .args in
+    let idle = skips-idle (place-parted (a .givens .now) (a .family) (start .pre .0)) (spares-skips (spares tested)) (sym (c .before .join-sets .ensures) ∙ c .if1 .taken) in
+    (sym idle, (start .pre .1 .masks, sym (log-idle (a .givens .now) (familyPlaces (a .family)) (a .masks .now) (a .log .now) (sym (place-family (a .givens .now) (a .family) (a .masks .now)) ∙ idle))))
 
 place-due-requires : tie.Need-place-due-requires
 place-due-requires c κs =
-    let tested = c .before .before .before .before .before in
+    let tested = c .before .before .before .before .before .before in
     (tested .before .before .before .before .before .pre .0, spares tested)
 
 lay-requires : tie.Need-lay-requires
 lay-requires c κs =
-    let start = c .before .before .before .before .before .before .before .before .before .before .before .before .before in
+    let start = c .before .before .before .before .before .before .before .before .before .before .before .before .before .before in
     record { of = start .args .masks .now; is = start .pre .1 .masks }
 
 returns-2 : tie.Need-returns-2
-returns-2 c = (c .before .before .before .place-due .ensures, c .lay .ensures)
+returns-2 c =
+    let due = c .before .before .before in
+    (due .place-due .ensures .0, (c .lay .ensures, due .place-due .ensures .1))
 
 pub place-family-spec : {M : Type 1} → statement M
 place-family-spec =

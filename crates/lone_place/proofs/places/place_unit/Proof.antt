@@ -1,4 +1,4 @@
--- `lone_place::places::place_unit` meets its contract. The invariant: the digits that are left still make the whole, and those that are not in `due` lose nothing as the masks are. Assumes nothing.
+-- `lone_place::places::place_unit` meets its contract. The invariant: the digits that are left still make the whole and its log, and those that are not in `due` lose nothing as the masks are. Assumes nothing.
 use mathlib.Core.Path.{_≡_, refl, sym, ap, _∙_, subst}
 use mathlib.Core.Logic.{⊎-elim}
 use mathlib.Core.List.{List}
@@ -7,24 +7,28 @@ use native.Mathlib.Omega.{arith}
 use borrow.Author.Needs.{needs}
 use Rattle.candidates.specs.Masks.{has}
 use Rattle.grid.proofs.Lists.{turn-done, turns-over}
-use Rattle.steps.specs.Loops.{each, range}
+use Rattle.steps.specs.Loops.{each, for, range}
+use Rattle.steps.specs.code.Logs.{logAfter}
+use Rattle.steps.proofs.StepLogs.{log-idle, log-done, log-over}
 use Rattle.cells.specs.code.Places.{allMasks}
-use Rattle.lone_place.specs.code.Turns.{placeDigit, placeUnit}
+use Rattle.lone_place.specs.code.Turns.{placeDigit, placeUnit, digitPlaces, unitPlaces}
 use Rattle.lone_place.specs.code.Due.{dueOf, Spares}
+use Rattle.lone_place.proofs.Blocks.{place-digit}
 use Rattle.lone_place.proofs.PlaceDue.{not-due}
 use Rattle.lone_place.proofs.places.place_unit.Statement.{statement}
 use Rattle.lone_place.proofs.places.place_unit.Tie as tie
 
 abbrev Inv-loop : tie.InvT-loop
-Inv-loop givens masks₀ unit first due₀ digit₀ masks due digit =
+Inv-loop givens masks₀ log₀ unit first due₀ digit₀ masks log due digit =
     (digit ≤ 9) × (each (placeDigit givens unit) (range (9 - digit) digit) masks ≡ placeUnit givens unit masks₀) × Spares givens unit due masks
+    × (logAfter givens (for (range (9 - digit) digit) (digitPlaces unit)) masks log ≡ logAfter givens (unitPlaces unit) masks₀ log₀)
 
 abbrev μ-loop : tie.MeasureT-loop
-μ-loop givens masks₀ unit first due₀ digit₀ masks due digit = 9 - digit
+μ-loop givens masks₀ log₀ unit first due₀ digit₀ masks log due digit = 9 - digit
 
 loop-holds : tie.Need-loop-holds Inv-loop μ-loop
-unfolding placeUnit
-loop-holds c = (omega arith, refl, c .pre .1)
+unfolding placeUnit unitPlaces
+loop-holds c = (omega arith, refl, c .pre .1, refl)
 
 has-digit-requires : tie.Need-has-digit-requires Inv-loop μ-loop
 has-digit-requires c κs = search needs
@@ -46,17 +50,24 @@ loop-again c =
     let l = c .before .before .before .loop in
     let start = c .before .before .before .before in
     let a = start .args in
-    let f = placeDigit (a .givens .now) (a .unit) in
+    let g = a .givens .now in
+    let u = a .unit in
+    let f = placeDigit g u in
+    let block = place-digit g u (l .digit) (l .masks) in
     ⊎-elim
-    (λ w. (
+    (λ w.
+    let e = w .6 ∙ w .3 .ensures .0 in (
       omega arith,
-      turn-done f 9 (l .digit) (omega arith) (w .5 ∙ w .2 .ensures) (l .inv .1),
-      renewed (a .givens .now) (a .unit) (start .pre .0) (w .6 ∙ w .4 .ensures) (w .5),
+      turn-done f 9 (l .digit) (omega arith) e (l .inv .1),
+      renewed g u (start .pre .0) (w .8 ∙ w .5 .ensures) (w .6),
+      log-done g (digitPlaces u) 9 (l .digit) (l .masks) (l .log) (omega arith) (e ∙ block) (w .7 ∙ w .3 .ensures .1) (l .inv .3),
     ))
-    (λ w. (
+    (λ w.
+    let idle = l .inv .2 .idle (l .digit) (omega arith) (sym (c .before .has-digit .ensures) ∙ w .0 .left) in (
       omega arith,
-      turn-done f 9 (l .digit) (omega arith) (w .1 ∙ sym (l .inv .2 .idle (l .digit) (omega arith) (sym (c .before .has-digit .ensures) ∙ w .0 .left))) (l .inv .1),
-      same (a .givens .now) (a .unit) (w .1) (w .2) (l .inv .2),
+      turn-done f 9 (l .digit) (omega arith) (w .1 ∙ sym idle) (l .inv .1),
+      same g u (w .1) (w .3) (l .inv .2),
+      log-done g (digitPlaces u) 9 (l .digit) (l .masks) (l .log) (omega arith) (w .1 ∙ sym idle ∙ block) (w .2 ∙ sym (log-idle g (digitPlaces u (l .digit)) (l .masks) (l .log) (sym block ∙ idle))) (l .inv .3),
     ))
     (c .if1 .came)
   where
@@ -69,7 +80,10 @@ loop-again c =
 returns : tie.Need-returns Inv-loop μ-loop
 returns c =
     let a = c .before .before .args in
-    turns-over (placeDigit (a .givens .now) (a .unit)) 9 (c .before .loop .digit) (c .loop-test .left) (c .before .loop .inv .1)
+    let l = c .before .loop in (
+      turns-over (placeDigit (a .givens .now) (a .unit)) 9 (l .digit) (c .loop-test .left) (l .inv .1),
+      log-over (a .givens .now) (digitPlaces (a .unit)) 9 (l .digit) (l .masks) (l .log) (c .loop-test .left) (l .inv .3),
+    )
 
 pub place-unit-spec : {M : Type 1} → statement M
 place-unit-spec =

@@ -4,10 +4,12 @@ use mathlib.Core.List.{List}
 use Prim.Native.Nat.{ℕ, _*_}
 use native.Mathlib.Omega.{arith}
 use borrow.Author.Needs.{needs}
+use Rattle.steps.proofs.StepLogs.{log-idle}
 use Rattle.lanes.proofs.Turns.{skips-idle}
-use Rattle.pair_cross.specs.code.Twos.{crossLines}
+use Rattle.pair_cross.specs.code.Twos.{crossLines, crossInstances}
 use Rattle.pair_cross.specs.code.Spots.{DigitLanes, CrossSkips}
-use Rattle.pair_cross.proofs.CrossLanes.{cross-skipped, cross-parted}
+use Rattle.pair_cross.proofs.CrossLanes.{first-line, cross-skipped, cross-parted}
+use Rattle.pair_cross.proofs.FrameInstances.{cross-each}
 use Rattle.pair_cross.proofs.crosses.cross_half.Statement.{statement}
 use Rattle.pair_cross.proofs.crosses.cross_half.Tie as tie
 
@@ -52,23 +54,26 @@ unfolding crossLines
 returns c =
     let lively = c .before .before .before in
     let start = lively .before .before .before .before .before .before .before .before .before .before in
-    (sym (skips-idle (cross-parted (start .args .givens .now) (9 * start .args .half)) (skips lively) (sym (c .before .join-sets2 .ensures) ∙ c .if1 .taken)), start .pre .1 .masks)
+    let a = start .args in
+    let g = a .givens .now in
+    let idle = skips-idle (cross-parted g (9 * a .half)) (skips lively) (sym (c .before .join-sets2 .ensures) ∙ c .if1 .taken) in
+    (sym idle, (start .pre .1 .masks, sym (log-idle g (crossInstances (9 * a .half)) (a .masks .now) (a .log .now) (cross-each g (9 * a .half) (first-line (a .half) (start .pre .0)) (a .masks .now) ∙ idle))))
 
 cross-due-requires : tie.Need-cross-due-requires
 cross-due-requires c κs =
-    let lively = c .before .before .before .before .before .before in
+    let lively = c .before .before .before .before .before .before .before in
     let digits = lively .before .before .before .before in
     let start = digits .before .before .before .before .before .before in
     (start .pre .0, start .pre .1 .doors, subst (λ (z : List ℕ). DigitLanes z (16 * start .args .half) (digits .digit-lanes .result)) (start .pre .1 .masks) (digits .digit-lanes .ensures), skips lively)
 
 lay-requires : tie.Need-lay-requires
 lay-requires c κs =
-    let lively = c .before .before .before .before .before .before .before .before .before in
+    let lively = c .before .before .before .before .before .before .before .before .before .before in
     let start = lively .before .before .before .before .before .before .before .before .before .before in
     record { of = start .args .masks .now; is = start .pre .1 .masks }
 
 returns-2 : tie.Need-returns-2
-returns-2 c = (c .before .before .before .cross-due .ensures, c .lay .ensures)
+returns-2 c = let due = c .before .before .before .cross-due .ensures in (due .0, (c .lay .ensures, due .1))
 
 pub cross-half-spec : {M : Type 1} → statement M
 cross-half-spec =

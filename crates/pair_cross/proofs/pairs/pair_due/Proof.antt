@@ -1,23 +1,37 @@
 -- `pair_cross::pairs::pair_due` meets its contract. The invariant: the units that are left still make the whole, and stand as they stood. Assumes nothing.
-use mathlib.Core.Path.{_∙_}
+use mathlib.Core.Path.{_≡_, refl, sym, _∙_}
 use mathlib.Core.Logic.{⊎-elim}
-use Prim.Native.Nat.{_+_, _*_, _-_}
+use mathlib.Core.List.{List}
+use Prim.Native.Nat.{ℕ, _+_, _*_, _-_}
 use native.Mathlib.Omega.{arith}
+use Rattle.steps.specs.Instances.{Instance}
+use Rattle.steps.specs.Loops.{for, range}
+use Rattle.steps.specs.code.Logs.{logAfter}
+use Rattle.steps.proofs.StepLogs.{log-idle, log-done, log-over}
 use Rattle.lanes.specs.code.Lanes.{SameOn}
 use Rattle.lanes.proofs.Turns.{Going, going-start, going-on, going-past, going-end}
-use Rattle.pair_cross.specs.code.Lively.{pairTurn, pairFamily}
+use Rattle.pair_cross.specs.code.Twos.{frameInstances}
+use Rattle.pair_cross.specs.code.Lively.{pairTurn, pairFamily, familyInstances}
+use Rattle.pair_cross.specs.declared.twos.Frame.the-variants.{Unit}
+use Rattle.pair_cross.proofs.FrameInstances.{frame-each}
 use Rattle.pair_cross.proofs.PairLanes.{pair-lines, pair-parted}
 use Rattle.pair_cross.proofs.pairs.pair_due.Statement.{statement}
 use Rattle.pair_cross.proofs.pairs.pair_due.Tie as tie
 
+-- the instances of one turn
+abbrev block : ℕ → ℕ → List Instance
+block family nth = frameInstances (Unit (9 * family + nth))
+
 abbrev Inv-loop : tie.InvT-loop
-Inv-loop givens masks₀ doors lanes due family nth₀ masks nth = Going (λ k. SameOn (9 * family + k)) (pairTurn givens family) masks₀ masks nth
+Inv-loop givens masks₀ log₀ doors lanes due family nth₀ masks log nth =
+    Going (λ k. SameOn (9 * family + k)) (pairTurn givens family) masks₀ masks nth × (logAfter givens (for (range (9 - nth) nth) (block family)) masks log ≡ logAfter givens (familyInstances family) masks₀ log₀)
 
 abbrev μ-loop : tie.MeasureT-loop
-μ-loop givens masks₀ doors lanes due family nth₀ masks nth = 9 - nth
+μ-loop givens masks₀ log₀ doors lanes due family nth₀ masks log nth = 9 - nth
 
 loop-holds : tie.Need-loop-holds Inv-loop μ-loop
-loop-holds c = going-start (pair-parted (c .args .givens .now) (c .args .family) (c .pre .0)) (c .args .masks .now)
+unfolding familyInstances
+loop-holds c = (going-start (pair-parted (c .args .givens .now) (c .args .family) (c .pre .0)) (c .args .masks .now), refl)
 
 mul-if1 : tie.Need-mul-if1 Inv-loop μ-loop
 mul-if1 c = omega arith
@@ -31,11 +45,11 @@ mul-lane c = omega arith
 add-lane : tie.Need-add-lane Inv-loop μ-loop
 add-lane c = omega arith
 
-mul-t14 : tie.Need-mul-t14 Inv-loop μ-loop
-mul-t14 c = omega arith
+mul-t15 : tie.Need-mul-t15 Inv-loop μ-loop
+mul-t15 c = omega arith
 
-add-t17 : tie.Need-add-t17 Inv-loop μ-loop
-add-t17 c = omega arith
+add-t19 : tie.Need-add-t19 Inv-loop μ-loop
+add-t19 c = omega arith
 
 lane-masks-requires : tie.Need-lane-masks-requires Inv-loop μ-loop
 lane-masks-requires c κs = omega arith
@@ -45,9 +59,10 @@ lane-masks-requires-2 c κs = omega arith
 
 two-frame-requires : tie.Need-two-frame-requires Inv-loop μ-loop
 two-frame-requires c κs =
-    let l = c .before .before .before .before .before .before .before .loop in
-    let start = c .before .before .before .before .before .before .before .before in
-    let w = pair-lines (start .args .family) (l .nth) (start .pre .0) (omega arith) (start .pre .1) (l .masks) (l .inv .same (l .nth) (omega arith) (omega arith)) (c .before .before .lane-masks .ensures) (c .lane-masks2 .ensures) in
+    let loop = c .before .before .before .before .before .before .before .before in
+    let l = loop .loop in
+    let start = loop .before in
+    let w = pair-lines (start .args .family) (l .nth) (start .pre .0) (omega arith) (start .pre .1) (l .masks) (l .inv .0 .same (l .nth) (omega arith) (omega arith)) (c .before .before .lane-masks .ensures) (c .lane-masks2 .ensures) in
     (omega arith, w .0, w .1)
 
 add-nth : tie.Need-add-nth Inv-loop μ-loop
@@ -61,16 +76,29 @@ loop-again c =
     let l = c .before .before .before .loop in
     let start = c .before .before .before .before in
     let a = start .args in
-    let parts = pair-parted (a .givens .now) (a .family) (start .pre .0) in
-    ⊎-elim (λ w. going-on parts (l .inv) (omega arith) (w .6 ∙ w .5 .ensures))
-    (λ w. going-past parts (l .inv) (omega arith) (w .1) (start .pre .2 .idle (l .nth) (omega arith) (w .0 .left) (l .masks) (l .inv .same (l .nth) (omega arith) (omega arith))))
+    let g = a .givens .now in
+    let parts = pair-parted g (a .family) (start .pre .0) in
+    let taken = frame-each g (Unit (9 * a .family + l .nth)) (omega arith) (l .masks) in
+    ⊎-elim
+    (λ w. (
+      going-on parts (l .inv .0) (omega arith) (w .7 ∙ w .6 .ensures .0),
+      log-done g (block (a .family)) 9 (l .nth) (l .masks) (l .log) (omega arith) (w .7 ∙ w .6 .ensures .0 ∙ sym taken) (w .8 ∙ w .6 .ensures .1) (l .inv .1),
+    ))
+    (λ w.
+    let idle = start .pre .2 .idle (l .nth) (omega arith) (w .0 .left) (l .masks) (l .inv .0 .same (l .nth) (omega arith) (omega arith)) in (
+      going-past parts (l .inv .0) (omega arith) (w .1) idle,
+      log-done g (block (a .family)) 9 (l .nth) (l .masks) (l .log) (omega arith) (w .1 ∙ sym (taken ∙ idle)) (w .2 ∙ sym (log-idle g (block (a .family) (l .nth)) (l .masks) (l .log) (taken ∙ idle))) (l .inv .1),
+    ))
     (c .if1 .came)
 
 returns : tie.Need-returns Inv-loop μ-loop
 unfolding pairFamily
 returns c =
+    let l = c .before .loop in
     let start = c .before .before in
-    going-end (pair-parted (start .args .givens .now) (start .args .family) (start .pre .0)) (c .before .loop .inv) (c .loop-test .left)
+    let a = start .args in
+    let g = a .givens .now in
+    (going-end (pair-parted g (a .family) (start .pre .0)) (l .inv .0) (c .loop-test .left), log-over g (block (a .family)) 9 (l .nth) (l .masks) (l .log) (c .loop-test .left) (l .inv .1))
 
 pub pair-due-spec : {M : Type 1} → statement M
 pair-due-spec =
@@ -83,8 +111,8 @@ pair-due-spec =
     element-copy-out-if1
     mul-lane
     add-lane
-    mul-t14
-    add-t17
+    mul-t15
+    add-t19
     lane-masks-requires
     lane-masks-requires-2
     two-frame-requires

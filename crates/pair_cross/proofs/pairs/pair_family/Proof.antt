@@ -2,8 +2,10 @@
 use mathlib.Core.Path.{sym, _∙_}
 use native.Mathlib.Omega.{arith}
 use borrow.Author.Needs.{needs}
+use Rattle.steps.proofs.StepLogs.{log-idle}
 use Rattle.lanes.proofs.Turns.{skips-idle}
-use Rattle.pair_cross.specs.code.Lively.{pairFamily, PairSkips}
+use Rattle.pair_cross.specs.code.Lively.{pairFamily, familyInstances, PairSkips}
+use Rattle.pair_cross.proofs.FrameInstances.{family-each}
 use Rattle.pair_cross.proofs.PairLanes.{pair-skipped, pair-parted}
 use Rattle.pair_cross.proofs.pairs.pair_family.Statement.{statement}
 use Rattle.pair_cross.proofs.pairs.pair_family.Tie as tie
@@ -35,21 +37,25 @@ unfolding pairFamily
 returns c =
     let lively = c .before .before .before in
     let start = lively .before .before .before .before .before in
-    (sym (skips-idle (pair-parted (start .args .givens .now) (start .args .family) (start .pre .0)) (skips lively) (sym (c .before .join-sets .ensures) ∙ c .if1 .taken)), start .pre .1 .masks)
+    let a = start .args in
+    let g = a .givens .now in
+    let idle = skips-idle (pair-parted g (a .family) (start .pre .0)) (skips lively) (sym (c .before .join-sets .ensures) ∙ c .if1 .taken) in
+    (sym idle, (start .pre .1 .masks, sym (log-idle g (familyInstances (a .family)) (a .masks .now) (a .log .now) (family-each g (a .family) (start .pre .0) (a .masks .now) ∙ idle))))
 
 pair-due-requires : tie.Need-pair-due-requires
 pair-due-requires c κs =
-    let lively = c .before .before .before .before .before .before in
+    let lively = c .before .before .before .before .before .before .before in
     let start = lively .before .before .before .before .before in
     (start .pre .0, start .pre .1, skips lively)
 
 lay-requires : tie.Need-lay-requires
 lay-requires c κs =
-    let start = c .before .before .before .before .before .before .before .before .before .before .before .before .before .before in
+    let lively = c .before .before .before .before .before .before .before .before .before .before in
+    let start = lively .before .before .before .before .before in
     record { of = start .args .masks .now; is = start .pre .1 .masks }
 
 returns-2 : tie.Need-returns-2
-returns-2 c = (c .before .before .before .pair-due .ensures, c .lay .ensures)
+returns-2 c = let due = c .before .before .before .pair-due .ensures in (due .0, (c .lay .ensures, due .1))
 
 pub pair-family-spec : {M : Type 1} → statement M
 pair-family-spec =

@@ -1,14 +1,22 @@
 -- `pair_cross::twos::two_at` meets its contract. Assumes nothing.
 use mathlib.Core.Path.{_≡_, sym, ap, _∙_}
+use mathlib.Core.Bool.{Bool, true, false, cond}
+use mathlib.Core.List.{List}
 use Prim.Native.Nat.{ℕ}
 use borrow.Author.Needs.{needs}
+use borrow.Author.Tests.{not-true, not-false}
 use lib.Dec.{eqb}
 use Rattle.candidates.specs.Masks.{minus, union, placeMask}
 use Rattle.candidates.proofs.Counts.{test-none}
 use Rattle.candidates.proofs.Tests.{cond-true, cond-false}
+use Rattle.steps.specs.Boards.{sameMasks}
 use Rattle.steps.specs.Instances.{both}
+use Rattle.steps.specs.Passes.{instanceTaken}
+use Rattle.steps.proofs.Masks.{same-eq}
+use Rattle.steps.proofs.StepLogs.{log-one, log-none}
 use Rattle.cells.proofs.NineBits.{both-is}
-use Rattle.pair_cross.specs.code.Twos.{twoLose, twoTurn}
+use Rattle.pair_cross.specs.code.Twos.{frameInstance, twoLose, twoTurn}
+use Rattle.pair_cross.proofs.FrameLogs.{turn-taken}
 use Rattle.pair_cross.proofs.twos.two_at.Statement.{statement}
 use Rattle.pair_cross.proofs.twos.two_at.Tie as tie
 
@@ -28,7 +36,17 @@ is-none-requires : tie.Need-is-none-requires
 is-none-requires c κs = search needs
 
 lose-two-requires : tie.Need-lose-two-requires
-lose-two-requires c κs = c .before .before .before .before .before .before .before .pre
+lose-two-requires c κs =
+    let start = c .before .before .before .before .before .before .before .before in
+    (start .pre .0, start .pre .1, start .pre .2, start .pre .3, start .pre .4)
+
+changed-requires : tie.Need-changed-requires
+changed-requires c κs = search needs
+
+note-two-requires : tie.Need-note-two-requires
+note-two-requires c κs =
+    let start = c .before .before .before .before .before .before .before .before .before .before .before .before .before in
+    (start .pre .0, start .pre .1, start .pre .2, start .pre .3, start .pre .4)
 
 -- what is tested
 tested : (c : tie.After-is-none) → c .is-none .result ≡ eqb (minus (c .before .before .before .before .before .args .held) (both (c .before .before .before .before .before .args .a) (c .before .before .before .before .before .args .b))) 0
@@ -41,21 +59,76 @@ tested c =
     ∙ ap (minus (a .held)) (c .before .before .join .ensures ∙ ap (λ (x : ℕ). union x (c .before .before .before .digit-mask2 .result)) (c .before .before .before .before .digit-mask .ensures)
     ∙ ap (union (placeMask (a .a))) (c .before .before .before .digit-mask2 .ensures) ∙ both-is (a .a) (a .b) (start .pre .3) (start .pre .4)))
 
+-- the instance, where the two hold nothing outside a and b, and where they do
+module _ (c : tie.After-is-none) where
+  abbrev start : tie.Start
+  start = c .before .before .before .before .before
+
+  abbrev now : List ℕ
+  now = start .args .masks .now
+
+  abbrev lost : List ℕ
+  lost = twoLose (start .args .givens .now) (start .args .frame) (start .args .i) (start .args .j) (start .args .a) (start .args .b) now
+
+  abbrev the-test : Bool
+  the-test = eqb (minus (start .args .held) (both (start .args .a) (start .args .b))) 0
+
+  takes : instanceTaken (start .args .givens .now) (frameInstance (start .args .frame) (start .args .i) (start .args .j) (start .args .a) (start .args .b)) now ≡ cond the-test lost now
+  unfolding twoTurn
+  takes =
+      let a = start .args in
+      let p = start .pre in
+      turn-taken (a .givens .now) (a .frame) (p .0) (a .i) (a .j) (p .1) (p .2) now (p .5) (a .a) (a .b) (p .3) (p .4)
+
+  holds : c .is-none .result ≡ true → cond the-test lost now ≡ lost
+  holds t = cond-true the-test lost now (sym (tested c) ∙ t)
+
+  fails : c .is-none .result ≡ false → cond the-test lost now ≡ now
+  fails t = cond-false the-test lost now (sym (tested c) ∙ t)
+
 returns : tie.Need-returns
 unfolding twoTurn
 returns c =
-    let a = c .before .before .before .before .before .before .before .before .args in
-    c .lose-two .ensures
-    ∙ sym (cond-true (eqb (minus (a .held) (both (a .a) (a .b))) 0) (twoLose (a .givens .now) (a .frame) (a .i) (a .j) (a .a) (a .b) (a .masks .now)) (a .masks .now)
-    (sym (tested (c .before .before .before)) ∙ c .before .before .if1 .taken))
+    let changed = c .before .before .before in
+    let lose = changed .before .before in
+    let then = lose .before .before .before in
+    let a = start (then .before) .args in
+    let x = frameInstance (a .frame) (a .i) (a .j) (a .a) (a .b) in
+    let after = lose .lose-two .ensures ∙ sym (holds (then .before) (then .if1 .taken)) in
+    let some = not-true _ (sym (changed .changed .ensures) ∙ c .before .before .if2 .taken) in
+    (after, c .note-two .ensures ∙ sym (log-one (a .givens .now) x (a .masks .now) (a .log .now) (ap (sameMasks (a .masks .now)) (takes (then .before) ∙ sym after) ∙ some)))
 
 returns-2 : tie.Need-returns-2
 unfolding twoTurn
 returns-2 c =
-    let a = c .before .before .before .before .before .before .args in
-    sym (cond-false (eqb (minus (a .held) (both (a .a) (a .b))) 0) (twoLose (a .givens .now) (a .frame) (a .i) (a .j) (a .a) (a .b) (a .masks .now)) (a .masks .now)
-    (sym (tested (c .before)) ∙ c .if1 .left))
+    let lose = c .before .before .before in
+    let then = lose .before .before .before in
+    let a = start (then .before) .args in
+    let x = frameInstance (a .frame) (a .i) (a .j) (a .a) (a .b) in
+    let after = lose .lose-two .ensures ∙ sym (holds (then .before) (then .if1 .taken)) in
+    let none = same-eq (a .masks .now) _ (not-false _ (sym (c .before .changed .ensures) ∙ c .if2 .left)) in
+    (after, sym (log-none (a .givens .now) x (a .masks .now) (a .log .now) (takes (then .before) ∙ sym after ∙ sym none)))
+
+returns-3 : tie.Need-returns-3
+unfolding twoTurn
+returns-3 c =
+    let a = start (c .before) .args in
+    let x = frameInstance (a .frame) (a .i) (a .j) (a .a) (a .b) in
+    let idle = fails (c .before) (c .if1 .left) in
+    (sym idle, sym (log-none (a .givens .now) x (a .masks .now) (a .log .now) (takes (c .before) ∙ idle)))
 
 pub two-at-spec : {M : Type 1} → statement M
 two-at-spec =
-    tie.close (tie.spec digit-mask-requires digit-mask-requires-2 join-requires lose-requires is-none-requires lose-two-requires returns returns-2)
+    tie.close
+    (tie.spec
+    digit-mask-requires
+    digit-mask-requires-2
+    join-requires
+    lose-requires
+    is-none-requires
+    lose-two-requires
+    changed-requires
+    note-two-requires
+    returns
+    returns-2
+    returns-3)

@@ -1,0 +1,59 @@
+// Settling on arrays: its three counts as the four numbers, and its steps.
+ghost use mathlib.Core.Path.{_≡_};
+ghost use lib.IntN.{pos};
+ghost use mir.Syntax.{w64};
+ghost use mir.Val.{SFits};
+ghost use Rattle.stops.specs.Answer.{map, valueOr};
+ghost use Rattle.board.specs.Boards.{handed};
+ghost use Rattle.passes.specs.Settlings.{settlingAnswer};
+ghost use Rattle.host.specs.Settlings.{settleCode, settleMasks, settleSteps, settledCode};
+ghost use Rattle.host.specs.code.Fitting.{CountsFit};
+use crate::codes;
+use board::Board;
+use passes::Settling;
+
+// The number of steps stands where a stop has its detail.
+fn of_settling(settling: Settling, steps: usize) -> [i64; 4]
+    requires { ⌜ CountsFit (settlingAnswer settling) × SFits w64 (pos steps) ⌝ }
+    ensures { λ r. ⌜ r ≡ settledCode steps (settlingAnswer settling) ⌝ }
+{
+    match settling {
+        Settling::Refused(stop) => codes::of_stop(stop, 0),
+        Settling::Counted(sweeps, removed) => [0, steps as i64, sweeps as i64, removed as i64],
+    }
+}
+
+fn put_steps(settling: Settling, bytes: &[u8; 4374], lent: &mut [u8; 4374])
+    ensures { λ _. ⌜ now (lent .exit) ≡ valueOr (now (lent .entry)) (map (λ _. now (bytes .entry)) (settlingAnswer settling)) ⌝ }
+{
+    match settling {
+        Settling::Refused(_) => {}
+        Settling::Counted(_, _) => {
+            *lent = *bytes;
+        }
+    }
+}
+
+// Settling on arrays: the masks that it leaves.
+pub fn settle(
+    clues: [i32; 81],
+    entries: [i32; 81],
+    masks: [u16; 81],
+    steps: &mut [u8; 4374],
+    answer: &mut [i64; 4],
+) -> [u16; 81]
+    ensures { λ r. ⌜ (r ≡ settleMasks (handed clues entries masks)) × (now (steps .exit) ≡ settleSteps (handed clues entries masks) (now (steps .entry))) × (now (answer .exit) ≡ settleCode (handed clues entries masks)) ⌝ }
+{
+    let handed = Board {
+        clues,
+        entries,
+        masks,
+    };
+    let done = passes::apply_settling(handed);
+    let settling = done.answer;
+    let bytes = done.steps.bytes;
+    let board = done.board;
+    *answer = of_settling(settling, done.steps.count);
+    put_steps(settling, &bytes, steps);
+    board.masks
+}

@@ -1,0 +1,69 @@
+-- `locked::note_met` meets its contract. Assumes nothing.
+use mathlib.Core.Path.{sym, ap, _∙_}
+use mathlib.Core.List.{List}
+use Prim.Native.Nat.{ℕ}
+use native.Mathlib.Omega.{arith}
+use borrow.Author.Needs.{needs}
+use borrow.Author.Tests.{lt-ltb, le-ltb}
+use lib.Dec.{ltb}
+use Rattle.candidates.proofs.Tests.{cond-true, cond-false}
+use Rattle.steps.specs.code.Logs.{noted}
+use Rattle.cells.proofs.Meetings.{met-below}
+use Rattle.locked.proofs.LockedTurns.{instance-bytes}
+use Rattle.locked.proofs.note_met.Statement.{statement}
+use Rattle.locked.proofs.note_met.Tie as tie
+
+add-note : tie.Need-add-note
+add-note c = search needs
+
+met-unit-requires : tie.Need-met-unit-requires
+met-unit-requires c κs = search needs
+
+note-requires : tie.Need-note-requires
+note-requires c κs =
+    let start = c .before .before .before in
+    omega (arith, met-below (start .args .unit) (start .args .nth) (start .pre .0) (start .pre .2), c .met-unit .ensures)
+
+add-note-2 : tie.Need-add-note-2
+add-note-2 c = search needs
+
+met-unit-requires-2 : tie.Need-met-unit-requires-2
+met-unit-requires-2 c κs = search needs
+
+note-requires-2 : tie.Need-note-requires-2
+note-requires-2 c κs =
+    let start = c .before .before .before in
+    omega (arith, met-below (start .args .unit) (start .args .nth) (start .pre .0) (start .pre .2), c .met-unit2 .ensures)
+
+returns : tie.Need-returns
+returns c =
+    let called = c .before in
+    let branch = called .before .before in
+    let start = branch .before in
+    let a = start .args in
+    c .note .ensures
+    ∙ ap (λ (bs : List ℕ). noted bs (a .log .now))
+    (instance-bytes (a .unit) (a .digit) (a .nth) (start .pre .0) (start .pre .2) (sym (cond-true (ltb (a .unit) 18) 4 3 (lt-ltb (a .unit) 18 (branch .if1 .taken)))) (called .met-unit .ensures))
+
+returns-2 : tie.Need-returns-2
+returns-2 c =
+    let called = c .before in
+    let branch = called .before .before in
+    let start = branch .before in
+    let a = start .args in
+    c .note2 .ensures
+    ∙ ap (λ (bs : List ℕ). noted bs (a .log .now))
+    (instance-bytes (a .unit) (a .digit) (a .nth) (start .pre .0) (start .pre .2) (sym (cond-false (ltb (a .unit) 18) 4 3 (le-ltb (a .unit) 18 (branch .if1 .left)))) (called .met-unit2 .ensures))
+
+pub note-met-spec : {M : Type 1} → statement M
+note-met-spec =
+    tie.close
+    (tie.spec
+    add-note
+    met-unit-requires
+    note-requires
+    add-note-2
+    met-unit-requires-2
+    note-requires-2
+    returns
+    returns-2)

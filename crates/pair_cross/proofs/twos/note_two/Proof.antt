@@ -1,0 +1,130 @@
+-- `pair_cross::twos::note_two` meets its contract. Assumes nothing.
+use mathlib.Core.Path.{_≡_, sym, ap, ap₂, _∙_, subst}
+use mathlib.Core.List.{[], _∷_}
+use Prim.Native.Nat.{ℕ, _+_, _<_}
+use native.Mathlib.Omega.{arith}
+use borrow.Author.Needs.{needs}
+use borrow.Author.Tests.{eq-eqb, ne-eqb}
+use Rattle.candidates.proofs.Tests.{cond-true, cond-false}
+use Rattle.grid.proofs.Units.{cell-below}
+use Rattle.steps.specs.Instances.{Instance}
+use Rattle.steps.specs.StepLists.{stepBytes}
+use Rattle.steps.specs.code.Logs.{noted}
+use Rattle.pair_cross.specs.code.Twos.{Framed, frameInstance}
+use Rattle.pair_cross.specs.declared.twos.Frame.{Frame}
+use Rattle.pair_cross.specs.declared.twos.Frame.the-variants.{Lines}
+use Rattle.pair_cross.proofs.twos.note_two.Statement.{statement}
+use Rattle.pair_cross.proofs.twos.note_two.Tie as tie
+
+enum-known-frame : tie.Need-enum-known-frame
+enum-known-frame c = search needs
+
+unit-cell-requires : tie.Need-unit-cell-requires
+unit-cell-requires c κs = search needs
+
+unit-cell-requires-2 : tie.Need-unit-cell-requires-2
+unit-cell-requires-2 c κs = search needs
+
+add-note : tie.Need-add-note
+add-note c = search needs
+
+add-note-2 : tie.Need-add-note-2
+add-note-2 c = search needs
+
+note-requires : tie.Need-note-requires
+note-requires c κs =
+    let second = c .before in
+    let first = second .before in
+    let told = first .before .before in
+    let start = told .before .before in
+    let a = start .args in
+    let u = told .frame .given .0 .0 in
+    let h : u < 27 = subst Framed (told .frame .given .1) (start .pre .0) in (
+      omega arith,
+      omega arith,
+      omega (arith, first .unit-cell .ensures, cell-below u (a .i) h (start .pre .1)),
+      omega (arith, second .unit-cell2 .ensures, cell-below u (a .j) h (start .pre .2)),
+      omega arith,
+      omega arith,
+    )
+
+enum-known-frame-2 : tie.Need-enum-known-frame-2
+enum-known-frame-2 c = search needs
+
+-- the digit of rows or columns
+digit-below : (c : tie.After-known-told2) → c .before .frame2 .given .0 .1 .0 < 9
+digit-below c = subst Framed (c .before .frame2 .given .1) (c .before .before .before .pre .0) .1
+
+add-note-3 : tie.Need-add-note-3
+add-note-3 c = omega (arith, digit-below (c .before .before))
+
+add-note-4 : tie.Need-add-note-4
+add-note-4 c = search needs
+
+add-note-5 : tie.Need-add-note-5
+add-note-5 c = search needs
+
+note-requires-2 : tie.Need-note-requires-2
+note-requires-2 c κs = (omega arith, omega (arith, digit-below (c .before .before)), omega arith, omega arith, omega arith, omega arith)
+
+add-note-6 : tie.Need-add-note-6
+add-note-6 c = omega (arith, digit-below (c .before .before))
+
+add-note-7 : tie.Need-add-note-7
+add-note-7 c = search needs
+
+add-note-8 : tie.Need-add-note-8
+add-note-8 c = search needs
+
+note-requires-3 : tie.Need-note-requires-3
+note-requires-3 c κs = (omega arith, omega (arith, digit-below (c .before .before)), omega arith, omega arith, omega arith, omega arith)
+
+returns : tie.Need-returns
+unfolding stepBytes
+returns c =
+    let second = c .before .before in
+    let told = second .before .before .before in
+    let a = told .before .before .args in
+    let u = told .frame .given .0 .0 in
+    c .note .ensures
+    ∙ ap₂ (λ (x y : ℕ). noted (2 ∷ u ∷ x ∷ y ∷ (a .a + 1) ∷ (a .b + 1) ∷ []) (a .log .now)) (second .before .unit-cell .ensures) (second .unit-cell2 .ensures)
+    ∙ sym (ap (λ (F : Frame). noted (stepBytes (frameInstance F (a .i) (a .j) (a .a) (a .b))) (a .log .now)) (told .frame .given .1))
+
+-- the step of rows or columns
+module _ (c : tie.After-frame2) where
+  abbrev given : Frame → Instance
+  given F = let a = c .before .before .args in frameInstance F (a .i) (a .j) (a .a) (a .b)
+
+  lines-step : (x : Instance) → given (Lines (c .frame2 .given .0 .0) (c .frame2 .given .0 .1 .0)) ≡ x → noted (stepBytes x) (c .before .before .args .log .now) ≡ noted (stepBytes (given (c .before .before .args .frame))) (c .before .before .args .log .now)
+  lines-step x e = ap (λ (y : Instance). noted (stepBytes y) (c .before .before .args .log .now)) (sym (ap given (c .frame2 .given .1) ∙ e))
+
+returns-2 : tie.Need-returns-2
+unfolding stepBytes
+returns-2 c = c .note2 .ensures ∙ lines-step (c .before .before .before .before) _ (cond-true _ _ _ (eq-eqb _ 0 (c .before .before .if1 .taken)))
+
+returns-3 : tie.Need-returns-3
+unfolding stepBytes
+returns-3 c = c .note3 .ensures ∙ lines-step (c .before .before .before .before) _ (cond-false _ _ _ (ne-eqb _ 0 (c .before .before .if1 .left)))
+
+pub note-two-spec : {M : Type 1} → statement M
+note-two-spec =
+    tie.close
+    (tie.spec
+    enum-known-frame
+    unit-cell-requires
+    unit-cell-requires-2
+    add-note
+    add-note-2
+    note-requires
+    enum-known-frame-2
+    add-note-3
+    add-note-4
+    add-note-5
+    note-requires-2
+    add-note-6
+    add-note-7
+    add-note-8
+    note-requires-3
+    returns
+    returns-2
+    returns-3)

@@ -1,0 +1,2 @@
+pub mod StepChecks
+pub mod code

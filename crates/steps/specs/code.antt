@@ -1,0 +1,3 @@
+-- How the code goes about it: nothing here needs belief.
+pub mod Decoding
+pub mod Logs
