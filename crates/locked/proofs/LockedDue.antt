@@ -10,13 +10,14 @@ use Rattle.candidates.proofs.Held.{Held, has-none, held-power}
 use Rattle.candidates.proofs.Tests.{by-test}
 use Rattle.grid.specs.Units.{unitCell, inUnit}
 use Rattle.grid.proofs.Units.{cell-below}
-use Rattle.steps.specs.Boards.{at, isOpen}
+use Rattle.steps.specs.Boards.{at, isOpen, Under}
 use Rattle.steps.specs.Instances.{lockedStep}
 use Rattle.steps.specs.Loops.{upTo}
 use Rattle.steps.specs.Steps.{stepTaken}
 use Rattle.steps.proofs.Loops.{in-upTo, each-idle, each-keeps}
 use Rattle.steps.proofs.Losses.{held-unless}
-use Rattle.steps.proofs.Steps.{lose-none}
+use Rattle.steps.proofs.Masks.{under-refl, under-trans}
+use Rattle.steps.proofs.Steps.{lose-none, take-under}
 use Rattle.cells.specs.code.Places.{loseIn, losePlaces}
 use Rattle.cells.specs.code.Meets.{meetings, metUnit}
 use Rattle.cells.proofs.Places.{lose-cell}
@@ -44,6 +45,13 @@ module _ (g : List ℕ) (u : ℕ) where
 
   pub digits-parted : Parted Alike (lockedDigit g u)
   digits-parted = digit-parted (lockedDigit g u) digit-kept
+
+-- nothing comes back
+pub unit-under : (g : List ℕ) (u : ℕ) (m : List ℕ) → Under (lockedUnit g u m) m
+unfolding lockedUnit lockedDigit
+unit-under g u m =
+    each-keeps (lockedDigit g u) (λ (n : List ℕ). Under n m) (upTo 9)
+    (λ d o. each-keeps (λ k. stepTaken (isOpen g) (lockedStep u (metUnit u k) d)) (λ (n : List ℕ). Under n m) (upTo (meetings u)) (λ k i n. under-trans (take-under (isOpen g) (lockedStep u (metUnit u k) d) n))) m (under-refl m)
 
 -- a unit of which nothing is due
 pub none-due : (g m : List ℕ) (u : ℕ) {due : ℕ} → DigitSkips g m u due → due ≡ 0 → lockedUnit g u m ≡ m

@@ -1,89 +1,104 @@
--- Pointing and Claiming: whether an instance loses anything, by what the one that meets the unit holds outside it. Assumes nothing.
+-- Whether a loss changed the masks: at one cell, at several one after the other, and what an instance notes by it. Assumes nothing.
 use mathlib.Core.Path.{_≡_, refl, sym, ap, _∙_, subst}
-use mathlib.Core.Logic.{_≢_}
-use mathlib.Core.Bool.{Bool, true, false, cond, not, _&&_, true≢false}
+use mathlib.Core.Bool.{Bool, true, false, cond, not, _||_, true≢false}
 use mathlib.Core.List.{List, [], _∷_}
 use Prim.Native.Nat.{ℕ, _<_}
-use lib.Bits.{bitAnd}
-use lib.Dec.{eqb}
-use Rattle.candidates.specs.Masks.{has, minus, single, placeMask}
-use Rattle.candidates.proofs.Held.{Held, held-power}
-use Rattle.candidates.proofs.Tests.{by-test, cond-true, both, both-left, both-right}
-use Rattle.grid.specs.Units.{unit, unitCell, inUnit}
-use Rattle.grid.proofs.Units.{cell-below, member-mem, at-place}
-use Rattle.steps.specs.Boards.{at, isOpen, sameMasks}
-use Rattle.steps.specs.Passes.{instanceTaken}
+use borrow.Author.Tests.{eqb-true, eq-eqb}
+use lib.Dec.{eqb, ltb}
+use lib.ListN.{length, set}
+use lib.Seq.{set-getD}
+use Rattle.candidates.proofs.Tests.{by-test, bool-iff}
+use Rattle.steps.specs.Boards.{at, Under, sameMasks}
+use Rattle.steps.specs.Passes.{changed, instanceTaken}
 use Rattle.steps.specs.StepLists.{stepBytes}
+use Rattle.steps.specs.Steps.{loseAt}
 use Rattle.steps.specs.code.Logs.{noted, logAfter}
-use Rattle.steps.proofs.Losses.{held-unless, lost-digits}
-use Rattle.steps.proofs.Masks.{same-eq}
+use Rattle.steps.proofs.Masks.{under-refl, under-trans, under-antisym, under-eq, same-refl, same-eq}
 use Rattle.steps.proofs.StepLogs.{log-one, log-none}
-use Rattle.cells.specs.code.Places.{losePlaces, unitMasks, heldPlaces}
-use Rattle.cells.specs.code.Meets.{meetings, metPlaces, outside, metUnit, meetTurn}
-use Rattle.cells.specs.code.Unions.{joinedAt}
-use Rattle.cells.proofs.Meetings.{met-below, off-met, met-lose}
-use Rattle.cells.proofs.NineBits.{place-is, not-held}
-use Rattle.cells.proofs.Places.{unit-mask, open-holds}
-use Rattle.cells.proofs.Shared.{joined-at, at-joined}
-use Rattle.locked.specs.code.Locked.{hasLoss, metInstance}
+use Rattle.steps.proofs.Steps.{lose-here, lose-length, lose-under}
+use Rattle.cells.specs.code.Places.{maskAt, loseIn, heldPlaces}
+use Rattle.cells.specs.code.Meets.{meetings, meetTurn}
+use Rattle.locked.specs.code.Locked.{metInstance}
 use Rattle.locked.proofs.LockedTurns.{instance-taken}
-use Rattle.locked.proofs.LockedDue.{places-idle}
 
-module _ (g : List ℕ) (u d k : ℕ) (hu : u < 27) (hd : d < 9) (hk : k < meetings u) (m : List ℕ) where
-  -- the masks after the loss, and what there is to lose
-  abbrev after : List ℕ
-  after = losePlaces (isOpen g) (metUnit u k) (outside u k) (placeMask d) m
+-- ---- one cell
 
-  abbrev out : ℕ
-  out = joinedAt (unitMasks g m (metUnit u k)) (outside u k)
-
-  cell : (i : ℕ) → i < 9 → has (at (unitMasks g m (metUnit u k)) i) d ≡ (isOpen g (unitCell (metUnit u k) i) && has (at m (unitCell (metUnit u k) i)) d)
-  cell i h = ap (λ (x : ℕ). has x d) (unit-mask g m (metUnit u k) i h) ∙ open-holds g m d (unitCell (metUnit u k) i) (cell-below (metUnit u k) i (met-below u k hu hk) h)
-
-  lost : has out d ≡ true → after ≢ m
-  lost t e =
-      let w = at-joined (unitMasks g m (metUnit u k)) (outside u k) d t in
-      let c = unitCell (metUnit u k) (w .0) in
-      let holds = sym (cell (w .0) (w .1)) ∙ w .3 in
-      lost-digits (isOpen g) (λ e. cond (inUnit u e) 0 (single d)) (unit (metUnit u k)) m c d .0
-      (subst (λ (n : List ℕ). Held (at n c) d) (sym e ∙ met-lose u k hu hk g d hd m) (both-right (isOpen g c) (has (at m c) d) holds)) .1
-      (record {
-        listed = member-mem (met-below u k hu hk) (at-place (metUnit u k) (w .0) (w .1));
-        free = both-left (isOpen g c) (has (at m c) d) holds;
-        digit = held-unless (inUnit u c) (single d) d .1 (turned (inUnit u c) (sym (off-met u k hu hk (w .0) (w .1)) ∙ w .2), held-power d d .1 refl);
-      })
+module _ (free : ℕ → Bool) (c k : ℕ) (m : List ℕ) where
+  -- the masks are the same where the cell's mask is
+  same-at : sameMasks m (loseAt free c k m) ≡ eqb (at m c) (at (loseAt free c k m) c)
+  same-at =
+      bool-iff (sameMasks m (loseAt free c k m)) (eqb (at m c) (at (loseAt free c k m) c)) (λ e. eq-eqb (at m c) (at (loseAt free c k m) c) (ap (λ (n : List ℕ). at n c) (same-eq m (loseAt free c k m) e)))
+      (λ e. back (free c) refl (eqb-true (at m c) (at (loseAt free c k m) c) e))
     where
-      turned : (b : Bool) → not b ≡ true → b ≡ false
-      turned true t = sym t
-      turned false t = refl
+      back : (b : Bool) → free c ≡ b → at m c ≡ at (loseAt free c k m) c → sameMasks m (loseAt free c k m) ≡ true
+      back true f e = rw f (ap (λ (x : ℕ). sameMasks m (set m c x)) (sym (e ∙ lose-here free c k m f)) ∙ ap (sameMasks m) (set-getD m c 0) ∙ same-refl m)
+      back false f e = rw f (same-refl m)
 
-  kept : has out d ≡ false → after ≡ m
-  kept t =
-      places-idle g (metUnit u k) (outside u k) (placeMask d) m (met-below u k hu hk)
-      (λ i h o free. subst (λ (x : ℕ). bitAnd (at m (unitCell (metUnit u k) i)) x ≡ 0) (sym (place-is d hd))
-      (not-held (at m (unitCell (metUnit u k) i)) d
-      (λ s. true≢false (sym (joined-at (unitMasks g m (metUnit u k)) (outside u k) d i h o (cell i h ∙ both free s)) ∙ t))))
+  pub told-at : {n : List ℕ} {x y : ℕ} → n ≡ loseIn free c k m → x ≡ maskAt m c → y ≡ maskAt n c → not (eqb x y) ≡ changed m n
+  told-at e p q = rw (p, q, e) (go (ltb c 81))
+    where
+      go : (b : Bool) → not (eqb (cond b (at m c) 0) (cond b (at (cond b (loseAt free c k m) m) c) 0)) ≡ not (sameMasks m (cond b (loseAt free c k m) m))
+      go true = ap not (sym same-at)
+      go false = ap not (sym (same-refl m))
 
-  module _ (held : ℕ) where
-    abbrev here : Bool
-    here = eqb (minus held (metPlaces k)) 0
+-- ---- several losses, one after the other
 
-    turn-lost : hasLoss g u d held k m ≡ true → meetTurn g u d held k m ≢ m
-    unfolding meetTurn
-    turn-lost t e = lost (both-right here (has out d) t) (sym (cond-true here after m (both-left here (has out d) t)) ∙ e)
+-- nothing comes back
+pub record Less (n m : List ℕ) : Type 0 where
+  pub size : length n ≡ length m
+  pub under : Under n m
 
-    pub turn-kept : hasLoss g u d held k m ≡ false → meetTurn g u d held k m ≡ m
-    unfolding meetTurn
-    turn-kept t = by-test (λ (n : List ℕ). n ≡ m) here after m (λ s. kept (rw s at t)) (λ s. refl)
+pub less-refl : (m : List ℕ) → Less m m
+less-refl m = record { size = refl; under = under-refl m }
 
-    module _ (is : held ≡ heldPlaces m u d) (l : List ℕ) where
-      -- what is noted
-      pub log-lost : hasLoss g u d held k m ≡ true → noted (stepBytes (metInstance u d k)) l ≡ logAfter g (metInstance u d k ∷ []) m l
-      log-lost t = sym (log-one g (metInstance u d k) m l (go (sameMasks m (instanceTaken g (metInstance u d k) m)) refl))
-        where
-          go : (b : Bool) → sameMasks m (instanceTaken g (metInstance u d k) m) ≡ b → b ≡ false
-          go true e = absurd (turn-lost t (sym (same-eq m (instanceTaken g (metInstance u d k) m) e ∙ instance-taken g u d k hu hd hk m is)))
-          go false e = refl
+pub less-in : (free : ℕ → Bool) (c k : ℕ) (m : List ℕ) → Less (loseIn free c k m) m
+less-in free c k m = by-test (λ (n : List ℕ). Less n m) (ltb c 81) (loseAt free c k m) m (λ t. record { size = lose-length free c k m; under = lose-under free c k m }) (λ t. less-refl m)
 
-      pub log-kept : hasLoss g u d held k m ≡ false → l ≡ logAfter g (metInstance u d k ∷ []) m l
-      log-kept t = sym (log-none g (metInstance u d k) m l (instance-taken g u d k hu hd hk m is ∙ turn-kept t))
+pub less-then : {m n o : List ℕ} → Less n m → Less m o → Less n o
+less-then p q = record { size = p .size ∙ q .size; under = under-trans (p .under) (q .under) }
+
+pub changed-then : {m n o : List ℕ} → Less n m → Less m o → (changed o m || changed m n) ≡ changed o n
+changed-then {m} {n} {o} p q = go (sameMasks o m) refl
+  where
+    go : (b : Bool) → sameMasks o m ≡ b → (not b || changed m n) ≡ changed o n
+    go true e = ap (λ (x : List ℕ). changed x n) (sym (same-eq o m e))
+    go false e = later (sameMasks o n) refl
+      where
+        later : (t : Bool) → sameMasks o n ≡ t → true ≡ not t
+        later true f =
+            let same = same-eq o n f in
+            absurd (true≢false (sym (same-refl o) ∙ ap (sameMasks o) (sym (under-antisym (q .size) (q .under) (under-trans (under-eq same) (p .under)))) ∙ e))
+        later false f = refl
+
+pub told-none : (m : List ℕ) → false ≡ changed m m
+told-none m = ap not (sym (same-refl m))
+
+-- whether anything was lost since m₀, after one more loss, or none
+module _ {m₀ m n : List ℕ} {any next : Bool} (less : Less m m₀) (told : any ≡ changed m₀ m) where
+  pub told-on : (free : ℕ → Bool) (c k : ℕ) {now : Bool} → n ≡ loseIn free c k m → now ≡ changed m n → next ≡ (any || now) → Less n m₀ × (next ≡ changed m₀ n)
+  told-on free c k e p q =
+      let here = subst (λ (x : List ℕ). Less x m) (sym e) (less-in free c k m) in
+      (less-then here less, q ∙ rw (told, p) (changed-then here less))
+
+  pub told-past : n ≡ m → next ≡ any → Less n m₀ × (next ≡ changed m₀ n)
+  told-past e q = rw (e, q) (less, told)
+
+-- ---- what an instance notes
+
+module _ (g : List ℕ) (u d k : ℕ) (hu : u < 27) (hd : d < 9) (hk : k < meetings u) (m : List ℕ) {n : List ℕ} {held : ℕ} (is : held ≡ heldPlaces m u d) (turned : n ≡ meetTurn g u d held k m) (l : List ℕ) where
+  after : n ≡ instanceTaken g (metInstance u d k) m
+  after = turned ∙ sym (instance-taken g u d k hu hd hk m is)
+
+  pub log-lost : changed m n ≡ true → noted (stepBytes (metInstance u d k)) l ≡ logAfter g (metInstance u d k ∷ []) m l
+  log-lost t = sym (log-one g (metInstance u d k) m l (ap (sameMasks m) (sym after) ∙ turn-round (sameMasks m n) t))
+    where
+      turn-round : (b : Bool) → not b ≡ true → b ≡ false
+      turn-round true t = sym t
+      turn-round false t = refl
+
+  pub log-kept : changed m n ≡ false → l ≡ logAfter g (metInstance u d k ∷ []) m l
+  log-kept t = sym (log-none g (metInstance u d k) m l (sym after ∙ sym (same-eq m n (turn-round (sameMasks m n) t))))
+    where
+      turn-round : (b : Bool) → not b ≡ false → b ≡ true
+      turn-round true t = refl
+      turn-round false t = sym t

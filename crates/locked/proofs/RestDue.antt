@@ -1,13 +1,15 @@
 -- A digit that is not due by the rests loses nothing: no open cell of a unit that meets this one holds it outside this one, where this one holds it in that alone. Assumes nothing.
 use mathlib.Core.Path.{_≡_, refl, sym, ap, _∙_, subst}
+use mathlib.Core.Logic.{_≢_}
 use mathlib.Core.Bool.{Bool, true, false, cond, not, _&&_, true≢false}
 use mathlib.Core.List.{List}
 use Prim.Native.Nat.{ℕ, _+_, _*_, _-_, _/_, _%_, _≤_, _<_}
 use native.Mathlib.Decide.{ℕ-discrete, decLt}
 use native.Mathlib.Omega.{arith}
-use borrow.Author.Tests.{lt-ltb, le-ltb, eqb-true}
+use borrow.Author.Tests.{lt-ltb, le-ltb, ltb-true, ltb-false, eqb-true}
 use lib.Bits.{bitAnd}
 use lib.Dec.{eqb, ltb, eqb→eq, ltb→lt}
+use lib.ListN.{length}
 use Rattle.candidates.specs.Masks.{has, minus, union, placeMask, Sub}
 use Rattle.candidates.proofs.Held.{Held, held-minus, held-sub, held-all}
 use Rattle.candidates.proofs.Order.{sub-trans, sub-of-minus, union-left, union-right}
@@ -15,26 +17,25 @@ use Rattle.candidates.proofs.Tests.{and-left, and-right, below-both, implies, i
 use Rattle.grid.specs.Units.{unitCell}
 use Rattle.grid.proofs.Lists.{at-upTo}
 use Rattle.grid.proofs.Units.{cell-below}
-use Rattle.steps.specs.Boards.{at, isOpen}
+use Rattle.steps.specs.Boards.{at, isOpen, Under}
 use Rattle.steps.specs.Loops.{upTo}
 use Rattle.steps.proofs.Loops.{in-upTo, each-idle}
-use Rattle.cells.specs.code.Places.{losePlaces, heldPlaces}
+use Rattle.cells.specs.code.Places.{allMasks, losePlaces, heldPlaces}
 use Rattle.cells.specs.code.Meets.{meetings, metPlaces, metBack, outside, boxUnit, lineUnit, metUnit, meetTurn, meetTurns}
 use Rattle.cells.proofs.HeldPlaces.{has-held}
 use Rattle.cells.proofs.Meetings.{three-boxes, six-lines, met-below}
+use Rattle.cells.proofs.Places.{all-mask}
 use Rattle.cells.proofs.NineBits.{place-is, not-held, held-meet}
 use Rattle.cells.proofs.Shared.{joined-at, at-joined}
 use Rattle.lanes.specs.code.Lanes.{laid, doorsOf, laneAt, laneMasks, Alike}
 use Rattle.lanes.proofs.LaneUnits.{lane-at, lane-reads}
 use Rattle.locked.specs.code.Locked.{DigitSkips, BoxesOrLines}
-use Rattle.locked.specs.code.Rests.{looseMasks, restOf, Rests, dueOn, dueThree, rowDue, colDue, boxDue, unitDue}
+use Rattle.locked.specs.code.Rests.{looseMasks, restOf, Rests, laneOf, renewed, dueOn, dueThree, rowDue, colDue, boxDue, unitDue}
 use Rattle.locked.proofs.LockedTurns.{locked-digit}
 use Rattle.locked.proofs.LockedDue.{places-idle}
+use Rattle.locked.proofs.RestTable.{renewed-size, renewed-own, renewed-other}
 
 -- ---- the lane of a unit
-
-abbrev laneOf : ℕ → ℕ
-laneOf u = 16 * (u / 9) + u % 9
 
 lane-holds : (u i : ℕ) → u < 27 → i < 9 → (m : List ℕ) → laneAt (laid m) (laneOf u) i ≡ bitAnd (at m (unitCell u i)) 511
 lane-holds u i hu hi m =
@@ -166,7 +167,7 @@ module _ (r : List ℕ) where
 -- ---- what stands there
 
 -- where u is a box, those that meet it are lines, and where it is a line, boxes
-module _ (p q : List ℕ) (r : List ℕ) (u k : ℕ) (hu : u < 27) (hk : k < meetings u) where
+module _ (u k : ℕ) (hu : u < 27) (hk : k < meetings u) where
   lines-meet : 18 ≤ u → (metUnit u k < 18) × (metBack u k < 3)
   unfolding metBack metUnit boxUnit lineUnit
   lines-meet h =
@@ -180,48 +181,86 @@ module _ (p q : List ℕ) (r : List ℕ) (u k : ℕ) (hu : u < 27) (hk : k < mee
       let v = ltb→lt 17 (metUnit u k) (and-left (ltb 17 (metUnit u k)) (ltb (metBack u k) 6) t) in
       (omega (arith, v), ltb→lt (metBack u k) 6 (and-right (ltb 17 (metUnit u k)) (ltb (metBack u k) 6) t))
 
-  is-box : ltb u 18 ≡ false → 18 ≤ u
-  is-box e = go (decLt u 18)
-    where
-      go : Dec (u < 18) → 18 ≤ u
-      go (yes h) = absurd (true≢false (sym (lt-ltb u 18 h) ∙ e))
-      go (no h) = omega arith
-
-  is-line : ltb u 18 ≡ true → u < 18
-  is-line e = go (decLt u 18)
-    where
-      go : Dec (u < 18) → u < 18
-      go (yes h) = h
-      go (no h) = absurd (true≢false (sym e ∙ le-ltb u 18 (omega arith)))
-
+module _ (p q : List ℕ) (r : List ℕ) (u k : ℕ) (hu : u < 27) (hk : k < meetings u) where
   out-is : (boxes : Bool) → Rests p q boxes r → ltb u 18 ≡ not boxes → at r (outAt u k) ≡ restOf (looseMasks p q (laneOf (metUnit u k))) (metBack u k)
-  out-is true w e = let b = lines-meet (is-box e) in w .lines (metBack u k) (laneOf (metUnit u k)) (b .1) (omega (arith, b .0))
-  out-is false w e = let b = boxes-meet (is-line e) in w .blocks (metBack u k) (laneOf (metUnit u k)) (b .1) (omega (arith, b .0)) (omega (arith, met-below u k hu hk))
+  out-is true w e = let b = lines-meet u k hu hk (ltb-false u 18 e) in w .lines (metBack u k) (laneOf (metUnit u k)) (b .1) (omega (arith, b .0))
+  out-is false w e = let b = boxes-meet u k hu hk (ltb-true u 18 e) in w .blocks (metBack u k) (laneOf (metUnit u k)) (b .1) (omega (arith, b .0)) (omega (arith, met-below u k hu hk))
 
   off-is : (boxes : Bool) → Rests p q boxes r → ltb u 18 ≡ not boxes → at r (offAt u k) ≡ restOf (laneMasks p (laneOf u)) k
-  off-is true w e = let h = is-box e in w .blocks k (laneOf u) (omega (arith, six-lines h, hk)) (omega (arith, h)) (omega arith)
-  off-is false w e = let h = is-line e in w .lines k (laneOf u) (omega (arith, three-boxes h, hk)) (omega (arith, h))
+  off-is true w e = let h = ltb-false u 18 e in w .blocks k (laneOf u) (omega (arith, six-lines h, hk)) (omega (arith, h)) (omega arith)
+  off-is false w e = let h = ltb-true u 18 e in w .lines k (laneOf u) (omega (arith, three-boxes h, hk)) (omega (arith, h))
+
+-- ---- what the table says of the masks
+
+-- what the units that may lose hold outside those that meet them is in their rests
+pub record Outs (g m : List ℕ) (boxes : Bool) (r : List ℕ) : Type 0 where
+  pub size : length r ≡ 288
+  pub there : (u k i d : ℕ) → u < 27 → ltb u 18 ≡ not boxes → k < meetings u → i < 9 → d < 9 → Held (outside u k) i → isOpen g (unitCell (metUnit u k) i) ≡ true → Held (at m (unitCell (metUnit u k) i)) d → Held (at r (outAt u k)) d
+
+-- what is in a unit's own rests, it holds there
+pub record Owns (m : List ℕ) (u : ℕ) (r : List ℕ) : Type 0 where
+  pub from : (k d : ℕ) → k < meetings u → Held (at r (offAt u k)) d → (i : ℕ) × (i < 9) × Held (minus 511 (metPlaces k)) i × Held (at m (unitCell u i)) d
+
+pub outs-less : {g m n o : List ℕ} {boxes : Bool} {r : List ℕ} → o ≡ n → Under n m → Outs g m boxes r → Outs g o boxes r
+outs-less e p w = rw e (record { size = w .size; there = λ u k i d hu kind hk hi hd out free t. w .there u k i d hu kind hk hi hd out free (held-sub d (p .at (unitCell (metUnit u k) i)) t) })
+
+-- the table as it was written, and as it stays until anything is lost
+pub rests-laid : (g m : List ℕ) {q p r : List ℕ} {boxes : Bool} → q ≡ laid (doorsOf g) → p ≡ laid m → Rests p q boxes r → Rests (laid m) (laid (doorsOf g)) boxes r
+rests-laid g m {q} {p} {r} {boxes} doors lanes w = subst (λ (z : List ℕ). Rests (laid m) z boxes r) doors (subst (λ (z : List ℕ). Rests z q boxes r) lanes w)
+
+pub rests-stay : {m n q r s : List ℕ} {boxes : Bool} → n ≡ m → s ≡ r → Rests (laid m) q boxes r → Rests (laid n) q boxes s
+rests-stay e is w = rw (e, is) w
+
+module _ (g m r : List ℕ) (boxes : Bool) where
+  module _ (w : Rests (laid m) (laid (doorsOf g)) boxes r) where
+    pub outs-laid : Outs g m boxes r
+    unfolding outside
+    outs-laid = record {
+      size = w .size;
+      there = λ u k i d hu kind hk hi hd o free t. subst (λ (x : ℕ). Held x d) (sym (out-is (laid m) (laid (doorsOf g)) r u k hu hk boxes w kind))
+          (joined-at (looseMasks (laid m) (laid (doorsOf g)) (laneOf (metUnit u k))) (minus 511 (metPlaces (metBack u k))) d i hi o (in-lane g m (metUnit u k) i d (met-below u k hu hk) hi hd free t));
+    }
+
+    owns-laid : (u : ℕ) → u < 27 → ltb u 18 ≡ not boxes → Owns m u r
+    owns-laid u hu kind = record {
+      from = λ k d hk t.
+          let v = at-joined (laneMasks (laid m) (laneOf u)) (minus 511 (metPlaces k)) d (subst (λ (x : ℕ). Held x d) (off-is (laid m) (laid (doorsOf g)) r u k hu hk boxes w kind) t) in
+          let here = subst (λ (x : ℕ). Held x d) (lane-reads (laid m) (laneOf u) (v .0) (v .1) ∙ lane-holds u (v .0) hu (v .1) m) (v .3) in
+          (v .0, v .1, v .2, held-meet (at m (unitCell u (v .0))) 511 d .0 here .0);
+    }
+
+  module _ (u : ℕ) (hu : u < 27) (kind : ltb u 18 ≡ not boxes) (w : Outs g m boxes r) where
+    -- a unit's lane is none of those that meet one of its kind
+    apart : (b : Bool) → ltb u 18 ≡ not b → (v k : ℕ) → v < 27 → ltb v 18 ≡ not b → k < meetings v → laneOf (metUnit v k) ≢ laneOf u
+    apart true e v k hv f hk q = absurd (omega (arith, lines-meet v k hv hk (ltb-false v 18 f) .0, ltb-false u 18 e))
+    apart false e v k hv f hk q = absurd (omega (arith, boxes-meet v k hv hk (ltb-true v 18 f) .0, ltb-true u 18 e))
+
+    outs-renewed : Outs g m boxes (renewed m u r)
+    outs-renewed = record {
+      size = renewed-size m u hu r (w .size);
+      there = λ v k i d hv f hk hi hd o free t. subst (λ (x : ℕ). Held x d) (sym (renewed-other m u hu r (w .size) (metBack v k) (laneOf (metUnit v k)) (omega (arith, met-below v k hv hk)) (apart boxes kind v k hv f hk))) (w .there v k i d hv f hk hi hd o free t);
+    }
+
+    owns-renewed : Owns m u (renewed m u r)
+    owns-renewed = record {
+      from = λ k d hk t.
+          let v = at-joined (allMasks m u) (minus 511 (metPlaces k)) d (subst (λ (x : ℕ). Held x d) (renewed-own m u hu r (w .size) k hk) t) in
+          (v .0, v .1, v .2, subst (λ (x : ℕ). Held x d) (all-mask m u (v .0) hu (v .1)) (v .3));
+    }
 
 -- ---- a digit that is not due
 
-module _ (g m r : List ℕ) (boxes : Bool) (u : ℕ) (hu : u < 27) (w : Rests (laid m) (laid (doorsOf g)) boxes r) (kind : ltb u 18 ≡ not boxes) where
+module _ (g m r : List ℕ) (boxes : Bool) (u : ℕ) (hu : u < 27) (outs : Outs g m boxes r) (owns : Owns m u r) (kind : ltb u 18 ≡ not boxes) where
   module _ (d : ℕ) (l : d < 9) (n : List ℕ) (same : Alike d n m) where
     -- an open cell's digit is in the rest of its unit
     in-out : (k : ℕ) → k < meetings u → (i : ℕ) → i < 9 → Held (outside u k) i → isOpen g (unitCell (metUnit u k) i) ≡ true → Held (at n (unitCell (metUnit u k) i)) d → Held (at r (outAt u k)) d
-    unfolding outside
-    in-out k hk i hi o free t =
-        subst (λ (x : ℕ). Held x d) (sym (out-is (laid m) (laid (doorsOf g)) r u k hu hk boxes w kind))
-        (joined-at (looseMasks (laid m) (laid (doorsOf g)) (laneOf (metUnit u k))) (minus 511 (metPlaces (metBack u k))) d i hi o
-        (in-lane g m (metUnit u k) i d (met-below u k hu hk) hi l free (sym (same .at (unitCell (metUnit u k) i)) ∙ t)))
+    in-out k hk i hi o free t = outs .there u k i d hu kind hk hi l o free (sym (same .at (unitCell (metUnit u k) i)) ∙ t)
 
     -- where the unit holds d in the k-th alone, d is not in its rest
     not-off : (k : ℕ) → k < meetings u → minus (heldPlaces n u d) (metPlaces k) ≡ 0 → Held (at r (offAt u k)) d → ⊥
     not-off k hk e t =
-        let v = at-joined (laneMasks (laid m) (laneOf u)) (minus 511 (metPlaces k)) d (subst (λ (x : ℕ). Held x d) (off-is (laid m) (laid (doorsOf g)) r u k hu hk boxes w kind) t) in
-        let i = v .0 in
-        let here = subst (λ (x : ℕ). Held x d) (lane-reads (laid m) (laneOf u) i (v .1) ∙ lane-holds u i hu (v .1) m) (v .3) in
-        held-minus 511 (metPlaces k) i .0 (v .2) .1
-        (held-sub i (sub-of-minus (heldPlaces n u d) (metPlaces k) e) (has-held n u d hu i (v .1) ∙ same .at (unitCell u i) ∙ held-meet (at m (unitCell u i)) 511 d .0 here .0))
+        let v = owns .from k d hk t in
+        held-minus 511 (metPlaces k) (v .0) .0 (v .2) .1 (held-sub (v .0) (sub-of-minus (heldPlaces n u d) (metPlaces k) e) (has-held n u d hu (v .0) (v .1) ∙ same .at (unitCell u (v .0)) ∙ v .3))
 
     turn-idle : has (unitDue r u) d ≡ false → (k : ℕ) → k < meetings u → meetTurn g u d (heldPlaces n u d) k n ≡ n
     unfolding meetTurn
@@ -238,8 +277,17 @@ module _ (g m r : List ℕ) (boxes : Bool) (u : ℕ) (hu : u < 27) (w : Rests (l
     idle = λ d l free n same. locked-digit g u d hu l n ∙ each-idle (meetTurn g u d (heldPlaces n u d)) (upTo (meetings u)) n (λ k o. turn-idle d l n same free k (in-upTo (meetings u) k o));
   }
 
--- as code finds it
-pub lanes-skip : (g m : List ℕ) {q p r : List ℕ} {boxes : Bool} {first end due : ℕ} (u : ℕ) → BoxesOrLines first end boxes → q ≡ laid (doorsOf g) → p ≡ laid m → Rests p q boxes r → first ≤ u → u < end → due ≡ unitDue r u → DigitSkips g m u due
-lanes-skip g m {q} {p} {r} {boxes} u kind doors lanes w from to is =
-    subst (DigitSkips g m u) (sym is)
-    (rest-skips g m r boxes u (omega (arith, kind .most)) (subst (λ (z : List ℕ). Rests (laid m) z boxes r) doors (subst (λ (z : List ℕ). Rests z q boxes r) lanes w)) (kind .each u from to))
+-- as code finds it: the unit's own rests taken anew, or not
+pub now-skips : (g m : List ℕ) {r s : List ℕ} {boxes : Bool} {first end due : ℕ} (u : ℕ) (lost : Bool) → BoxesOrLines first end boxes → first ≤ u → u < end → Outs g m boxes r → (lost ≡ false → Rests (laid m) (laid (doorsOf g)) boxes r)
+    → s ≡ cond lost (renewed m u r) r → due ≡ unitDue s u → Outs g m boxes s × DigitSkips g m u due
+now-skips g m {r} {s} {boxes} u lost kinds from to outs rests is due-is = rw (due-is, is) (go lost rests)
+  where
+    hu : u < 27
+    hu = omega (arith, kinds .most)
+
+    kind : ltb u 18 ≡ not boxes
+    kind = kinds .each u from to
+
+    go : (b : Bool) → (b ≡ false → Rests (laid m) (laid (doorsOf g)) boxes r) → Outs g m boxes (cond b (renewed m u r) r) × DigitSkips g m u (unitDue (cond b (renewed m u r) r) u)
+    go true w = let o = outs-renewed g m r boxes u hu kind outs in (o, rest-skips g m (renewed m u r) boxes u hu o (owns-renewed g m r boxes u hu kind outs) kind)
+    go false w = (outs, rest-skips g m r boxes u hu outs (owns-laid g m r boxes (w refl) u hu kind) kind)

@@ -6,13 +6,17 @@ use mathlib.Core.List.{List, [], _∷_, List·Memᴰ, List·Memᴰ·tail, List·
 use Prim.Native.Nat.{ℕ, _+_, _*_, _-_, _≤_, _<_}
 use native.Mathlib.Decide.{ℕ-discrete}
 use native.Mathlib.Omega.{arith}
+use lib.Dec.{ltb}
 use lib.ListN.{length, length-set}
 use lib.Seq.{getD-set-same, getD-set-other}
+use Rattle.candidates.proofs.Tests.{by-test}
 use Rattle.grid.proofs.Lists.{range-mem, mem-range}
 use Rattle.steps.specs.Boards.{at}
 use Rattle.steps.specs.Loops.{each, range, upTo}
 use Rattle.steps.proofs.Loops.{upTo-in, each-keeps}
-use Rattle.locked.specs.code.Rests.{nineOf, restOf, putRest, putLane, putTurn, putLanes, putRests, Rests}
+use Rattle.cells.specs.code.Meets.{meetings}
+use Rattle.cells.specs.code.Places.{allMasks}
+use Rattle.locked.specs.code.Rests.{nineOf, restOf, putRest, putLane, putTurn, putLanes, putRests, Rests, laneOf, renewed}
 
 -- what one member brings about and all keep
 reached : {A S : Type 0} (f : A → S → S) (P : S → Type 0) (xs : List A) (x : A) → List·Memᴰ x xs → ((s : S) → P (f x s)) → ((y : A) → List·Memᴰ y xs → (s : S) → P s → P (f y s)) → (s : S) → P (each f xs s)
@@ -47,12 +51,14 @@ module _ (n l x : ℕ) (low : l < 48) where
       one j (yes q) s p = subst (λ (i : ℕ). Reads n l x (putRest nine l i s)) q (store-made nine (omega arith) e s)
       one j (no q) s p = store-kept nine l j (λ b. q (omega arith)) s p
 
+lane-size : (nine : List ℕ) (count l : ℕ) (r : List ℕ) → length r ≡ 288 → length (putLane nine count l r) ≡ 288
+unfolding putLane
+lane-size nine count l r size = each-keeps (putRest nine l) (λ (s : List ℕ). length s ≡ 288) (upTo count) (λ j i t d. length-set t (48 * j + l) (restOf nine j) ∙ d) r size
+
 module _ (p q : List ℕ) (loose : Bool) (count first end : ℕ) (rise : first ≤ end) (most : end ≤ 48) where
   lanes-size : (r : List ℕ) → length r ≡ 288 → length (putLanes p q loose count first end r) ≡ 288
-  unfolding putLanes putLane
-  lanes-size r size =
-      each-keeps (putTurn p q loose count) (λ (s : List ℕ). length s ≡ 288) (range (end - first) first)
-      (λ k o s e. each-keeps (putRest (nineOf p q loose k) k) (λ (s : List ℕ). length s ≡ 288) (upTo count) (λ j i t d. length-set t (48 * j + k) (restOf (nineOf p q loose k) j) ∙ d) s e) r size
+  unfolding putLanes
+  lanes-size r size = each-keeps (putTurn p q loose count) (λ (s : List ℕ). length s ≡ 288) (range (end - first) first) (λ k o. lane-size (nineOf p q loose k) count k) r size
 
   -- lanes before the first
   lanes-kept : (n l x : ℕ) → l < first → (r : List ℕ) → Reads n l x r → Reads n l x (putLanes p q loose count first end r)
@@ -93,3 +99,22 @@ module _ (p q : List ℕ) (boxes : Bool) (r : List ℕ) (size : length r ≡ 288
 
 pub rests-read : (p q : List ℕ) (boxes : Bool) (r : List ℕ) {s : List ℕ} → length r ≡ 288 → s ≡ putRests p q boxes r → Rests p q boxes s
 rests-read p q boxes r size is = subst (Rests p q boxes) (sym is) (read p q boxes r size)
+
+-- ---- a unit's own rests taken anew
+
+module _ (m : List ℕ) (u : ℕ) (hu : u < 27) (r : List ℕ) (size : length r ≡ 288) where
+  pub renewed-size : length (renewed m u r) ≡ 288
+  unfolding renewed
+  renewed-size = lane-size (allMasks m u) (meetings u) (laneOf u) r size
+
+  pub renewed-own : (k : ℕ) → k < meetings u → at (renewed m u r) (48 * k + laneOf u) ≡ restOf (allMasks m u) k
+  unfolding renewed
+  renewed-own k h = lane-made k (laneOf u) (restOf (allMasks m u) k) (omega arith) (allMasks m u) (meetings u) h most refl r renewed-size
+    where
+      most : meetings u ≤ 6
+      most = unfold meetings in by-test (λ (n : ℕ). n ≤ 6) (ltb u 18) 3 6 (λ t. omega arith) (λ t. omega arith)
+
+  -- the other lanes stay
+  pub renewed-other : (n l : ℕ) → l < 48 → l ≢ laneOf u → at (renewed m u r) (48 * n + l) ≡ at r (48 * n + l)
+  unfolding renewed
+  renewed-other n l low other = lane-kept n l (at r (48 * n + l)) low (allMasks m u) (meetings u) (laneOf u) (omega arith) other r (λ _. refl) renewed-size

@@ -2,9 +2,11 @@
 // Where a line and a box meet, a digit that the rest of one holds and the rest of the other does not is due: what the one holds of it outside the other is lost.
 // The nth rest of lane l stands at 48 n + l. Of the units that may lose, open cells count alone.
 ghost use mathlib.Core.Path.{_≡_};
+ghost use mathlib.Core.Bool.{cond};
 ghost use Prim.Native.Nat.{_+_, _*_, _<_};
-ghost use Rattle.locked.specs.code.Rests.{looseMasks, nineOf, putRest, putLane, putLanes, putRests, dueThree, rowDue, colDue, boxDue, unitDue};
+ghost use Rattle.locked.specs.code.Rests.{looseMasks, nineOf, putRest, putLane, putLanes, putRests, renewed, dueThree, rowDue, colDue, boxDue, unitDue};
 use candidates::masks;
+use cells::all_masks;
 use cells::meets::met_places;
 use cells::unions::join_places;
 use lanes::lane_masks;
@@ -132,7 +134,7 @@ fn box_due(rests: &[u16; 288], block: usize) -> u16
 }
 
 // The digits of a unit whose instances may lose anything.
-pub fn due_digits(rests: &[u16; 288], unit: usize) -> u16
+fn due_digits(rests: &[u16; 288], unit: usize) -> u16
     requires { ⌜ unit < 27 ⌝ }
     ensures { λ r. ⌜ r ≡ unitDue (now (rests .entry)) unit ⌝ }
 {
@@ -143,4 +145,30 @@ pub fn due_digits(rests: &[u16; 288], unit: usize) -> u16
         return col_due(rests, unit - 9);
     }
     box_due(rests, unit - 18)
+}
+
+// The unit's own rests anew, from the masks.
+fn renew(masks: &[u16; 81], rests: &mut [u16; 288], unit: usize)
+    requires { ⌜ unit < 27 ⌝ }
+    ensures { λ _. ⌜ now (rests .exit) ≡ renewed (now (masks .entry)) unit (now (rests .entry)) ⌝ }
+{
+    let own = all_masks(masks, unit);
+    let lane = 16 * (unit / 9) + unit % 9;
+    if 18 <= unit {
+        put_six(&own, rests, lane);
+    } else {
+        put_three(&own, rests, lane);
+    }
+}
+
+// What is due of a unit, its own rests taken anew where losses have made them stale. What the others hold only shrinks, so that their rests still tell all that may be due.
+pub fn due_now(masks: &[u16; 81], rests: &mut [u16; 288], unit: usize, stale: bool) -> u16
+    requires { ⌜ unit < 27 ⌝ }
+    ensures { λ _. ⌜ now (rests .exit) ≡ cond stale (renewed (now (masks .entry)) unit (now (rests .entry))) (now (rests .entry)) ⌝ }
+    ensures { λ r. ⌜ r ≡ unitDue (now (rests .exit)) unit ⌝ }
+{
+    if stale {
+        renew(masks, rests, unit);
+    }
+    due_digits(rests, unit)
 }

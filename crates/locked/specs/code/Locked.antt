@@ -1,17 +1,15 @@
 -- Pointing and Claiming by units and digits, and where they may lose anything: a box and the lines that meet it, a line and the boxes that meet it.
 use mathlib.Core.Path.{_≡_}
-use mathlib.Core.Bool.{Bool, false, cond, not, _&&_}
+use mathlib.Core.Bool.{Bool, false, cond, not}
 use mathlib.Core.List.{List, [], _∷_}
 use Prim.Native.Nat.{ℕ, _-_, _<_, _≤_}
-use lib.Dec.{eqb, ltb}
-use Rattle.candidates.specs.Masks.{has, minus}
+use lib.Dec.{ltb}
+use Rattle.candidates.specs.Masks.{has}
 use Rattle.steps.specs.Boards.{isOpen}
 use Rattle.steps.specs.Instances.{Instance, pointing, claiming, lockedStep}
 use Rattle.steps.specs.Loops.{each, for, upTo}
 use Rattle.steps.specs.Steps.{stepTaken}
-use Rattle.cells.specs.code.Places.{unitMasks}
-use Rattle.cells.specs.code.Meets.{meetings, metPlaces, outside, metUnit}
-use Rattle.cells.specs.code.Unions.{joinedAt}
+use Rattle.cells.specs.code.Meets.{meetings, metUnit}
 use Rattle.lanes.specs.code.Lanes.{Alike}
 
 -- the instance of u, d and the k-th unit that meets u; those of a digit; and those of a unit
@@ -31,10 +29,6 @@ lockedDigit g u d m = each (λ k. stepTaken (isOpen g) (lockedStep u (metUnit u 
 
 unfoldable pub lockedUnit : List ℕ → ℕ → List ℕ → List ℕ
 lockedUnit g u m = each (lockedDigit g u) (upTo 9) m
-
--- `held` are the places of u that hold d: all of them are in the k-th, whose open cells hold d outside u
-abbrev pub hasLoss : List ℕ → ℕ → ℕ → ℕ → ℕ → List ℕ → Bool
-hasLoss g u d held k m = eqb (minus held (metPlaces k)) 0 && has (joinedAt (unitMasks g m (metUnit u k)) (outside u k)) d
 
 -- the instances of a digit that is not due lose nothing, as long as the masks hold it where they do in m
 pub record DigitSkips (g m : List ℕ) (u due : ℕ) : Type 0 where

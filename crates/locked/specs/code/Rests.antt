@@ -9,7 +9,8 @@ use lib.ListN.{length, set}
 use Rattle.candidates.specs.Masks.{minus, union}
 use Rattle.steps.specs.Boards.{at}
 use Rattle.steps.specs.Loops.{each, range, upTo}
-use Rattle.cells.specs.code.Meets.{metPlaces}
+use Rattle.cells.specs.code.Meets.{meetings, metPlaces}
+use Rattle.cells.specs.code.Places.{allMasks}
 use Rattle.cells.specs.code.Unions.{joinedAt}
 use Rattle.lanes.specs.code.Lanes.{laneAt, laneMasks}
 
@@ -47,6 +48,14 @@ pub record Rests (p q : List ℕ) (boxes : Bool) (r : List ℕ) : Type 0 where
   pub size : length r ≡ 288
   pub lines : (n l : ℕ) → n < 3 → l < 32 → at r (48 * n + l) ≡ restOf (nineOf p q boxes l) n
   pub blocks : (n l : ℕ) → n < 6 → 32 ≤ l → l < 48 → at r (48 * n + l) ≡ restOf (nineOf p q (not boxes) l) n
+
+-- the lane of a unit
+abbrev pub laneOf : ℕ → ℕ
+laneOf u = 16 * (u / 9) + u % 9
+
+-- a unit's own rests anew, clue cells too
+unfoldable pub renewed : List ℕ → ℕ → List ℕ → List ℕ
+renewed m u r = putLane (allMasks m u) (meetings u) (laneOf u) r
 
 -- ---- what is due
 
