@@ -39,6 +39,8 @@ ORDER = [
     ("steps/specs/SinglesHold", "beyond the demands: what a reported single means"),
     ("steps/specs/StepLists", "document 02, F-10: steps as bytes, the checker of step lists, effective steps"),
     ("steps/specs/StepPromises", "the promise on step lists"),
+    ("steps/specs/Difficulty", "document 02, F-14: what each pass removed, points, the difficulty figure"),
+    ("steps/specs/DifficultyPromises", "the promise on the figure"),
     ("symmetries/specs/Changes", "document 02, F-13: changes of cells and digits, and the six kinds"),
     ("symmetries/specs/OtherClothes", "the promise on grids in other clothes"),
     ("board/specs/Answers", "what the board's enums answer"),
@@ -57,6 +59,7 @@ ORDER = [
     ("techniques/specs/Techniques", "what the calls that report hand back"),
     ("eliminations/specs/Eliminations", "what the calls that remove candidates hand back"),
     ("passes/specs/Settlings", "what settling hands back"),
+    ("difficulty/specs/Ratings", "what the difficulty call answers"),
     ("chains/specs/Costly", "that the chain pass can cost a filling"),
     ("calls/specs/StepNumbers", "the calls by number, and what a step hands back"),
     ("calls/specs/Replays", "lists of step numbers"),
@@ -78,11 +81,12 @@ ORDER = [
     ("host/specs/Entries", "the exports that enter and rub out"),
     ("host/specs/Steps", "the exports of steps and lists"),
     ("host/specs/StepLists", "the export of the checker of step lists"),
-    ("host/specs/Settlings", "the export of settling with its step list"),
+    ("host/specs/Settlings", "the export of settling with its step list and its counts"),
     ("host/specs/Texts", "the exports of texts and cards"),
     ("host/specs/Sheets", "the exports of sheets"),
     ("host/specs/Records", "the exports of records"),
     ("host/specs/Rounds", "the export of trial rounds"),
+    ("host/specs/Ratings", "the export of the difficulty figure"),
 ]
 PASSED_OVER = re.compile(r"\s*($|--|use |pub use |unfoldable pub use |pub mod |mod )")
 

@@ -1,6 +1,6 @@
 #!/usr/bin/env python3
 """What the program explain must print for a text. Made from the words of documents 01 (modules 2, 8, 9, 13 and the table of stops) and 02 (F-2, F-4,
-F-5) and from the line format in README.md; it knows nothing of the program.
+F-5, F-14) and from the line format in README.md; it knows nothing of the program.
 
     python3 tools/explain.py <crates/explain/stdin >crates/explain/stdout
 
@@ -121,6 +121,19 @@ def drawn(sets):
     yield ruling
 
 
+# F-14: "Points for each removed candidate are Lone 1, Place 2, Pointing 3, Claiming 3, Pair 4, Cross 6."
+POINTS = {"Lone": 1, "Place": 2, "Pointing": 3, "Claiming": 3, "Pair": 4, "Cross": 6}
+
+
+def difficulty(clues, steps):
+    """Points divided by open cells, "as a whole quotient and the exact remainder"; "A full grid has no figure"."""
+    cells = clues.count(0)
+    if not cells:
+        return "none"
+    points = sum(POINTS[title.split()[0]] * sum(map(len, lost.values())) for title, lost in steps)
+    return f"{points // cells}+{points % cells}/{cells}"
+
+
 def verdict(sets):
     if not all(sets):
         return "dead"
@@ -139,8 +152,9 @@ def explain(data):
     if len(clues) != 81:
         return [f"refused 11 {len(clues)}"]
     sets = [{clues[c]} if clues[c] else {d for d in DIGITS if all(clues[peer] != d for peer in PEERS[c])} for c in range(81)]
-    lines = [line(number, *step) for number, step in enumerate(settle(clues, sets), 1)]
-    return lines + [""] + list(drawn(sets)) + ["verdict " + verdict(sets)]
+    steps = list(settle(clues, sets))
+    lines = [line(number, *step) for number, step in enumerate(steps, 1)]
+    return lines + [""] + list(drawn(sets)) + ["difficulty " + difficulty(clues, steps), "verdict " + verdict(sets)]
 
 
 def printed(data):

@@ -2,6 +2,7 @@
 
 pub mod cases;
 pub mod clothes_cases;
+pub mod figure_cases;
 pub mod grids;
 pub mod oracle;
 pub mod plain;
@@ -24,6 +25,8 @@ pub type Masks = [u16; 81];
 pub type ReportBytes = [u8; 648];
 /// Room for 729 steps of wide passes, six bytes each.
 pub type StepBytes = [u8; 4374];
+/// What each of the six wide passes removed, in a sweep's order.
+pub type PassCounts = [usize; 6];
 /// Room for a card.
 pub type CardBytes = [u8; 256];
 type Answer = [i64; 4];
@@ -45,7 +48,7 @@ impl Board {
 }
 
 /// The number of the signatures below, which is raised with each change of one; `abi` says what the archive has.
-pub const ABI: u32 = 4;
+pub const ABI: u32 = 5;
 
 extern "C" {
     fn sudoku_abi() -> u32;
@@ -61,8 +64,9 @@ extern "C" {
     fn sudoku_rub_out(cell: u32, clues: *const Clues, entries: *mut Entries, masks: *mut Masks, answer: *mut Answer);
     fn sudoku_step(step: u8, clues: *const Clues, entries: *const Entries, masks: *mut Masks, reports: *mut ReportBytes, answer: *mut Answer);
     fn sudoku_run(steps: *const u8, length: usize, clues: *const Clues, entries: *const Entries, masks: *mut Masks, answer: *mut Answer);
-    fn sudoku_settle(clues: *const Clues, entries: *const Entries, masks: *mut Masks, steps: *mut StepBytes, answer: *mut Answer);
+    fn sudoku_settle(clues: *const Clues, entries: *const Entries, masks: *mut Masks, steps: *mut StepBytes, counts: *mut PassCounts, answer: *mut Answer);
     fn sudoku_check_steps(steps: *const u8, length: usize, clues: *const Clues, entries: *const Entries, masks: *mut Masks, answer: *mut Answer);
+    fn sudoku_difficulty(clues: *const Clues, entries: *const Entries, masks: *const Masks, answer: *mut Answer);
     fn sudoku_write_text(clues: *const Clues, text: *mut u8, length: usize, answer: *mut Answer);
     fn sudoku_read_sheet(sheet: *const u8, length: usize, clues: *mut Clues, answer: *mut Answer);
     fn sudoku_write_sheet(clues: *const Clues, sheet: *mut u8, length: usize, answer: *mut Answer);
@@ -244,10 +248,11 @@ pub struct Settled {
     pub steps: i64,
 }
 
-/// Settling, which changes the masks alone, and its effective steps, six bytes each; the bytes after the last are 0.
-pub fn settle(Board { clues, entries, masks }: &mut Board, steps: &mut StepBytes) -> Result<Settled, Stop> {
+/// Settling, which changes the masks alone, its effective steps, six bytes each (the bytes after the last are 0), and what each wide pass
+/// removed.
+pub fn settle(Board { clues, entries, masks }: &mut Board, steps: &mut StepBytes, counts: &mut PassCounts) -> Result<Settled, Stop> {
     let mut answer = [0; 4];
-    unsafe { sudoku_settle(clues, entries, masks, steps, &mut answer) };
+    unsafe { sudoku_settle(clues, entries, masks, steps, counts, &mut answer) };
     let [number, beside, sweeps, removed] = answer;
     if number == 0 { Ok(Settled { sweeps, removed, steps: beside }) } else { Err(Stop { number, detail: beside }) }
 }
@@ -255,6 +260,15 @@ pub fn settle(Board { clues, entries, masks }: &mut Board, steps: &mut StepBytes
 /// A list of setters' steps, six bytes each, checked from the fresh board of clues and entries: the masks of the final board.
 pub fn check_steps(steps: &[u8], Board { clues, entries, masks }: &mut Board) -> Result<(), Stop> {
     answered(|answer| unsafe { sudoku_check_steps(steps.as_ptr(), steps.len(), clues, entries, masks, answer) }).map(drop)
+}
+
+/// The difficulty figure of the fresh board of clues and entries: points over the open cells without entries.
+pub fn difficulty(Board { clues, entries, masks }: &Board) -> Result<plain::Difficulty, Stop> {
+    let mut answer = [0; 4];
+    unsafe { sudoku_difficulty(clues, entries, masks, &mut answer) };
+    let [number, beside, quotient, remainder] = answer;
+    let figure = plain::Difficulty { quotient: quotient as usize, remainder: remainder as usize, cells: beside as usize };
+    if number == 0 { Ok(figure) } else { Err(Stop { number, detail: beside }) }
 }
 
 /// The text of the clues in the first 81 lent bytes, and how many were written.

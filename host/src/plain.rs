@@ -623,6 +623,51 @@ fn settling(board: &mut Joint) -> Outcome {
     Outcome { sweeps, removed: before - candidates(&board.masks), ..silent(&board.masks) }
 }
 
+// ---- the difficulty figure (document 02, F-14)
+
+/// "points divided by open cells without entries, as a whole quotient and the exact remainder"
+#[derive(Clone, Copy, Debug, PartialEq, Eq)]
+pub struct Difficulty {
+    pub quotient: usize,
+    pub remainder: usize,
+    pub cells: usize,
+}
+
+/// The wide passes in a sweep's order.
+const WIDE: [fn(&mut Joint); 6] = [Joint::lone, Joint::place, Joint::pair, Joint::pointing, Joint::claiming, Joint::cross];
+
+/// "Points for each removed candidate are Lone 1, Place 2, Pointing 3, Claiming 3, Pair 4, Cross 6."
+const POINTS: [usize; 6] = [1, 2, 4, 3, 3, 6];
+
+/// "Settling shall count what each wide pass removed": the six in a sweep's order.
+pub fn pass_counts(board: &Board) -> Result<[usize; 6], Stop> {
+    let mut board = checked(board)?;
+    let mut counts = [0; 6];
+    loop {
+        let start = board.masks;
+        for (count, pass) in counts.iter_mut().zip(WIDE) {
+            let before = candidates(&board.masks);
+            pass(&mut board);
+            *count += before - candidates(&board.masks);
+        }
+        if board.masks == start {
+            return Ok(counts);
+        }
+    }
+}
+
+/// "A full grid has no figure and stops with 19, no open cell without an entry, with detail 0, checked before settling."
+pub fn difficulty(board: &Board) -> Result<Difficulty, Stop> {
+    let cells = checked(board)?.clues.iter().filter(|&&clue| clue == 0).count();
+    if cells == 0 {
+        return Err(Stop { number: 19, detail: 0 });
+    }
+    // "The figure, from settling the fresh board"
+    let counts = pass_counts(&afresh(&board.clues, &board.entries))?;
+    let points: usize = counts.iter().zip(POINTS).map(|(count, points)| count * points).sum();
+    Ok(Difficulty { quotient: points / cells, remainder: points % cells, cells })
+}
+
 // ---- verifier, verdict, and what a board is asked
 
 pub fn verify(grid: &Clues) -> bool {

@@ -61,7 +61,7 @@ pub fn is_fresh(board: &Board) -> bool {
 /// The engine's: `BROKEN` where what was lent holds something else than the page says.
 pub fn engine_settles(board: &Board) -> Result<(Outcome, Vec<u8>), Stop> {
     let (mut left, mut bytes) = (*board, [LENT_BYTE; 4374]);
-    match crate::settle(&mut left, &mut bytes) {
+    match crate::settle(&mut left, &mut bytes, &mut [0; 6]) {
         Err(stop) if left == *board && bytes == [LENT_BYTE; 4374] => Err(stop),
         Ok(crate::Settled { sweeps, removed, steps: steps @ 0..=729 }) if Board { masks: board.masks, ..left } == *board => {
             let (list, rest) = bytes.split_at(6 * steps as usize);

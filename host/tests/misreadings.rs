@@ -4,6 +4,7 @@ use std::fmt::Display;
 
 use sudoku_host::cases::{accessors_differ, damaged_case, differ, ported_case, ported_with_entries, run_case, run_differs, Case, Runner, EVERYTHING};
 use sudoku_host::clothes_cases::{clothes, lists_apart, relabelled, settled_apart, Change, Clothes};
+use sudoku_host::figure_cases::{counts_differ, figure, figures_differ, open_cells, to_rate, Counter, Rater};
 use sudoku_host::plain::{self, bit, block, col, row, see, unit, Outcome};
 use sudoku_host::random::Random;
 use sudoku_host::record_cases::{board_case, damaged, moves_differ, old_record, read_differs, record, written_differs, Record};
@@ -724,4 +725,86 @@ fn settling_that_tells_its_steps_from_the_fresh_board() {
     };
     let smallest = smallest_settling(from_fresh);
     assert!(smallest.kept != EVERYTHING || !smallest.calls.is_empty());
+}
+
+// ---- the difficulty figure
+
+fn smallest_figure(misread: Rater) -> Case {
+    smallest_case(to_rate, &|case| figures_differ(misread, case))
+}
+
+const POINTS: [usize; 6] = [1, 2, 4, 3, 3, 6];
+
+/// What settling counts from the fresh board of clues and entries, where the board stands and has an open cell.
+fn from_fresh(board: &Board) -> Result<[usize; 6], Stop> {
+    plain::difficulty(board)?;
+    plain::pass_counts(&plain::afresh(&board.clues, &board.entries))
+}
+
+#[test]
+fn points_of_pair_and_pointing_exchanged() {
+    let smallest = smallest_figure(|board| Ok(figure(&from_fresh(board)?, &[1, 2, 3, 4, 3, 6], open_cells(board))));
+    let counts = plain::pass_counts(&plain::afresh(&smallest.clues, &smallest.entries)).unwrap();
+    assert_ne!(counts[2], counts[3]);
+}
+
+#[test]
+fn clue_cells_in_the_divisor() {
+    let smallest = smallest_figure(|board| Ok(figure(&from_fresh(board)?, &POINTS, 81)));
+    assert_eq!(counted(&smallest.clues) + counted(&smallest.entries), 1);
+}
+
+#[test]
+fn entered_cells_in_the_divisor() {
+    let smallest = smallest_figure(|board| Ok(figure(&from_fresh(board)?, &POINTS, 81 - counted(&board.clues) as usize)));
+    assert_eq!((counted(&smallest.clues), counted(&smallest.entries)), (0, 1));
+}
+
+#[test]
+fn handed_masks_settled() {
+    let smallest = smallest_figure(|board| Ok(figure(&plain::difficulty(board).and_then(|_| plain::pass_counts(board))?, &POINTS, open_cells(board))));
+    assert!(smallest.kept != EVERYTHING);
+}
+
+/// The figure of a full grid after settling it: its 0 points over no cell, told as a figure.
+#[test]
+fn no_figure_told_as_nothing() {
+    let smallest = smallest_figure(|board| match plain::difficulty(board) {
+        Err(Stop { number: 19, .. }) => Ok(plain::Difficulty { quotient: 0, remainder: 0, cells: 0 }),
+        answer => answer,
+    });
+    assert_eq!(open_cells(&smallest.board()), 0);
+}
+
+/// 19 where settling leaves no cell open: found, and not made small, since the fewest clues of such a grid take long to find.
+#[test]
+fn nineteen_after_settling() {
+    let after: Rater = |board| {
+        let figure = plain::difficulty(board)?;
+        let (settled, _) = plain::settle(&plain::afresh(&board.clues, &board.entries))?;
+        if settled.masks.iter().all(|mask| mask.count_ones() == 1) { Err(Stop { number: 19, detail: 0 }) } else { Ok(figure) }
+    };
+    let found = (0..20_000).map(|at| to_rate(&mut Random::of_case(7, at))).find(|case| figures_differ(after, case).is_some());
+    assert_ne!(open_cells(&found.expect("the misreading is found").board()), 0);
+}
+
+#[test]
+fn counts_of_the_last_sweeps_alone() {
+    // the last sweep removes nothing, so the one before it
+    let last: Counter = |board| {
+        let mut counts = plain::pass_counts(board)?;
+        let mut board = *board;
+        loop {
+            let mut swept = board;
+            for step in [7, 8, 9, 10, 14, 11] {
+                swept.masks = plain::step(step, &swept)?.masks;
+            }
+            let rest = plain::pass_counts(&swept)?;
+            if rest == [0; 6] {
+                return Ok(counts);
+            }
+            (counts, board) = (rest, swept);
+        }
+    };
+    smallest_case(to_rate, &|case| counts_differ(last, case));
 }

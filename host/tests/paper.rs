@@ -1,8 +1,9 @@
 //! The published cases P1 to P11, the card and the stops of document 01, on the plain implementation; texts written, sheets, entries,
-//! records, cards, trial rounds and step lists on the engine too.
+//! records, cards, trial rounds, step lists and difficulty figures on the engine too.
 
+use sudoku_host::figure_cases::engine_counts;
 use sudoku_host::grids::{completed, of_text, GRID_A, PUBLISHED};
-use sudoku_host::plain::{self, fresh, Outcome};
+use sudoku_host::plain::{self, fresh, Difficulty, Outcome};
 use sudoku_host::random::Random;
 use sudoku_host::sheet_cases::{ruled, Style, BOXED};
 use sudoku_host::sides::{Accessors, Call, Engine, Original, Plain, Records, Side, LENT_BOARD};
@@ -885,4 +886,56 @@ fn f10_one_step_of_each_kind() {
     for (clues, step) in bad {
         assert_eq!(checked(&fresh_board(&clues), &step), stop(15, 0), "{step:?}");
     }
+}
+
+// ---- F-14: the difficulty figure
+
+/// The figure on the engine and on the plain implementation.
+fn rated(board: &Board) -> Result<Difficulty, Stop> {
+    let ours = sudoku_host::difficulty(board);
+    assert_eq!(ours, plain::difficulty(board));
+    ours
+}
+
+#[test]
+fn f14_p10_has_54_points_over_75_cells() {
+    let board = fresh_board(&p10());
+    for counts in [engine_counts(&board), plain::pass_counts(&board)] {
+        assert_eq!(counts, Ok([0, 0, 0, 18, 0, 0]));
+    }
+    let figure = Difficulty { quotient: 0, remainder: 54, cells: 75 };
+    assert_eq!(rated(&board), Ok(figure));
+    // the handed masks are checked and play no other part
+    let settled = Board { masks: step(12, &board.clues, &board.masks).unwrap().masks, ..board };
+    assert_eq!((engine_counts(&settled), rated(&settled)), (Ok([0; 6]), Ok(figure)));
+    assert_eq!(rated(&fresh_board(&OPEN)), Ok(Difficulty { quotient: 0, remainder: 0, cells: 81 }));
+}
+
+/// The steps of this grid by hand: Place removes 10, Pair 2, Pointing 2, Claiming 4, Cross 7 and Lone 4, which is 92 points over 53 cells.
+#[test]
+fn f14_every_pass_has_its_points() {
+    let rows = ["8...2.6.9", "...36....", "......5.3", ".9.63...4", "......96.", ".4...7...", "3..4...5.", "..6.7.3.2", ".1.283..6"];
+    let board = fresh_board(&of_text(&rows.concat()));
+    assert_eq!((engine_counts(&board), plain::pass_counts(&board)), (Ok([4, 10, 2, 2, 4, 7]), Ok([4, 10, 2, 2, 4, 7])));
+    assert_eq!(rated(&board), Ok(Difficulty { quotient: 1, remainder: 39, cells: 53 }));
+}
+
+/// 19 after the board's own stops, and before settling; an entry's cell is not open.
+#[test]
+fn f14_no_open_cell() {
+    let mut board = fresh_board(&of_text(GRID_A));
+    assert_eq!(rated(&board), stop(19, 0));
+    board.clues[0] = 0;
+    assert_eq!(rated(&board), Ok(Difficulty { quotient: 0, remainder: 0, cells: 1 }));
+    let mut entered = NO_ENTRIES;
+    entered[0] = 2;
+    board = plain::afresh(&board.clues, &entered);
+    assert_eq!(rated(&board), stop(19, 0));
+    let mut more = board;
+    more.masks[3] = 1023;
+    assert_eq!(rated(&more), stop(9, 3));
+    more.entries[1] = 1;
+    assert_eq!(rated(&more), stop(8, 1));
+    more.clues[80] = 10;
+    assert_eq!(rated(&more), stop(3, 80));
 }

@@ -61,7 +61,8 @@ fn step_masks(number: u8, givens: &[u8; 81], masks: &mut [u16; 81])
         11 => eliminate(Elimination::Cross, givens, masks),
         12 => {
             let mut log = [0u8; 4376];
-            settle(givens, masks, &mut log);
+            let mut by_pass = [0usize; 6];
+            settle(givens, masks, &mut log, &mut by_pass);
         }
         13 => eliminate(Elimination::Chains, givens, masks),
         14 => eliminate(Elimination::Claiming, givens, masks),

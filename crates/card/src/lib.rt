@@ -43,7 +43,8 @@ fn card_of(clues: &[i32; 81]) -> Card
     let mut masks = fresh_masks(&givens);
     let reported = singles(&givens, &masks).count;
     let mut log = [0u8; 4376];
-    let counts = settle(&givens, &mut masks, &mut log);
+    let mut by_pass = [0usize; 6];
+    let counts = settle(&givens, &mut masks, &mut log, &mut by_pass);
     Card {
         clues: count_clues(clues),
         reported,

@@ -12,6 +12,7 @@ use Rattle.cases.proofs.Entered.{entries-hold, equal-holds}
 use Rattle.cases.proofs.Recorded.{records-hold}
 use Rattle.cases.proofs.Clothed.{clothes-hold}
 use Rattle.cases.proofs.Stepped.{steps-hold}
+use Rattle.cases.proofs.Figured.{difficulty-holds}
 
 pub cases : Cases
 cases =
@@ -34,4 +35,5 @@ cases =
       records = records-hold;
       clothes = clothes-hold;
       steps = steps-hold;
+      difficulty = difficulty-holds;
     }

@@ -57,13 +57,16 @@ one-entered : entriesAfter (enter 0 (pos 1)) p5 noEntries ≡ gives (set noEntri
 unfolding entriesAfter p5 gridA gridOf for
 one-entered = refl
 
+pub one-taken : checkOf (withEntry p5 0 (pos 1)) ≡ gives tt
+one-taken = entry-taken p5 p5-clues (enter 0 (pos 1)) (set noEntries 0 (pos 1)) one-entered
+
 two-entered : entriesAfter (enter 0 (pos 2)) p5 noEntries ≡ gives (set noEntries 0 (pos 2))
 unfolding entriesAfter p5 gridA gridOf for
 two-entered = refl
 
 again : entryAnswer (enter 0 (pos 2)) (withEntry p5 0 (pos 1)) ≡ stop (AlreadyEntered 0)
 unfolding openedWith entriesAfter p5 gridA gridOf for
-again = on-taken (enter 0 (pos 2)) (withEntry p5 0 (pos 1)) (entry-taken p5 p5-clues (enter 0 (pos 1)) (set noEntries 0 (pos 1)) one-entered) refl
+again = on-taken (enter 0 (pos 2)) (withEntry p5 0 (pos 1)) one-taken refl
 
 masks : withEntry p5 0 (pos 1) .masks ≡ freshMasks p5
 unfolding openedWith together p5 gridA gridOf for givensOf fresh taken each cells peers

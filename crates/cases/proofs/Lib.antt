@@ -14,5 +14,6 @@ pub mod Entered
 pub mod Recorded
 pub mod Clothed
 pub mod Stepped
+pub mod Figured
 pub mod Cases
 pub mod Misread

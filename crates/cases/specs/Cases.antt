@@ -8,12 +8,13 @@ use lib.IntN.{ℤ, pos, negsuc}
 use lib.ListN.{length, getD, replicate, set}
 use Rattle.stops.specs.Answer.{gives, stop}
 use Rattle.stops.specs.Stops.{rowOf}
-use Rattle.stops.specs.declared.Stop.the-variants.{TextLength, OtherByte, BadClue, BadDigit, NoCell, RecordEntry, NotFresh, BadEntry, ClueCell, AlreadyEntered, NotEntered, RecordEntries, BadStep, TooManySteps}
+use Rattle.stops.specs.declared.Stop.the-variants.{TextLength, OtherByte, BadClue, BadDigit, NoCell, RecordEntry, NotFresh, BadEntry, ClueCell, AlreadyEntered, NotEntered, RecordEntries, BadStep, TooManySteps, NoOpenCell}
 use Rattle.candidates.specs.Masks.{has}
 use Rattle.grid.specs.Cells.{cells}
 use Rattle.grid.specs.Fillings.{verified}
 use Rattle.steps.specs.Boards.{Board, at, givensOf, givens, noEntries, withMasks, fresh, sameBoard}
 use Rattle.steps.specs.Calls.{Call, Outcome, nakedPairsCall, boxLineCall, xWingCall, nakedSinglesCall, hiddenSinglesCall, advancedCall, wide, settlingCall, chainCall, outcome, checkOf, opened, openedWith}
+use Rattle.steps.specs.Difficulty.{passCounts, difficultyOf}
 use Rattle.steps.specs.Entries.{enter, rubOut, entryAnswer, step, entry, play}
 use Rattle.steps.specs.Instances.{pointing}
 use Rattle.steps.specs.Passes.{Kind, Claiming, removedBy}
@@ -231,6 +232,16 @@ pub record CaseSteps : Type 0 where
   pub row15 : rowOf (BadStep (pos 3)) ≡ record { number = 15; detail = pos 3 }
   pub row16 : rowOf (TooManySteps (pos 730)) ≡ record { number = 16; detail = pos 730 }
 
+-- Document 02, F-14.
+pub record CaseDifficulty : Type 0 where
+  -- "P10 has 54 points over 75 cells: 0, remainder 54": Pointing removes all 18
+  pub counts : passCounts (givensOf p10) (freshMasks p10) ≡ 0 ∷ 0 ∷ 0 ∷ 18 ∷ 0 ∷ 0 ∷ []
+  pub figure : difficultyOf (opened p10) ≡ gives (record { points = 54; cells = 75; quotient = 0; remainder = 54 })
+  -- "A full grid has no figure and stops with 19, no open cell without an entry, with detail 0": A, and P5 with its one open cell entered
+  pub full : difficultyOf (opened gridA) ≡ stop NoOpenCell
+  pub entered : difficultyOf (withEntry p5 0 (pos 1)) ≡ stop NoOpenCell
+  pub row19 : rowOf NoOpenCell ≡ record { number = 19; detail = pos 0 }
+
 -- The cases as a group.
 pub record Cases : Type 0 where
   pub one : Case1
@@ -251,3 +262,4 @@ pub record Cases : Type 0 where
   pub records : CaseRecords
   pub clothes : CaseClothes
   pub steps : CaseSteps
+  pub difficulty : CaseDifficulty

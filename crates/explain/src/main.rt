@@ -1,5 +1,5 @@
-// Explains how the grid on standard input settles: a line for each step that removed something, the candidates that are left as a drawn grid, and the
-// verdict; or `refused N P`. README.md has the line format.
+// Explains how the grid on standard input settles: a line for each step that removed something, the candidates that are left as a drawn grid, the
+// difficulty figure and the verdict; or `refused N P`. README.md has the line format.
 //
 // What a line says of a step is the list of settling, taken step by step as the checker of step lists does. Each line is made in lent bytes and written out.
 use board::Board;
@@ -11,6 +11,7 @@ use passes::apply_settling;
 use stops::Check;
 
 mod drawing;
+mod figures;
 mod lines;
 mod losses;
 mod names;
@@ -29,7 +30,7 @@ fn print_verdict(masks: &[u16; 81]) {
     lines::write_out(line, end);
 }
 
-// No call refuses a fresh board.
+// Settling does not refuse a fresh board.
 fn explain(board: Board) {
     let after = apply_settling(board);
     let settled = after.board;
@@ -37,6 +38,7 @@ fn explain(board: Board) {
     steps::print_steps(board, after.steps);
     lines::write_line(lines::empty(), 0);
     drawing::print_grid(&masks);
+    figures::print_difficulty(board);
     print_verdict(&masks);
 }
 

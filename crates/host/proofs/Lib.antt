@@ -1,5 +1,6 @@
 mod Calls
 mod Cases
+mod FigureParts
 mod Fitting
 mod Numbers
 mod Pencilled

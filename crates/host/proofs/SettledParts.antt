@@ -12,12 +12,12 @@ use Rattle.stops.specs.Answer.{Answer, gives, stop, map, valueOr}
 use Rattle.stops.proofs.Answers.{map-map}
 use Rattle.steps.specs.Boards.{Board}
 use Rattle.steps.specs.Calls.{Outcome, settlingCall, answer}
-use Rattle.passes.specs.Settlings.{Settles, countsOf, settlingAnswer, stepsDone, inRoom}
+use Rattle.passes.specs.Settlings.{Settles, countsOf, settlingAnswer, stepsDone, countsDone, inRoom}
 use Rattle.passes.specs.declared.Counts.{Counts}
 use Rattle.passes.specs.declared.SettledBoard.{SettledBoard}
 use Rattle.passes.proofs.StepValues.{few-steps}
 use Rattle.calls.specs.StepNumbers.{stepCall, stepAnswer}
-use Rattle.host.specs.Settlings.{settledCode, settleCode, settleSteps}
+use Rattle.host.specs.Settlings.{settledCode, settleCode, settleSteps, settleCounts}
 use Rattle.host.specs.code.Fitting.{CountsFit}
 use Rattle.host.proofs.Fitting.{place-fits}
 use Rattle.host.proofs.StepNumbers.{StepFits, step-fits}
@@ -38,7 +38,13 @@ module _ (b : Board) (r : SettledBoard) (hands : Settles b r) where
   pub settle-coded : settledCode (r .steps .count) (settlingAnswer (r .answer)) ≡ settleCode b
   settle-coded = ap₂ settledCode (hands .stepCount) (hands .counts)
 
+  -- what is put into a lent array where the call answers
+  put : {xs ys : List ℕ} → xs ≡ ys → (lent : List ℕ) → valueOr lent (map (λ _. xs) (settlingAnswer (r .answer))) ≡ valueOr lent (map (λ _. ys) (answer settlingCall b))
+  put {ys = ys} e lent =
+      ap₂ (λ (l : List ℕ) (k : Answer Counts). valueOr lent (map (λ _. l) k)) e (hands .counts) ∙ ap (valueOr lent) (map-map (λ _. ys) countsOf (answer settlingCall b))
+
   pub settle-bytes : (lent : List ℕ) → valueOr lent (map (λ _. r .steps .bytes) (settlingAnswer (r .answer))) ≡ settleSteps b lent
-  settle-bytes lent =
-      ap₂ (λ (bs : List ℕ) (k : Answer Counts). valueOr lent (map (λ _. bs) k)) (hands .steps) (hands .counts)
-      ∙ ap (valueOr lent) (map-map (λ _. inRoom (stepsDone b)) countsOf (answer settlingCall b))
+  settle-bytes = put (hands .steps)
+
+  pub settle-counts : (lent : List ℕ) → valueOr lent (map (λ _. r .counts) (settlingAnswer (r .answer))) ≡ settleCounts b lent
+  settle-counts = put (hands .passes)

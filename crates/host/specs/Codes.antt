@@ -37,4 +37,4 @@ unknown k = four (negsuc 0) (pos k) (pos 0) (pos 0)
 
 -- which parameters the exports have: raised where those of one of them change, since a C linker does not see that
 abbrev pub abiNumber : ℕ
-abiNumber = 4
+abiNumber = 5

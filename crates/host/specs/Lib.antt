@@ -9,4 +9,5 @@ pub mod Texts
 pub mod Sheets
 pub mod Records
 pub mod Rounds
+pub mod Ratings
 pub mod code

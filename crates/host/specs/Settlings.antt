@@ -1,4 +1,4 @@
--- Settling with its step list on numbers and arrays (document 02, F-10): what it answers, and what everything lent holds after it.
+-- Settling with its step list and its counts on numbers and arrays (document 02, F-10 and F-14): what it answers, and what everything lent holds after it.
 use mathlib.Core.List.{List}
 use Prim.Native.Nat.{ℕ}
 use lib.IntN.{ℤ, pos}
@@ -6,7 +6,7 @@ use lib.ListN.{length}
 use Rattle.stops.specs.Answer.{Answer, gives, stop, map, valueOr}
 use Rattle.steps.specs.Boards.{Board}
 use Rattle.steps.specs.Calls.{settlingCall, answer, left}
-use Rattle.passes.specs.Settlings.{countsOf, stepsDone, inRoom}
+use Rattle.passes.specs.Settlings.{countsOf, stepsDone, countsDone, inRoom}
 use Rattle.passes.specs.declared.Counts.{Counts}
 use Rattle.host.specs.Codes.{four, refused}
 
@@ -24,3 +24,7 @@ settleMasks b = left b (answer settlingCall b) .masks
 -- six bytes a step, and zeros after the last; beside a stop the lent bytes keep their contents
 abbrev pub settleSteps : Board → List ℕ → List ℕ
 settleSteps b lent = valueOr lent (map (λ _. inRoom (stepsDone b)) (answer settlingCall b))
+
+-- what each of the six wide passes removed, likewise
+abbrev pub settleCounts : Board → List ℕ → List ℕ
+settleCounts b lent = valueOr lent (map (λ _. countsDone b) (answer settlingCall b))

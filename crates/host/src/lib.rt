@@ -7,10 +7,11 @@ ghost use Rattle.board.specs.Boards.{handed};
 ghost use Rattle.host.specs.Boards.{asked, checkCode, keptCheck, openCode, openMasks, readClues, readCode};
 ghost use Rattle.host.specs.Codes.{abiNumber};
 ghost use Rattle.host.specs.Entries.{pencilCode, pencilEntries, pencilMasks};
+ghost use Rattle.host.specs.Ratings.{difficultyCode};
 ghost use Rattle.host.specs.Records.{moveCode, movedRecord, recordClues, recordCode, recordEntries, recordMasks, recordReadCode, writtenRecord};
 ghost use Rattle.host.specs.Rounds.{trialClues, trialCode};
 ghost use Rattle.host.specs.Sets.{setCall, nextCall};
-ghost use Rattle.host.specs.Settlings.{settleCode, settleMasks, settleSteps};
+ghost use Rattle.host.specs.Settlings.{settleCode, settleCounts, settleMasks, settleSteps};
 ghost use Rattle.host.specs.Sheets.{sheetClues, sheetCode, sheetReadCode, writtenSheet};
 ghost use Rattle.host.specs.StepLists.{checkedCode, checkedMasks};
 ghost use Rattle.host.specs.Steps.{runCode, runMasks, stepCode, stepMasks, stepReports};
@@ -21,6 +22,7 @@ mod accessors;
 mod arrays;
 mod codes;
 mod moves;
+mod ratings;
 mod sets;
 mod settlings;
 mod step_calls;
@@ -30,7 +32,7 @@ mod step_calls;
 pub extern "C" fn sudoku_abi() -> u32
     ensures { λ r. ⌜ r ≡ abiNumber ⌝ }
 {
-    4
+    5
 }
 
 // Whether 81 numbers are a correct filling.
@@ -250,18 +252,19 @@ pub extern "C" fn sudoku_run(
     step_calls::put_run(replaying, board, masks);
 }
 
-// Settling, and the steps of it that removed something, six bytes each.
+// Settling, the steps of it that removed something, six bytes each, and what each of the six wide passes removed.
 #[no_mangle]
 pub extern "C" fn sudoku_settle(
     clues: &[i32; 81],
     entries: &[i32; 81],
     masks: &mut [u16; 81],
     steps: &mut [u8; 4374],
+    counts: &mut [usize; 6],
     answer: &mut [i64; 4],
 )
-    ensures { λ _. ⌜ (now (answer .exit) ≡ settleCode (handed (now (clues .entry)) (now (entries .entry)) (now (masks .entry)))) × (now (masks .exit) ≡ settleMasks (handed (now (clues .entry)) (now (entries .entry)) (now (masks .entry)))) × (now (steps .exit) ≡ settleSteps (handed (now (clues .entry)) (now (entries .entry)) (now (masks .entry))) (now (steps .entry))) ⌝ }
+    ensures { λ _. ⌜ (now (answer .exit) ≡ settleCode (handed (now (clues .entry)) (now (entries .entry)) (now (masks .entry)))) × (now (masks .exit) ≡ settleMasks (handed (now (clues .entry)) (now (entries .entry)) (now (masks .entry)))) × (now (steps .exit) ≡ settleSteps (handed (now (clues .entry)) (now (entries .entry)) (now (masks .entry))) (now (steps .entry))) × (now (counts .exit) ≡ settleCounts (handed (now (clues .entry)) (now (entries .entry)) (now (masks .entry))) (now (counts .entry))) ⌝ }
 {
-    *masks = settlings::settle(*clues, *entries, *masks, steps, answer);
+    *masks = settlings::settle(*clues, *entries, *masks, steps, counts, answer);
 }
 
 // A list of setters' steps, six bytes each, checked from the fresh board of clues and entries.
@@ -285,6 +288,24 @@ pub extern "C" fn sudoku_check_steps(
     let left = done.board.masks;
     *answer = codes::of_check(check, 0, 0);
     arrays::put_masks(check, &left, masks);
+}
+
+// The difficulty figure of the fresh board of clues and entries.
+#[no_mangle]
+pub extern "C" fn sudoku_difficulty(
+    clues: &[i32; 81],
+    entries: &[i32; 81],
+    masks: &[u16; 81],
+    answer: &mut [i64; 4],
+)
+    ensures { λ _. ⌜ now (answer .exit) ≡ difficultyCode (handed (now (clues .entry)) (now (entries .entry)) (now (masks .entry))) ⌝ }
+{
+    let board = Board {
+        clues: *clues,
+        entries: *entries,
+        masks: *masks,
+    };
+    *answer = ratings::of_rating(difficulty::difficulty(board));
 }
 
 // The record of a board.

@@ -1,4 +1,4 @@
-// Settling on arrays: its three counts as the four numbers, and its steps.
+// Settling on arrays: its three counts as the four numbers, its steps, and what each of the six passes removed.
 ghost use mathlib.Core.Path.{_≡_};
 ghost use lib.IntN.{pos};
 ghost use mir.Syntax.{w64};
@@ -6,7 +6,7 @@ ghost use mir.Val.{SFits};
 ghost use Rattle.stops.specs.Answer.{map, valueOr};
 ghost use Rattle.board.specs.Boards.{handed};
 ghost use Rattle.passes.specs.Settlings.{settlingAnswer};
-ghost use Rattle.host.specs.Settlings.{settleCode, settleMasks, settleSteps, settledCode};
+ghost use Rattle.host.specs.Settlings.{settleCode, settleCounts, settleMasks, settleSteps, settledCode};
 ghost use Rattle.host.specs.code.Fitting.{CountsFit};
 use crate::codes;
 use board::Board;
@@ -34,15 +34,27 @@ fn put_steps(settling: Settling, bytes: &[u8; 4374], lent: &mut [u8; 4374])
     }
 }
 
+fn put_counts(settling: Settling, counts: &[usize; 6], lent: &mut [usize; 6])
+    ensures { λ _. ⌜ now (lent .exit) ≡ valueOr (now (lent .entry)) (map (λ _. now (counts .entry)) (settlingAnswer settling)) ⌝ }
+{
+    match settling {
+        Settling::Refused(_) => {}
+        Settling::Counted(_, _) => {
+            *lent = *counts;
+        }
+    }
+}
+
 // Settling on arrays: the masks that it leaves.
 pub fn settle(
     clues: [i32; 81],
     entries: [i32; 81],
     masks: [u16; 81],
     steps: &mut [u8; 4374],
+    counts: &mut [usize; 6],
     answer: &mut [i64; 4],
 ) -> [u16; 81]
-    ensures { λ r. ⌜ (r ≡ settleMasks (handed clues entries masks)) × (now (steps .exit) ≡ settleSteps (handed clues entries masks) (now (steps .entry))) × (now (answer .exit) ≡ settleCode (handed clues entries masks)) ⌝ }
+    ensures { λ r. ⌜ (r ≡ settleMasks (handed clues entries masks)) × (now (steps .exit) ≡ settleSteps (handed clues entries masks) (now (steps .entry))) × (now (counts .exit) ≡ settleCounts (handed clues entries masks) (now (counts .entry))) × (now (answer .exit) ≡ settleCode (handed clues entries masks)) ⌝ }
 {
     let handed = Board {
         clues,
@@ -52,8 +64,10 @@ pub fn settle(
     let done = passes::apply_settling(handed);
     let settling = done.answer;
     let bytes = done.steps.bytes;
+    let by_pass = done.counts;
     let board = done.board;
     *answer = of_settling(settling, done.steps.count);
     put_steps(settling, &bytes, steps);
+    put_counts(settling, &by_pass, counts);
     board.masks
 }

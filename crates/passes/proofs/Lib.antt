@@ -1,3 +1,4 @@
 pub mod Rounds
+pub mod Tallies
 pub mod Sweeping
 pub mod StepValues

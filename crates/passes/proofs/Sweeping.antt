@@ -6,13 +6,16 @@ use Prim.Native.Nat.{ℕ, zero, suc, _+_, _-_, _≤_, _<_}
 use native.Mathlib.Omega.{arith}
 use Rattle.candidates.proofs.Tests.{cond-true, by-test}
 use Rattle.steps.specs.Boards.{sameMasks, total}
-use Rattle.steps.specs.Passes.{sweep, Sweeps, settleIn}
+use Rattle.steps.specs.Difficulty.{added, removedEach, removedIn}
+use Rattle.steps.specs.Passes.{kinds, sweep, Sweeps, settleIn}
 use Rattle.steps.specs.StepLists.{sweepInstances}
 use Rattle.steps.specs.code.Logs.{logAfter}
 use Rattle.steps.proofs.Masks.{total-under, same-refl, same-eq}
 use Rattle.steps.proofs.Reach.{Reach, start, reach-trans, reach-under, reach-length, sweep-reach}
 use Rattle.steps.proofs.StepLogs.{sweepsOf, log-sweep, log-last}
 use Rattle.passes.specs.code.Rounds.{Swept}
+use Rattle.passes.specs.code.Tallies.{tallyWith, Tally}
+use Rattle.passes.proofs.Tallies.{counts-next}
 
 module _ (g : List ℕ) where
   -- ---- a sweep more
@@ -54,6 +57,15 @@ module _ (g : List ℕ) where
             let rest = settleIn (730 - (i + 1)) g n .sweeps in
             ap (λ (o : List ℕ). logAfter g (sweepsOf g rest) o l₁) (s .swept) ∙ ap (logAfter g (sweepsOf g rest) (sweep g m)) noted
             ∙ sym (log-sweep g rest m l) ∙ ap (λ (x : Sweeps). logAfter g (sweepsOf g (x .sweeps)) m l) (sym (settle-goes k)) ∙ all
+
+      -- and the counts
+      module _ {t u whole : List ℕ} (tally : Tally m t) (counted : u ≡ tallyWith (removedEach g kinds m) n t) (all : added t (removedIn g (settleIn (730 - i) g m .sweeps) m) ≡ whole) where
+        pub counts-stop : idle ≡ 6 → added u (removedIn g 0 n) ≡ whole
+        counts-stop e = counts-next g 0 tally (s .swept) counted (ap (λ (x : Sweeps). added t (removedIn g (x .sweeps) m)) (sym (settle-stops e)) ∙ all)
+
+        pub counts-go : idle < 6 → added u (removedIn g (settleIn (730 - (i + 1)) g n .sweeps) n) ≡ whole
+        counts-go k =
+            counts-next g (settleIn (730 - (i + 1)) g n .sweeps) tally (s .swept) counted (ap (λ (x : Sweeps). added t (removedIn g (x .sweeps) m)) (sym (settle-goes k)) ∙ all)
 
   pub settle-ends : (i : ℕ) (m : List ℕ) → 730 ≤ i → settleIn (730 - i) g m ≡ record { sweeps = 0; left = m }
   unfolding settleIn

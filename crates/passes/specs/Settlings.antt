@@ -6,6 +6,7 @@ use lib.ListN.{length, replicate}
 use Rattle.stops.specs.Answer.{Answer, gives, stop, map, valueOr}
 use Rattle.steps.specs.Boards as S
 use Rattle.steps.specs.Calls.{Outcome, settlingCall, answer, left}
+use Rattle.steps.specs.Difficulty.{passCounts}
 use Rattle.steps.specs.Instances.{Instance}
 use Rattle.steps.specs.StepLists.{bytesOf, settlingSteps}
 use Rattle.board.specs.Boards.{boardOf}
@@ -31,9 +32,14 @@ stepsDone b = valueOr [] (map (λ _. settlingSteps (S.givens b) (b .masks)) (ans
 unfoldable pub inRoom : List Instance → List ℕ
 inRoom xs = bytesOf xs ++ replicate (4374 - length (bytesOf xs)) 0
 
--- what the call answers on the board: its counts or its stop, the board it leaves, and its steps "with their count"
+-- "Settling shall count what each wide pass removed"; zeros beside a refusal
+unfoldable pub countsDone : S.Board → List ℕ
+countsDone b = valueOr (replicate 6 0) (map (λ _. passCounts (S.givens b) (b .masks)) (answer settlingCall b))
+
+-- what the call answers on the board: its counts or its stop, the board it leaves, its steps "with their count", and what each pass removed
 pub record Settles (b : S.Board) (r : SettledBoard) : Type 0 where
   pub counts : settlingAnswer (r .answer) ≡ map countsOf (answer settlingCall b)
   pub board : boardOf (r .board) ≡ left b (answer settlingCall b)
   pub steps : r .steps .bytes ≡ inRoom (stepsDone b)
   pub stepCount : r .steps .count ≡ length (stepsDone b)
+  pub passes : r .counts ≡ countsDone b

@@ -1,14 +1,19 @@
 // A sweep of the six wide passes, and settling (module 9): over lent givens and masks, of which nothing is asked, and as a call on a board.
 ghost use mathlib.Core.Path.{_≡_};
 ghost use mathlib.Core.Bool.{cond};
-ghost use Prim.Native.Nat.{_+_, _<_};
-ghost use Rattle.steps.specs.Passes.{pass, instances, changed, settle, removedBy};
+ghost use Prim.Native.Nat.{_+_, _≤_, _<_};
+ghost use mir.Syntax.{w64};
+ghost use mir.Val.{Fits};
+ghost use Rattle.steps.specs.Boards.{at, total};
+ghost use Rattle.steps.specs.Difficulty.{removedEach, summed, passCounts};
+ghost use Rattle.steps.specs.Passes.{kinds, pass, instances, changed, settle, removedBy};
 ghost use Rattle.steps.specs.StepLists.{sweepInstances, settlingInstances};
 ghost use Rattle.steps.specs.code.Logs.{logAfter};
 ghost use Rattle.board.specs.Boards.{boardOf};
 ghost use Rattle.lanes.specs.code.Lanes.{InLanes, laid};
 ghost use Rattle.passes.specs.Settlings.{Settles};
 ghost use Rattle.passes.specs.code.Rounds.{nthKind, LastIdle, Swept};
+ghost use Rattle.passes.specs.code.Tallies.{tallied, tallyWith, Tally};
 use board::Board;
 use board::check_given;
 use board::entries::givens_of;
@@ -62,20 +67,33 @@ fn idle_after(idle: usize, before: [u16; 81], after: [u16; 81]) -> usize
     idle + 1
 }
 
+// A pass is counted at its number: what was left before it, which stands at place 6, less what it leaves.
+fn tally_pass(tally: &mut [usize; 7], nth: usize, after: [u16; 81])
+    requires { ⌜ (nth < 6) × (total after ≤ at (now tally) 6) × Fits w64 (summed (now tally)) ⌝ }
+    ensures { λ _. ⌜ now (tally .exit) ≡ tallied nth (total after) (now (tally .entry)) ⌝ }
+{
+    let left = total(after);
+    tally[nth] += tally[6] - left;
+    tally[6] = left;
+}
+
 // A sweep, the six passes in order, left as soon as six passes in a row, some of them of the sweep before, have removed nothing: then none of the six can.
-// `idle` is how many in a row had before it, and what is handed back how many have after it.
+// `idle` is how many in a row had before it, and what is handed back how many have after it. Only a pass that removed something is tallied.
 fn sweep(
     givens: &[u8; 81],
     masks: &mut [u16; 81],
     log: &mut [u8; 4376],
+    tally: &mut [usize; 7],
     doors: &[u16; 432],
     lanes: &mut [u16; 432],
     idle: usize,
 ) -> usize
-    requires { ⌜ InLanes (now givens) (now masks) (now doors) (now lanes) × (idle < 6) × LastIdle (now givens) idle (now masks) ⌝ }
+    requires { ⌜ InLanes (now givens) (now masks) (now doors) (now lanes) × (idle < 6) × LastIdle (now givens) idle (now masks) × Tally (now masks) (now tally) ⌝ }
     ensures { λ r. ⌜ Swept (now (givens .entry)) (now (masks .entry)) (now (masks .exit)) r ⌝ }
     ensures { λ _. ⌜ now (lanes .exit) ≡ laid (now (masks .exit)) ⌝ }
     ensures { λ _. ⌜ now (log .exit) ≡ logAfter (now (givens .entry)) sweepInstances (now (masks .entry)) (now (log .entry)) ⌝ }
+    ensures { λ _. ⌜ Tally (now (masks .exit)) (now (tally .exit)) ⌝ }
+    ensures { λ _. ⌜ now (tally .exit) ≡ tallyWith (removedEach (now (givens .entry)) kinds (now (masks .entry))) (now (masks .exit)) (now (tally .entry)) ⌝ }
 {
     let mut still = idle;
     let mut nth: usize = 0;
@@ -87,23 +105,33 @@ fn sweep(
         nth_pass(givens, masks, log, doors, lanes, nth);
         let after = *masks;
         still = idle_after(still, before, after);
+        if still == 0 {
+            tally_pass(tally, nth, after);
+        }
         nth += 1;
     }
     still
 }
 
 // Sweeps until one removes nothing; that last one is counted too, though it is not always run to its end. 730 are always enough.
-fn sweep_on(givens: &[u8; 81], masks: &mut [u16; 81], log: &mut [u8; 4376]) -> usize
+fn sweep_on(
+    givens: &[u8; 81],
+    masks: &mut [u16; 81],
+    log: &mut [u8; 4376],
+    tally: &mut [usize; 7],
+) -> usize
+    requires { ⌜ Tally (now masks) (now tally) ⌝ }
     ensures { λ r. ⌜ r ≡ settle (now (givens .entry)) (now (masks .entry)) .sweeps ⌝ }
     ensures { λ _. ⌜ now (masks .exit) ≡ settle (now (givens .entry)) (now (masks .entry)) .left ⌝ }
     ensures { λ _. ⌜ now (log .exit) ≡ logAfter (now (givens .entry)) (settlingInstances (now (givens .entry)) (now (masks .entry))) (now (masks .entry)) (now (log .entry)) ⌝ }
+    ensures { λ _. ⌜ now (tally .exit) ≡ tallyWith (passCounts (now (givens .entry)) (now (masks .entry))) (now (masks .exit)) (now (tally .entry)) ⌝ }
 {
     let doors = lanes_of(&doors(givens));
     let mut lanes = lanes_of(masks);
     let mut idle: usize = 0;
     let mut sweeps: usize = 0;
     while sweeps < 730 {
-        idle = sweep(givens, masks, log, &doors, &mut lanes, idle);
+        idle = sweep(givens, masks, log, tally, &doors, &mut lanes, idle);
         sweeps += 1;
         if idle == 6 {
             return sweeps;
@@ -120,19 +148,26 @@ pub struct Counts {
     pub removed: usize,
 }
 
-// Sweeps until nothing more is removed. The log takes the steps that removed something.
-pub fn settle(givens: &[u8; 81], masks: &mut [u16; 81], log: &mut [u8; 4376]) -> Counts
+// Sweeps until nothing more is removed. The log takes the steps that removed something, and `counts` what each of the six passes removed.
+pub fn settle(
+    givens: &[u8; 81],
+    masks: &mut [u16; 81],
+    log: &mut [u8; 4376],
+    counts: &mut [usize; 6],
+) -> Counts
     ensures { λ r. ⌜ r .sweeps ≡ settle (now (givens .entry)) (now (masks .entry)) .sweeps ⌝ }
     ensures { λ r. ⌜ r .removed ≡ removedBy (now (masks .entry)) (now (masks .exit)) ⌝ }
     ensures { λ _. ⌜ now (masks .exit) ≡ settle (now (givens .entry)) (now (masks .entry)) .left ⌝ }
     ensures { λ _. ⌜ now (log .exit) ≡ logAfter (now (givens .entry)) (settlingInstances (now (givens .entry)) (now (masks .entry))) (now (masks .entry)) (now (log .entry)) ⌝ }
+    ensures { λ _. ⌜ now (counts .exit) ≡ passCounts (now (givens .entry)) (now (masks .entry)) ⌝ }
 {
-    let before = *masks;
-    let sweeps = sweep_on(givens, masks, log);
-    let after = *masks;
+    let start = total(*masks);
+    let mut tally = [0, 0, 0, 0, 0, 0, start];
+    let sweeps = sweep_on(givens, masks, log, &mut tally);
+    *counts = [tally[0], tally[1], tally[2], tally[3], tally[4], tally[5]];
     Counts {
         sweeps,
-        removed: total(before) - total(after),
+        removed: start - tally[6],
     }
 }
 
@@ -142,11 +177,12 @@ pub enum Settling {
     Refused(Stop),
 }
 
-// The board that settling leaves, and its steps that removed something; beside a refusal the board as it was and no step.
+// The board that settling leaves, its steps that removed something, and what each of the six passes removed; beside a refusal the board as it was, no step and zeros.
 pub struct SettledBoard {
     pub answer: Settling,
     pub board: Board,
     pub steps: Steps,
+    pub counts: [usize; 6],
 }
 
 // Sweeps until nothing more is removed. The board is checked once, before the first sweep.
@@ -158,6 +194,7 @@ pub fn apply_settling(board: Board) -> SettledBoard
     let mut masks = board.masks;
     let givens = givens_of(&clues, &entries);
     let mut log = [0u8; 4376];
+    let mut by_pass = [0usize; 6];
     match check_given(&clues, &entries, &givens, &masks) {
         Check::Refused(stop) => SettledBoard {
             answer: Settling::Refused(stop),
@@ -167,9 +204,10 @@ pub fn apply_settling(board: Board) -> SettledBoard
                 masks,
             },
             steps: steps_of(&log),
+            counts: by_pass,
         },
         Check::Passed => {
-            let counts = settle(&givens, &mut masks, &mut log);
+            let counts = settle(&givens, &mut masks, &mut log, &mut by_pass);
             SettledBoard {
                 answer: Settling::Counted(counts.sweeps, counts.removed),
                 board: Board {
@@ -178,6 +216,7 @@ pub fn apply_settling(board: Board) -> SettledBoard
                     masks,
                 },
                 steps: steps_of(&log),
+                counts: by_pass,
             }
         }
     }

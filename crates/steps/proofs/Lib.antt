@@ -42,3 +42,4 @@ pub mod StepPieces
 pub mod StepLogs
 pub mod LogBytes
 pub mod StepPromises
+pub mod Difficulty

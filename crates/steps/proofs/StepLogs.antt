@@ -136,11 +136,14 @@ module _ (g : List ℕ) where
   repeated B zero j k = refl
   repeated B (suc n) j k = ap (λ (xs : List Instance). B ++ xs) (repeated B n (suc j) (suc k))
 
+  pub sweeps-more : (n : ℕ) → sweepsOf (suc n) ≡ sweepInstances ++ sweepsOf n
+  unfolding for
+  sweeps-more n = ap (λ (xs : List Instance). sweepInstances ++ xs) (repeated sweepInstances n 1 0)
+
   -- the log of one sweep, and then n more
   pub log-sweep : (n : ℕ) (m l : List ℕ) → logAfter g (sweepsOf (n + 1)) m l ≡ logAfter g (sweepsOf n) (sweep g m) (logAfter g sweepInstances m l)
-  unfolding for
   log-sweep n m l =
-      ap (λ (k : ℕ). logAfter g (sweepsOf k) m l) (add-one n) ∙ ap (λ (xs : List Instance). logAfter g (sweepInstances ++ xs) m l) (repeated sweepInstances n 1 0)
+      ap (λ (k : ℕ). logAfter g (sweepsOf k) m l) (add-one n) ∙ ap (λ (xs : List Instance). logAfter g xs m l) (sweeps-more n)
       ∙ log-append sweepInstances (sweepsOf n) m l ∙ ap (λ (o : List ℕ). logAfter g (sweepsOf n) o (logAfter g sweepInstances m l)) (sweep-each m)
 
   pub log-nothing : (m l : List ℕ) → logAfter g (sweepsOf 0) m l ≡ l

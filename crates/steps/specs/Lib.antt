@@ -16,4 +16,6 @@ pub mod Demand2
 pub mod SinglesHold
 pub mod StepLists
 pub mod StepPromises
+pub mod Difficulty
+pub mod DifficultyPromises
 pub mod code

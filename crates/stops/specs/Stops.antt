@@ -2,7 +2,7 @@
 use Prim.Native.Nat.{ℕ}
 use lib.IntN.{ℤ, pos}
 use Rattle.stops.specs.declared.Stop.{Stop}
-use Rattle.stops.specs.declared.Stop.the-variants.{TextLength, OtherByte, BadClue, BadDigit, NoCell, TooFewBytes, RecordBytes, RecordEntry, NotFresh, BadMask, SheetLength, SheetCells, BadEntry, ClueCell, AlreadyEntered, NotEntered, RecordEntries, BadStep, TooManySteps, BadPercentage, BadSolution}
+use Rattle.stops.specs.declared.Stop.the-variants.{TextLength, OtherByte, BadClue, BadDigit, NoCell, TooFewBytes, RecordBytes, RecordEntry, NotFresh, BadMask, SheetLength, SheetCells, BadEntry, ClueCell, AlreadyEntered, NotEntered, RecordEntries, BadStep, TooManySteps, BadPercentage, BadSolution, NoOpenCell}
 
 pub record Row : Type 0 where
   pub number : ℕ
@@ -38,3 +38,5 @@ rowOf (TooManySteps z) = row 16 z
 -- document 02, F-11: "percentage above 100, with the percentage"; "the solution does not pass the verifier, with detail 0"
 rowOf (BadPercentage n) = row 17 (pos n)
 rowOf BadSolution = row 18 (pos 0)
+-- document 02, F-14: "19, no open cell without an entry, with detail 0"
+rowOf NoOpenCell = row 19 (pos 0)

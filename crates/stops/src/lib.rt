@@ -47,6 +47,8 @@ pub enum Stop {
     BadPercentage(u32),
     // A solution that does not pass the verifier; nothing stands beside it.
     BadSolution,
+    // A board with no open cell without an entry, which has no difficulty; nothing stands beside it.
+    NoOpenCell,
 }
 
 // What a call answers whose value stands beside the answer.
@@ -93,6 +95,7 @@ pub fn number(stop: Stop) -> u8
         Stop::TooManySteps(_) => 16,
         Stop::BadPercentage(_) => 17,
         Stop::BadSolution => 18,
+        Stop::NoOpenCell => 19,
     }
 }
 
@@ -122,6 +125,7 @@ pub fn detail(stop: Stop) -> i64
         Stop::TooManySteps(count) => count,
         Stop::BadPercentage(percentage) => percentage as i64,
         Stop::BadSolution => 0,
+        Stop::NoOpenCell => 0,
     }
 }
 

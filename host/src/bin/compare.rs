@@ -12,6 +12,7 @@ use std::time::{Duration, Instant};
 
 use sudoku_host::cases::{self, Case};
 use sudoku_host::clothes_cases as clothes;
+use sudoku_host::figure_cases as figures;
 use sudoku_host::oracle::{self, SudokuCandidateSet, SudokuSolver};
 use sudoku_host::random::Random;
 use sudoku_host::record_cases as records;
@@ -60,13 +61,15 @@ struct Counts {
     from_fresh: u64,
     step_lists: u64,
     bad_lists: u64,
+    figures: u64,
+    no_figures: u64,
 }
 
 impl std::fmt::Display for Counts {
     fn fmt(&self, out: &mut std::fmt::Formatter) -> std::fmt::Result {
         let Counts { sets, grids, texts, lists, calls, entry_calls, boards, damaged, runs, pairs, fillings, entries, .. } = self;
         let Counts { records, bytes, moves, written, sheets, canonical, cards, rounds, changed, sweeps, relabelled, .. } = self;
-        let Counts { settled, from_fresh, step_lists, bad_lists, .. } = self;
+        let Counts { settled, from_fresh, step_lists, bad_lists, figures, no_figures, .. } = self;
         write!(out, "{sets} set calls, {grids} filled grids, {texts} texts, ")?;
         write!(out, "{lists} lists of {calls} ported calls and {entry_calls} enterings and rubbings out, ")?;
         write!(out, "{boards} boards through the wide passes, {damaged} damaged boards, {runs} runs of lists, {pairs} pairs of lists settled, ")?;
@@ -75,7 +78,8 @@ impl std::fmt::Display for Counts {
         write!(out, "{written} texts written, {sheets} sheets read, {canonical} canonical sheets written, {cards} cards, {rounds} trial rounds, ")?;
         write!(out, "{changed} boards settled in other clothes, {sweeps} of them in another number of sweeps, {relabelled} lists relabelled, ")?;
         write!(out, "{settled} boards settled with their step lists, {from_fresh} of them from the fresh board and their lists checked, ")?;
-        write!(out, "{step_lists} step lists on other masks, {bad_lists} damaged ones")
+        write!(out, "{step_lists} step lists on other masks, {bad_lists} damaged ones, ")?;
+        write!(out, "{figures} boards rated and their settling counted pass by pass, {no_figures} of them without a figure")
     }
 }
 
@@ -167,6 +171,7 @@ fn a_round(round: u64, random: &mut Random, counts: &mut Counts) -> Result<(), S
         _ => {}
     }
     a_settled_board(random, counts)?;
+    a_figure(random, counts)?;
     if round % 8 == 5 {
         some_step_lists(random, counts)?;
     }
@@ -431,6 +436,15 @@ fn a_settled_board(random: &mut Random, counts: &mut Counts) -> Result<(), Strin
     }
     counts.from_fresh += 1;
     sound(&case, "settling's own list on the engine", &lists::own_refused)
+}
+
+/// What each wide pass removes of a board in settling, and the board's difficulty figure.
+fn a_figure(random: &mut Random, counts: &mut Counts) -> Result<(), String> {
+    let case = figures::to_rate(random);
+    counts.figures += 1;
+    counts.no_figures += plain::difficulty(&case.board()).is_err_and(|stop| stop.number == 19) as u64;
+    sound(&case, "settling's counts, engine and plain", &|case| figures::counts_differ(plain::pass_counts, case))?;
+    sound(&case, "a difficulty figure, engine and plain", &|case| figures::figures_differ(plain::difficulty, case))
 }
 
 /// Settling's own list, on other masks and on a board that may be refused, and damaged ones.

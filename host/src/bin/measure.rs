@@ -280,7 +280,7 @@ fn settling(side: &str, random: &mut Random, rounds: usize) {
         for _ in 0..rounds {
             let mut board = fresh;
             match side {
-                "engine" => drop(black_box(settle(black_box(&mut board), &mut bytes))),
+                "engine" => drop(black_box(settle(black_box(&mut board), &mut bytes, &mut [0; 6]))),
                 _ => drop(black_box(plain::settle(black_box(&board)))),
             }
         }

@@ -39,7 +39,7 @@ unfolding cardFor outcome reportsOf
 returns c =
     let counted = c .before .before in
     let settled = counted .before in
-    let found = settled .before .before .before .before in
+    let found = settled .before .before .before .before .before in
     let made = found .before .before .before in
     let given = made .before .before in
     let g = givensOf (given .before .args .clues .now) in

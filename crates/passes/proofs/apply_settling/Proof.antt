@@ -12,6 +12,7 @@ use Rattle.stops.proofs.Answers.{told}
 use Rattle.steps.specs.Boards as S
 use Rattle.steps.specs.Boards.{withMasks}
 use Rattle.steps.specs.Calls.{Admitted, Outcome, settlingCall, outcome, left}
+use Rattle.steps.specs.Difficulty.{passCounts}
 use Rattle.steps.specs.Loops.{each}
 use Rattle.steps.specs.StepLists.{settlingInstances, settlingSteps}
 use Rattle.steps.specs.code.Logs.{logAfter}
@@ -19,7 +20,7 @@ use Rattle.steps.proofs.StepPromises.{step-lists}
 use Rattle.cells.specs.code.Notes.{stepsHeld}
 use Rattle.cells.specs.declared.notes.Steps.{Steps}
 use Rattle.board.proofs.Answered.{answers}
-use Rattle.passes.specs.Settlings.{countsOf, stepsDone}
+use Rattle.passes.specs.Settlings.{countsOf, stepsDone, countsDone}
 use Rattle.passes.specs.declared.Counts.{Counts}
 use Rattle.passes.proofs.StepValues.{valueOf, log-value}
 use Rattle.passes.proofs.apply_settling.Statement.{statement}
@@ -63,8 +64,12 @@ settle-requires c κs = search needs
 handedBack : S.Board → Answer Outcome → Steps
 handedBack b a = valueOf (valueOr [] (map (λ _. settlingSteps (S.givens b) (b .masks)) a))
 
+-- what each pass removed, by what the call answers
+countsBack : S.Board → Answer Outcome → List ℕ
+countsBack b a = valueOr (replicate 6 0) (map (λ _. passCounts (S.givens b) (b .masks)) a)
+
 returns : tie.Need-returns
-unfolding each handedBack stepsDone
+unfolding each handedBack stepsDone countsBack countsDone
 returns c =
     let stopped = c .before .before .before in
     let k = stopped .before .before in
@@ -72,12 +77,12 @@ returns c =
     let b = boardOf (given .before .before .before .before .before .before .args .board) in
     let e = answers settlingCall b (told (k .check-given .ensures) (stopped .stop .given .1)) in
     let steps = c .steps-of .ensures ∙ log-value [] (omega arith) ∙ ap (handedBack b) e in
-    record { counts = ap (map countsOf) e; board = ap (left b) e; steps = ap (λ (s : Steps). s .bytes) steps; stepCount = ap (λ (s : Steps). s .count) steps }
+    record { counts = ap (map countsOf) e; board = ap (left b) e; steps = ap (λ (s : Steps). s .bytes) steps; stepCount = ap (λ (s : Steps). s .count) steps; passes = ap (countsBack b) e }
 
 returns-2 : tie.Need-returns-2
-unfolding outcome counted logAfter settlingSteps handedBack stepsDone
+unfolding outcome counted logAfter settlingSteps handedBack stepsDone countsBack countsDone
 returns-2 c =
-    let t = c .before .before .before .before .before .before in
+    let t = c .before .before .before .before .before .before .before in
     let k = t .before .before in
     let given = k .before .before .before .before .before in
     let read = given .before .before .before in
@@ -90,13 +95,14 @@ returns-2 c =
     let checked = told (k .check-given .ensures) (t .enum-told .given .1) in
     let e = answers settlingCall b checked in
     let admitted : Admitted b = record { clues = clues-size (read .before .before); entries = entries-size (read .before); masks = masks-size read; taken = sym checked } in
-    let log = s .1 .1 .1 ∙ ap (λ (g : List ℕ). logAfter g (settlingInstances g m) m (replicate 4376 0)) same in
+    let log = s .1 .1 .1 .0 ∙ ap (λ (g : List ℕ). logAfter g (settlingInstances g m) m (replicate 4376 0)) same in
     let steps = c .steps-of2 .ensures ∙ ap stepsHeld log ∙ log-value (settlingSteps (S.givens b) m) (step-lists .most b admitted) ∙ ap (handedBack b) e in
     record {
       counts = ap₂ counted sweeps (s .1 .0 ∙ ap (removedBy m) masks) ∙ ap (map countsOf) e;
       board = ap (withMasks b) masks ∙ ap (left b) e;
       steps = ap (λ (s : Steps). s .bytes) steps;
       stepCount = ap (λ (s : Steps). s .count) steps;
+      passes = s .1 .1 .1 .1 ∙ ap (λ (g : List ℕ). passCounts g m) same ∙ ap (countsBack b) e;
     }
 
 pub apply-settling-spec : {M : Type 1} → statement M

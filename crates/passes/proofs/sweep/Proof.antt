@@ -1,38 +1,51 @@
--- `passes::sweep` meets its contract. The invariant: where the sweep stands after its first passes (`Going`), the masks stand in the lanes, and the passes that are left still make the log. Assumes nothing.
-use mathlib.Core.Path.{_≡_, refl, sym, ap, _∙_}
+-- `passes::sweep` meets its contract. The invariant: where the sweep stands after its first passes (`Going`), the masks stand in the lanes, and the passes that are left still make the log and the tally. Assumes nothing.
+use mathlib.Core.Path.{_≡_, sym, ap, _∙_}
+use mathlib.Core.Logic.{inl, inr, ⊎-elim}
 use mathlib.Core.List.{List}
 use Prim.Native.Nat.{_-_, _≤_, _<_}
 use native.Mathlib.Omega.{arith}
+use Rattle.grid.proofs.Lists.{turn-done, turns-over}
+use Rattle.steps.specs.Boards.{total}
+use Rattle.steps.specs.Difficulty.{removedEach}
 use Rattle.steps.specs.Instances.{Instance}
-use Rattle.steps.specs.Loops.{for, range}
-use Rattle.steps.specs.Passes.{pass}
+use Rattle.steps.specs.Loops.{each, for, range}
+use Rattle.steps.specs.Passes.{kinds, pass, sweep}
 use Rattle.steps.specs.StepLists.{sweepInstances}
 use Rattle.steps.specs.code.Logs.{logAfter}
 use Rattle.steps.proofs.StepLogs.{log-done, log-over}
 use Rattle.lanes.specs.code.Lanes.{laid}
+use Rattle.passes.specs.code.Tallies.{tallyWith, Tally}
 use Rattle.passes.proofs.Rounds.{passInstances, sweep-blocks, Going, going-start, going-on, swept-early, left-silent, swept-end}
+use Rattle.passes.proofs.Tallies.{tallyTurn, pass-fewer, sweep-tally, swept-tally, left-uncounted, tally-turn, unchanged}
 use Rattle.passes.proofs.sweep.Statement.{statement}
 use Rattle.passes.proofs.sweep.Tie as tie
 
 abbrev Inv-loop : tie.InvT-loop
-Inv-loop givens masks₀ log₀ doors lanes₀ idle still₀ nth₀ masks log lanes still nth =
+Inv-loop givens masks₀ log₀ tally₀ doors lanes₀ idle still₀ nth₀ masks log tally lanes still nth =
     (nth ≤ 6) × (lanes ≡ laid masks) × Going givens masks₀ idle nth still masks × (logAfter givens (for (range (6 - nth) nth) (passInstances givens)) masks log ≡ logAfter givens sweepInstances masks₀ log₀)
+    × Tally masks tally × (each (tallyTurn givens) (range (6 - nth) nth) (masks, tally) ≡ (sweep givens masks₀, tallyWith (removedEach givens kinds masks₀) (sweep givens masks₀) tally₀))
 
 abbrev μ-loop : tie.MeasureT-loop
-μ-loop givens masks₀ log₀ doors lanes₀ idle still₀ nth₀ masks log lanes still nth = 6 - nth
+μ-loop givens masks₀ log₀ tally₀ doors lanes₀ idle still₀ nth₀ masks log tally lanes still nth = 6 - nth
 
 loop-holds : tie.Need-loop-holds Inv-loop μ-loop
 loop-holds c =
     let a = c .args in
     let g = a .givens .now in
-    (omega arith, c .pre .0 .masks, going-start g (a .masks .now) (a .idle) (c .pre .1), ap (λ (xs : List Instance). logAfter g xs (a .masks .now) (a .log .now)) (sweep-blocks g))
+    let noted = ap (λ (xs : List Instance). logAfter g xs (a .masks .now) (a .log .now)) (sweep-blocks g) in
+    (omega arith, c .pre .0 .masks, going-start g (a .masks .now) (a .idle) (c .pre .1), noted, c .pre .3, sweep-tally g (c .pre .3))
 
 returns : tie.Need-returns Inv-loop μ-loop
 returns c =
     let l = c .before .before in
     let a = l .before .args in
-    let swept = swept-early (a .givens .now) (l .loop .inv .0) (l .loop .inv .2) (l .before .pre .2) (c .if1 .taken) in
-    (swept, (l .loop .inv .1, sym (left-silent (a .givens .now) (l .loop .inv .0) (l .loop .inv .2) swept (l .loop .log)) ∙ l .loop .inv .3))
+    let g = a .givens .now in
+    let w = l .loop .nth in
+    let inv = l .loop .inv in
+    let swept = swept-early g (inv .0) (inv .2) (l .before .pre .2) (c .if1 .taken) in
+    let noted = sym (left-silent g (inv .0) (inv .2) swept (l .loop .log)) ∙ inv .3 in
+    let counted = sym (left-uncounted g (inv .4) (range (6 - w) w) (inv .2 .rest ∙ sym (swept .swept))) ∙ inv .5 in
+    (swept, (inv .1, (noted, (inv .4, swept-tally g (a .masks .now) (a .tally .now) counted))))
 
 nth-pass-requires : tie.Need-nth-pass-requires Inv-loop μ-loop
 nth-pass-requires c κs =
@@ -46,6 +59,13 @@ still-below c = omega (arith, c .before .before .before .before .before .before 
 idle-after-requires : tie.Need-idle-after-requires Inv-loop μ-loop
 idle-after-requires c κs = still-below (c .before)
 
+tally-pass-requires : tie.Need-tally-pass-requires Inv-loop μ-loop
+tally-pass-requires c κs =
+    let p = c .before .before .before .before in
+    let l = p .before .before .before .before .before .before .before in
+    let tally = l .loop .inv .4 in
+    (omega arith, omega (arith, ap total (p .nth-pass .ensures .0), pass-fewer (l .before .args .givens .now) (l .loop .nth) (l .loop .masks), tally .left), tally .few)
+
 add-nth : tie.Need-add-nth Inv-loop μ-loop
 add-nth c = omega arith
 
@@ -55,20 +75,35 @@ loop-less c = omega arith
 loop-again : tie.Need-loop-again Inv-loop μ-loop
 unfolding pass
 loop-again c =
-    let l = c .before .before .before .before .before .before .before .before .before in
-    let done = c .before .before .nth-pass .ensures in
-    let g = l .before .args .givens .now in (
+    let p = c .before .before .before in
+    let l = p .before .before .before .before .before .before .before in
+    let done = p .nth-pass .ensures in
+    let g = l .before .args .givens .now in
+    let w = l .loop .nth in
+    let m = l .loop .masks in
+    let inv = l .loop .inv in
+    let idle = c .before .idle-after .ensures in
+    let tally =
+    tally-turn g (inv .4) {u = c .if2 .tally} w (omega arith) (done .0)
+    (⊎-elim (λ x. inl (x .3 ∙ x .2 .ensures)) (λ x. inr (unchanged m _ (l .loop .still) idle (x .0 .left), x .1)) (c .if2 .came)) in (
       omega arith,
       done .1 .0,
-      going-on g (omega arith) (still-below (c .before .before)) (l .loop .inv .2) (done .0) (c .idle-after .ensures),
-      log-done g (passInstances g) 6 (l .loop .nth) (l .loop .masks) (l .loop .log) (omega arith) (done .0) (done .1 .1) (l .loop .inv .3),
+      going-on g (omega arith) (still-below p) (inv .2) (done .0) idle,
+      log-done g (passInstances g) 6 w m (l .loop .log) (omega arith) (done .0) (done .1 .1) (inv .3),
+      tally .0,
+      turn-done (tallyTurn g) 6 w (omega arith) (tally .1) (inv .5),
     )
 
 returns-2 : tie.Need-returns-2 Inv-loop μ-loop
 returns-2 c =
     let l = c .before in
-    let g = l .before .args .givens .now in
-    (swept-end g (l .loop .inv .0) (l .loop .inv .2) (c .loop-test .left), (l .loop .inv .1, log-over g (passInstances g) 6 (l .loop .nth) (l .loop .masks) (l .loop .log) (c .loop-test .left) (l .loop .inv .3)))
+    let a = l .before .args in
+    let g = a .givens .now in
+    let w = l .loop .nth in
+    let inv = l .loop .inv in
+    let over = c .loop-test .left in
+    let noted = log-over g (passInstances g) 6 w (l .loop .masks) (l .loop .log) over (inv .3) in
+    (swept-end g (inv .0) (inv .2) over, (inv .1, (noted, (inv .4, swept-tally g (a .masks .now) (a .tally .now) (turns-over (tallyTurn g) 6 w over (inv .5))))))
 
 pub sweep-spec : {M : Type 1} → statement M
 sweep-spec =
@@ -80,6 +115,7 @@ sweep-spec =
     returns
     nth-pass-requires
     idle-after-requires
+    tally-pass-requires
     add-nth
     loop-less
     loop-again

@@ -94,6 +94,9 @@ cast-result-6 c = search needs
 enum-told : tie.Need-enum-told
 enum-told c = search needs
 
+enum-told-2 : tie.Need-enum-told-2
+enum-told-2 c = search needs
+
 returns : tie.Need-returns
 returns c = beside (c .before .stop .given .1) (search needs) refl
 
@@ -157,6 +160,9 @@ returns-20 c = beside (c .before .stop20 .given .1) (small (omega (arith, c .kno
 returns-21 : tie.Need-returns-21
 returns-21 c = beside (c .enum-told .given .1) refl refl
 
+returns-22 : tie.Need-returns-22
+returns-22 c = beside (c .enum-told2 .given .1) refl refl
+
 pub detail-spec : {M : Type 1} → statement M
 detail-spec =
     tie.close
@@ -188,6 +194,7 @@ detail-spec =
     enum-known-stop-20
     cast-result-6
     enum-told
+    enum-told-2
     returns
     returns-2
     returns-3
@@ -208,4 +215,5 @@ detail-spec =
     returns-18
     returns-19
     returns-20
-    returns-21)
+    returns-21
+    returns-22)

@@ -74,6 +74,9 @@ enum-told-20 c = search needs
 enum-told-21 : tie.Need-enum-told-21
 enum-told-21 c = search needs
 
+enum-told-22 : tie.Need-enum-told-22
+enum-told-22 c = search needs
+
 returns : tie.Need-returns
 returns c = row (c .enum-told .given .1) refl
 
@@ -137,6 +140,9 @@ returns-20 c = row (c .enum-told20 .given .1) refl
 returns-21 : tie.Need-returns-21
 returns-21 c = row (c .enum-told21 .given .1) refl
 
+returns-22 : tie.Need-returns-22
+returns-22 c = row (c .enum-told22 .given .1) refl
+
 pub number-spec : {M : Type 1} → statement M
 number-spec =
     tie.close
@@ -162,6 +168,7 @@ number-spec =
     enum-told-19
     enum-told-20
     enum-told-21
+    enum-told-22
     returns
     returns-2
     returns-3
@@ -182,4 +189,5 @@ number-spec =
     returns-18
     returns-19
     returns-20
-    returns-21)
+    returns-21
+    returns-22)

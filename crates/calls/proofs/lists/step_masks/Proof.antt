@@ -117,8 +117,8 @@ returns-12 c =
 returns-13 : tie.Need-returns-13
 unfolding outcome
 returns-13 c =
-    let a = c .before .before .before .before .args in
-    c .settle .ensures .1 .1 .0 ∙ masks-are (a .givens .now) (a .masks .now) settlingCall 12 (c .before .before .before .match .keys13) refl
+    let a = c .before .before .before .before .before .args in
+    c .settle .ensures .1 .1 .0 ∙ masks-are (a .givens .now) (a .masks .now) settlingCall 12 (c .before .before .before .before .match .keys13) refl
 
 returns-14 : tie.Need-returns-14
 returns-14 c =

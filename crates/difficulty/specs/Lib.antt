@@ -1,0 +1,2 @@
+pub mod Ratings
+pub mod code
