@@ -30,7 +30,7 @@ added [] ys = []
 added (x ∷ xs) [] = []
 added (x ∷ xs) (y ∷ ys) = (x + y) ∷ added xs ys
 
--- in n sweeps, six counts "in the order of the passes"
+-- in n sweeps: six counts, in the order of the passes
 unfoldable pub removedIn : List ℕ → ℕ → List ℕ → List ℕ
 removedIn g zero m = replicate 6 0
 removedIn g (suc n) m = added (removedEach g kinds m) (removedIn g n (sweep g m))
