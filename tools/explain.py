@@ -6,10 +6,12 @@ F-5, F-14) and from the line format in README.md; it knows nothing of the progra
 
     python3 tools/explain.py PROGRAM
 
-runs explain, the file PROGRAM, on grids of different kinds and on texts that are refused, which reach it through a pipe, and compares what it prints.
+runs explain, the file PROGRAM, on grids of different kinds, on lines of rounds and on texts that are refused, which reach it through a pipe, and compares
+what it prints.
 """
 
 import itertools
+import re
 import subprocess
 import sys
 
@@ -142,7 +144,14 @@ def verdict(sets):
     return "finished" if all(len(set().union(*(sets[cell] for cell in unit))) == 9 for unit in UNITS) else "dead"
 
 
+def grid_in(data):
+    """The grid of the first line where that is a line of a round; all else is a sheet."""
+    found = re.fullmatch(rb"([0-9.]{81})([ \t,;][1-9]{81})?\r?", data.split(b"\n")[0])
+    return found[1] if found else data
+
+
 def explain(data):
+    data = grid_in(data)
     if len(data) > 4096:
         return [f"refused 10 {len(data)}"]
     for offset, byte in enumerate(data):
@@ -188,6 +197,19 @@ GRIDS = [
     EASY[:40] + b"\n" + EASY[40:] + b"\n" * 4014,
 ]
 
+# Lines of a round: the first line's grid, whatever follows.
+SOLVED = b"534678912672195348198342567859761423426853791713924856961537284287419635345286179"
+ROUNDS = [
+    EASY + b"\n" + HARD + b"\n",
+    EASY + b" " + SOLVED,
+    EASY + b"\t" + SOLVED + b"\n",
+    EASY + b"," + SOLVED + b"\r\n" + b"x" * 5000,
+    EASY + b";" + A + b"\n" + b"." * 3000000,
+    EASY + b"\r",
+    EASY + b"\r\n\0",
+]
+assert all(grid_in(data) == EASY for data in ROUNDS)
+
 # By the words of F-2: 10 first, with the whole length, then 2 with the offset, then 11 with the number of cells.
 REFUSED = [
     (b"", "refused 11 0"),
@@ -202,12 +224,20 @@ REFUSED = [
     (b"x" * 8192, "refused 10 8192"),
     (b"x" * 8193, "refused 10 8193"),
     (b"." * 3000001, "refused 10 3000001"),
+    (EASY + b",", "refused 2 81"),
+    (EASY + b"," + SOLVED[1:], "refused 2 81"),
+    (EASY + b"," + SOLVED + b" ", "refused 2 81"),
+    (EASY + b"," + SOLVED[:80] + b"0", "refused 2 81"),
+    (EASY + b"\0\n", "refused 2 81"),
+    (EASY + b" " + SOLVED + b"1", "refused 11 163"),
+    (b"#" + EASY, "refused 2 0"),
+    (b"\n" + EASY + b"," + SOLVED, "refused 2 82"),
 ]
 
 
 def run(program):
     assert all(explain(data) == [want] for data, want in REFUSED)
-    cases = [(data, printed(data)) for data in GRIDS + [data for data, _ in REFUSED]]
+    cases = [(data, printed(data)) for data in GRIDS + ROUNDS + [data for data, _ in REFUSED]]
     wrong = 0
     for data, want in cases:
         got = subprocess.run([program], input=data, stdout=subprocess.PIPE).stdout
