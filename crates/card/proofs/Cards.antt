@@ -26,39 +26,53 @@ use Rattle.output.proofs.Decimals.{decimal-few}
 
 -- ---- how long a card is
 
-line-length : (label rest : List ℕ) → length (lineOf label rest) ≡ length label + length rest + 1
+pub line-length : (label rest : List ℕ) → length (lineOf label rest) ≡ length label + length rest + 1
 unfolding lineOf
 line-length label rest = omega (arith, length-append (label ++ rest) (10 ∷ []), length-append label rest)
 
-word-few : (v : Verdict) → length (verdictWord v) ≤ 8
+pub word-few : (v : Verdict) → length (verdictWord v) ≤ 8
 word-few verdict.Dead = omega arith
 word-few verdict.Finished = omega arith
 word-few verdict.Open = omega arith
 
-pub card-short : (c : Card) → c .clues < 1000 → c .reported < 1000 → c .sweeps < 1000 → c .removed < 1000 → length (cardBytes c) ≤ 256
+-- the numbers of a card have three digits at most
+pub record Few (c : Card) : Type 0 where
+  pub clues : c .clues < 1000
+  pub reported : c .reported < 1000
+  pub sweeps : c .sweeps < 1000
+  pub removed : c .removed < 1000
+
+pub card-short : (c : Card) → Few c → length (cardBytes c) ≤ 256
 unfolding cardBytes cells
-card-short c h i j k =
+card-short c few =
     let a = lineOf cluesLabel (decimal (c .clues)) in
     let b = lineOf reportedLabel (decimal (c .reported)) in
     let d = lineOf sweepsLabel (decimal (c .sweeps)) in
     let e = lineOf removedLabel (decimal (c .removed)) in
     let f = lineOf verdictLabel (verdictWord (c .verdict)) in
     let g = lineOf gridLabel (gridBytes (c .masks)) in
-    let p : length a ≤ 10 = omega (arith, line-length cluesLabel (decimal (c .clues)), decimal-few 2 (c .clues) h) in
-    let q : length b ≤ 13 = omega (arith, line-length reportedLabel (decimal (c .reported)), decimal-few 2 (c .reported) i) in
-    let r : length d ≤ 11 = omega (arith, line-length sweepsLabel (decimal (c .sweeps)), decimal-few 2 (c .sweeps) j) in
-    let s : length e ≤ 12 = omega (arith, line-length removedLabel (decimal (c .removed)), decimal-few 2 (c .removed) k) in
+    let p : length a ≤ 10 = omega (arith, line-length cluesLabel (decimal (c .clues)), decimal-few 2 (c .clues) (few .clues)) in
+    let q : length b ≤ 13 = omega (arith, line-length reportedLabel (decimal (c .reported)), decimal-few 2 (c .reported) (few .reported)) in
+    let r : length d ≤ 11 = omega (arith, line-length sweepsLabel (decimal (c .sweeps)), decimal-few 2 (c .sweeps) (few .sweeps)) in
+    let s : length e ≤ 12 = omega (arith, line-length removedLabel (decimal (c .removed)), decimal-few 2 (c .removed) (few .removed)) in
     let t : length f ≤ 17 = omega (arith, line-length verdictLabel (verdictWord (c .verdict)), word-few (c .verdict)) in
     let u : length g ≤ 87 = omega (arith, line-length gridLabel (gridBytes (c .masks))) in
     omega (arith, length-append (a ++ b ++ d ++ e ++ f) g, length-append (a ++ b ++ d ++ e) f, length-append (a ++ b ++ d) e, length-append (a ++ b) d, length-append a b)
 
-pub read-short : (z : List ℤ) → length (cardBytes (cardFor z)) ≤ 256
+pub read-few : (z : List ℤ) → Few (cardFor z)
 unfolding cardFor outcome cells
-read-short z =
+read-few z =
     let g = givensOf z in
     let a = fresh-admissible g in
-    card-short (cardFor z) (omega (arith, clues-few g cells)) (omega (arith, singles-few g (fresh g)))
-    (omega (arith, settles g (fresh g) (clues-givens z) a .most)) (omega (arith, total-most g (fresh g) (clues-givens z) a))
+    record {
+      clues = omega (arith, clues-few g cells);
+      reported = omega (arith, singles-few g (fresh g));
+      sweeps = omega (arith, settles g (fresh g) (clues-givens z) a .most);
+      removed = omega (arith, total-most g (fresh g) (clues-givens z) a);
+    }
+
+pub read-short : (z : List ℤ) → length (cardBytes (cardFor z)) ≤ 256
+read-short z = card-short (cardFor z) (read-few z)
 
 -- ---- how long a refusal is
 

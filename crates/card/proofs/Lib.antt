@@ -3,5 +3,5 @@ pub mod Cards
 pub mod Printed
 pub mod Verdicts
 mod CellBytes
-mod Newlines
+pub mod Newlines
 mod Signs

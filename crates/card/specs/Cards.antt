@@ -23,9 +23,13 @@ use Rattle.card.specs.Layout.{lineOf, cluesLabel, reportedLabel, sweepsL
 
 -- ---- what stands on a card
 
+-- how many bytes there are without one final byte b
+abbrev pub lengthWithout : ℕ → List ℕ → ℕ
+lengthWithout b input = cond (eqb (getD input (length input - 1) 0) b) (length input - 1) (length input)
+
 -- how many bytes the text has: "drops one final newline (byte 10)"
 abbrev pub textLength : List ℕ → ℕ
-textLength input = cond (eqb (getD input (length input - 1) 0) 10) (length input - 1) (length input)
+textLength input = lengthWithout 10 input
 
 abbrev pub textIn : List ℕ → List ℕ
 textIn input = take (textLength input) input

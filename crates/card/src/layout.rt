@@ -25,7 +25,7 @@ pub struct Card {
     pub masks: [u16; 81],
 }
 
-fn number_line(lines: &mut Lines, at: usize, label: &[u8], n: usize) -> usize
+pub fn number_line(lines: &mut Lines, at: usize, label: &[u8], n: usize) -> usize
     ensures { λ r. ⌜ tape (now (lines .exit)) r ≡ append 256 (lineOf (now (label .entry)) (decimal n)) (tape (now (lines .entry)) at) ⌝ }
 {
     let word = push_word(lines, at, label);
@@ -33,7 +33,7 @@ fn number_line(lines: &mut Lines, at: usize, label: &[u8], n: usize) -> usize
     push(lines, number, b'\n')
 }
 
-fn push_verdict(lines: &mut Lines, at: usize, verdict: Verdict) -> usize
+pub fn push_verdict(lines: &mut Lines, at: usize, verdict: Verdict) -> usize
     ensures { λ r. ⌜ tape (now (lines .exit)) r ≡ append 256 (verdictWord verdict) (tape (now (lines .entry)) at) ⌝ }
 {
     match verdict {

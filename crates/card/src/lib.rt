@@ -4,7 +4,9 @@ ghost use mathlib.Core.Path.{_≡_};
 ghost use Prim.Native.Nat.{_≤_};
 ghost use lib.ListN.{length};
 ghost use Rattle.stops.specs.Answer.{map, writingAnswer};
-ghost use Rattle.card.specs.Cards.{cardBytes, cardFor, cardLines, cardOf, refusalLine, textLength};
+ghost use Rattle.steps.specs.Boards.{givensOf, fresh};
+ghost use Rattle.steps.specs.Difficulty.{passCounts};
+ghost use Rattle.card.specs.Cards.{cardBytes, cardFor, cardLines, cardOf, lengthWithout, refusalLine};
 ghost use Rattle.output.specs.Lent.{over};
 use board::clues::givens_of;
 use board::count_clues;
@@ -22,29 +24,29 @@ use text::parse_string;
 pub mod layout;
 pub mod lines;
 
-// The length without one final newline.
-fn text_length(input: &[u8]) -> usize
-    ensures { λ r. ⌜ r ≡ textLength (now (input .entry)) ⌝ }
+// The length without one final byte of this kind.
+pub fn length_without(input: &[u8], last: u8) -> usize
+    ensures { λ r. ⌜ r ≡ lengthWithout last (now (input .entry)) ⌝ }
 {
     let length = input.len();
     if length == 0 {
         return 0;
     }
-    if input[length - 1] == b'\n' {
+    if input[length - 1] == last {
         return length - 1;
     }
     length
 }
 
-fn card_of(clues: &[i32; 81]) -> Card
-    ensures { λ r. ⌜ r ≡ cardFor (now (clues .entry)) ⌝ }
+// The card of clues, and what each pass removed in the settling that it is of.
+pub fn score(clues: &[i32; 81], tally: &mut [usize; 6]) -> Card
+    ensures { λ r. ⌜ (r ≡ cardFor (now (clues .entry))) × (now (tally .exit) ≡ passCounts (givensOf (now (clues .entry))) (fresh (givensOf (now (clues .entry))))) ⌝ }
 {
     let givens = givens_of(clues);
     let mut masks = fresh_masks(&givens);
     let reported = singles(&givens, &masks).count;
     let mut log = [0u8; 4376];
-    let mut by_pass = [0usize; 6];
-    let counts = settle(&givens, &mut masks, &mut log, &mut by_pass);
+    let counts = settle(&givens, &mut masks, &mut log, tally);
     Card {
         clues: count_clues(clues),
         reported,
@@ -55,11 +57,18 @@ fn card_of(clues: &[i32; 81]) -> Card
     }
 }
 
+fn card_of(clues: &[i32; 81]) -> Card
+    ensures { λ r. ⌜ r ≡ cardFor (now (clues .entry)) ⌝ }
+{
+    let mut tally = [0usize; 6];
+    score(clues, &mut tally)
+}
+
 // The card of the grid in `input`, in the first lent bytes; a refusal leaves them as they are.
 pub fn write_card(input: &[u8], out: &mut [u8; 256]) -> Writing
     ensures { λ r. ⌜ (writingAnswer r ≡ map (λ card. length (cardBytes card)) (cardOf (now (input .entry)))) × (now (out .exit) ≡ over (cardLines (cardOf (now (input .entry)))) (now (out .entry))) ⌝ }
 {
-    let length = text_length(input);
+    let length = length_without(input, b'\n');
     let parsed = parse_string(&input[..length]);
     let answer = parsed.answer;
     let Check::Passed = answer else {

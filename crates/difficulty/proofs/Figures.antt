@@ -23,7 +23,7 @@ use Rattle.steps.specs.Passes.{settle}
 use Rattle.steps.proofs.Difficulty.{six-counts, counts-sum}
 use Rattle.steps.proofs.Fresh.{fresh-admissible, total-most}
 use Rattle.steps.proofs.Lists.{board-givens}
-use Rattle.difficulty.specs.code.Rates.{rateOf}
+use Rattle.difficulty.specs.code.Rates.{ratingBy, rateOf}
 
 -- ---- open cells
 
@@ -80,12 +80,12 @@ module _ (g : List ℕ) (ok : Givens g) where
 
 -- ---- the answer on a board that was checked
 
-module _ (g : List ℕ) where
-  pub none-open : openCells g ≡ 0 → stop NoOpenCell ≡ rateOf g
-  none-open e = sym (cond-true (eqb (openCells g) 0) (stop NoOpenCell) (gives (figureOf (pointsOf (passCounts g (fresh g))) (openCells g))) (eq-eqb (openCells g) 0 e))
+module _ (g counts : List ℕ) where
+  pub none-open : openCells g ≡ 0 → stop NoOpenCell ≡ ratingBy g counts
+  none-open e = sym (cond-true (eqb (openCells g) 0) (stop NoOpenCell) (gives (figureOf (pointsOf counts) (openCells g))) (eq-eqb (openCells g) 0 e))
 
-  pub some-open : openCells g ≢ 0 → gives (figureOf (pointsOf (passCounts g (fresh g))) (openCells g)) ≡ rateOf g
-  some-open e = sym (cond-false (eqb (openCells g) 0) (stop NoOpenCell) (gives (figureOf (pointsOf (passCounts g (fresh g))) (openCells g))) (ne-eqb (openCells g) 0 e))
+  pub some-open : openCells g ≢ 0 → gives (figureOf (pointsOf counts) (openCells g)) ≡ ratingBy g counts
+  some-open e = sym (cond-false (eqb (openCells g) 0) (stop NoOpenCell) (gives (figureOf (pointsOf counts) (openCells g))) (ne-eqb (openCells g) 0 e))
 
 -- the call's, by what the check answered
 pub rated : (b : Board) {a : Answer (Unit {0})} → a ≡ checkOf b → then a (λ _. rateOf (givens b)) ≡ difficultyOf b

@@ -6,7 +6,7 @@ ghost use Rattle.steps.specs.Boards.{Givens, fresh};
 ghost use Rattle.steps.specs.Difficulty.{summed, passCounts, pointsOf, openCells, figureOf, difficultyOf};
 ghost use Rattle.board.specs.Boards.{boardOf};
 ghost use Rattle.difficulty.specs.Ratings.{figureIn, ratingAnswer};
-ghost use Rattle.difficulty.specs.code.Rates.{rateOf};
+ghost use Rattle.difficulty.specs.code.Rates.{ratingBy, rateOf};
 use board::Board;
 use board::check_given;
 use board::entries::givens_of;
@@ -76,17 +76,27 @@ fn figure_of(points: usize, cells: usize) -> Figure
     }
 }
 
-// The figure by the fresh masks; stop 19, before any settling.
-fn rate(givens: &[u8; 81], masks: [u16; 81]) -> Rating
-    requires { ⌜ Givens (now givens) × (masks ≡ fresh (now givens)) ⌝ }
-    ensures { λ r. ⌜ ratingAnswer r ≡ rateOf (now (givens .entry)) ⌝ }
+// The figure by what each pass removed, or stop 19. What settling a board counts is never more than its 729 candidates.
+pub fn rating_of(givens: &[u8; 81], counts: [usize; 6]) -> Rating
+    requires { ⌜ summed counts ≤ 729 ⌝ }
+    ensures { λ r. ⌜ ratingAnswer r ≡ ratingBy (now (givens .entry)) counts ⌝ }
 {
     let cells = open_cells(givens);
     if cells == 0 {
         return Rating::Refused(Stop::NoOpenCell);
     }
-    let counts = pass_counts(givens, masks);
     Rating::Is(figure_of(points_of(counts), cells))
+}
+
+// The figure by the fresh masks; stop 19, before any settling.
+fn rate(givens: &[u8; 81], masks: [u16; 81]) -> Rating
+    requires { ⌜ Givens (now givens) × (masks ≡ fresh (now givens)) ⌝ }
+    ensures { λ r. ⌜ ratingAnswer r ≡ rateOf (now (givens .entry)) ⌝ }
+{
+    if open_cells(givens) == 0 {
+        return Rating::Refused(Stop::NoOpenCell);
+    }
+    rating_of(givens, pass_counts(givens, masks))
 }
 
 // How hard the puzzle of clues and entries is. The handed masks are checked and play no other part.

@@ -101,7 +101,8 @@ fn check_bytes(text: &[u8]) -> Check
     Check::Passed
 }
 
-fn clues_of(text: &[u8]) -> [i32; 81]
+// The clues of 81 bytes, 0 for a byte that is no cell.
+pub fn clues_of(text: &[u8]) -> [i32; 81]
     ensures { λ r. ⌜ r ≡ cluesOf (now (text .entry)) ⌝ }
 {
     let mut clues = [0i32; 81];

@@ -26,7 +26,7 @@ reads : (c : tie.After-parse-string) → passing (checkAnswer (c .parse-string .
 reads c =
     let n = c .before .before in
     let input = n .before .before .args .input .now in
-    c .parse-string .ensures .0 ∙ ap (λ (k : ℕ). parseOf (take k input)) (n .text-length .ensures)
+    c .parse-string .ensures .0 ∙ ap (λ (k : ℕ). parseOf (take k input)) (n .length-without .ensures)
 
 -- a case of the reader's answer
 is-case : (c : tie.After-parse-string) {d : Check} → c .parse-string .result .answer ≡ d → passing (checkAnswer d) (cardFor (c .parse-string .result .clues)) ≡ cardOf (c .before .before .before .before .args .input .now)
@@ -38,14 +38,14 @@ is-case c {d} e =
     go : (d : Check) (z : List ℤ) → passing (checkAnswer d) (cardFor z) ≡ map cardFor (passing (checkAnswer d) z)
     go d z = sym (map-map cardFor (λ _. z) (checkAnswer d))
 
-text-length-requires : tie.Need-text-length-requires
-text-length-requires c κs = search needs
+length-without-requires : tie.Need-length-without-requires
+length-without-requires c κs = search needs
 
 slice-aggregate-parse-string : tie.Need-slice-aggregate-parse-string
 slice-aggregate-parse-string c =
     let n = c .before in
     let input = n .before .before .args .input .now in
-    sym (length-take-le (n .text-length .result) input (omega (arith, n .text-length .ensures, text-most input)))
+    sym (length-take-le (n .length-without .result) input (omega (arith, n .length-without .ensures, text-most 10 input)))
 
 parse-string-requires : tie.Need-parse-string-requires
 parse-string-requires c κs = search needs
@@ -88,7 +88,7 @@ pub write-card-spec : {M : Type 1} → statement M
 write-card-spec =
     tie.close
     (tie.spec
-    text-length-requires
+    length-without-requires
     slice-aggregate-parse-string
     parse-string-requires
     enum-told

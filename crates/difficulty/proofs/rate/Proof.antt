@@ -1,12 +1,12 @@
 -- `difficulty::rate` meets its contract. Assumes nothing.
-use mathlib.Core.Path.{_≡_, sym, ap, ap₂, subst, _∙_}
+use mathlib.Core.Path.{_≡_, sym, ap, subst, _∙_}
 use mathlib.Core.List.{List}
 use Prim.Native.Nat.{ℕ, _≤_}
 use borrow.Author.Needs.{needs}
-use Rattle.stops.specs.Answer.{gives}
 use Rattle.steps.specs.Boards.{fresh}
-use Rattle.steps.specs.Difficulty.{summed, passCounts, pointsOf, figureOf}
-use Rattle.difficulty.proofs.Figures.{counts-few, none-open, some-open}
+use Rattle.steps.specs.Difficulty.{summed, passCounts}
+use Rattle.difficulty.specs.code.Rates.{ratingBy}
+use Rattle.difficulty.proofs.Figures.{counts-few, none-open}
 use Rattle.difficulty.proofs.rate.Statement.{statement}
 use Rattle.difficulty.proofs.rate.Tie as tie
 
@@ -16,7 +16,8 @@ open-cells-requires c κs = search needs
 returns : tie.Need-returns
 returns c =
     let o = c .before in
-    none-open (o .before .args .givens .now) (sym (o .open-cells .ensures) ∙ c .if1 .taken)
+    let g = o .before .args .givens .now in
+    none-open g (passCounts g (fresh g)) (sym (o .open-cells .ensures) ∙ c .if1 .taken)
 
 pass-counts-requires : tie.Need-pass-counts-requires
 pass-counts-requires c κs = search needs
@@ -27,31 +28,17 @@ counted c =
     let s = c .before .before .before in
     c .pass-counts .ensures ∙ ap (passCounts (s .args .givens .now)) (s .pre .1)
 
-points-of-requires : tie.Need-points-of-requires
-points-of-requires c κs =
+rating-of-requires : tie.Need-rating-of-requires
+rating-of-requires c κs =
     let s = c .before .before .before in
     subst (λ (l : List ℕ). summed l ≤ 729) (sym (counted c)) (counts-few (s .args .givens .now) (s .pre .0))
 
-figure-of-requires : tie.Need-figure-of-requires
-figure-of-requires c κs = search needs
-
 returns-2 : tie.Need-returns-2
 returns-2 c =
-    let p = c .before in
-    let k = p .before in
-    let e = k .before in
-    let o = e .before in
-    let cells = o .open-cells .ensures in
-    ap gives (c .figure-of .ensures ∙ ap₂ figureOf (p .points-of .ensures ∙ ap pointsOf (counted k)) cells)
-    ∙ some-open (o .before .args .givens .now) (λ none. e .if1 .left (cells ∙ none))
+    let k = c .before in
+    c .rating-of .ensures ∙ ap (ratingBy (k .before .before .before .args .givens .now)) (counted k)
 
 pub rate-spec : {M : Type 1} → statement M
 rate-spec =
     tie.close
-    (tie.spec
-    open-cells-requires
-    returns
-    pass-counts-requires
-    points-of-requires
-    figure-of-requires
-    returns-2)
+    (tie.spec open-cells-requires returns pass-counts-requires rating-of-requires returns-2)

@@ -8,5 +8,9 @@ use Rattle.stops.specs.declared.Stop.the-variants.{NoOpenCell}
 use Rattle.steps.specs.Boards.{fresh}
 use Rattle.steps.specs.Difficulty.{Figure, passCounts, pointsOf, openCells, figureOf}
 
+-- by what each pass removed
+abbrev pub ratingBy : List ℕ → List ℕ → Answer Figure
+ratingBy g counts = cond (eqb (openCells g) 0) (stop NoOpenCell) (gives (figureOf (pointsOf counts) (openCells g)))
+
 abbrev pub rateOf : List ℕ → Answer Figure
-rateOf g = cond (eqb (openCells g) 0) (stop NoOpenCell) (gives (figureOf (pointsOf (passCounts g (fresh g))) (openCells g)))
+rateOf g = ratingBy g (passCounts g (fresh g))

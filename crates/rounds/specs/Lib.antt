@@ -1,0 +1,5 @@
+pub mod Lines
+pub mod Answers
+pub mod Rounds
+pub mod Summaries
+pub mod code

@@ -1,0 +1,2 @@
+-- How the code goes about it: nothing here needs belief.
+pub mod Kept
