@@ -1,4 +1,4 @@
-//! Derives the oracle from the Rust original and links the archive of crate `host`.
+//! Derives the oracle from the Rust original and links the archive of crate `sudoku`.
 
 use std::path::{Path, PathBuf};
 use std::process::Command;
@@ -25,11 +25,11 @@ fn derive_oracle(here: &Path) {
 }
 
 fn link_archive(folder: &Path) {
-    let archive = folder.join("libhost.a");
+    let archive = folder.join("libsudoku.a");
     println!("cargo:rerun-if-changed={}", archive.display());
     if !archive.is_file() {
-        panic!("{} is missing: run `rt staticlib host` at the repository's root first", archive.display());
+        panic!("{} is missing: run `rt staticlib sudoku` at the repository's root first", archive.display());
     }
     println!("cargo:rustc-link-search=native={}", folder.display());
-    println!("cargo:rustc-link-lib=static=host");
+    println!("cargo:rustc-link-lib=static=sudoku");
 }

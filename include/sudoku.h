@@ -1,4 +1,4 @@
-/* The Sudoku step engine for C and C++ (x86-64 Linux): link with target/staticlib/libhost.a. host/README.md is the page that this header follows.
+/* The Sudoku step engine for C and C++ (x86-64 Linux): link with target/staticlib/libsudoku.a. host/README.md is the page that this header follows.
  *
  * A board is lent as three arrays of 81, by cell (9 times row + column, both from 0): the printed clues, 0 where a cell has none; the
  * player's entries, 0 where a cell has none; and the masks, where bit d - 1 says that digit d is a candidate. Entries count as clues.

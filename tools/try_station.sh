@@ -1,10 +1,10 @@
 #!/usr/bin/env bash
-# Tries the engine from other languages, on the archive that `rt staticlib host` has made: the example station as C and as C++ against
+# Tries the engine from other languages, on the archive that `rt staticlib sudoku` has made: the example station as C and as C++ against
 # examples/station/expected, and the tests of the Python module. What cannot be tried is said in a line.
 set -euo pipefail
 cd "$(dirname "$0")/.."
 
-archive=target/staticlib/libhost.a
+archive=target/staticlib/libsudoku.a
 entries=(r6c1=6 r9c1=4)
 
 # compiled FILE COMPILER..

@@ -1,4 +1,4 @@
-//! The engine for Rust: a safe wrapper over the archive of crate `host` (README.md has the ABI), and what it is compared with.
+//! The engine for Rust: a safe wrapper over the archive of crate `sudoku` (README.md has the ABI), and what it is compared with.
 
 pub mod cases;
 pub mod clothes_cases;

@@ -1,9 +1,9 @@
-//! The exports as crates/host/src/lib.rt has them, as src/lib.rs declares them and as include/sudoku.h does: the same names, each with the same
+//! The exports as crates/sudoku/src/lib.rt has them, as src/lib.rs declares them and as include/sudoku.h does: the same names, each with the same
 //! parameters, their kinds, lengths and what is written of them, and the same result.
 
 use std::collections::BTreeMap;
 
-const EXPORTED: &str = include_str!("../../crates/host/src/lib.rt");
+const EXPORTED: &str = include_str!("../../crates/sudoku/src/lib.rt");
 const DECLARED: &str = include_str!("../src/lib.rs");
 const HEADER: &str = include_str!("../../include/sudoku.h");
 const PAGE: &str = include_str!("../README.md");

@@ -1,0 +1,39 @@
+-- Each arm says which case it is.
+use mathlib.Core.Path.{sym, ap, subst, _∙_}
+use lib.IntN.{pos}
+use Rattle.stops.specs.Answer.{map, writingAnswer}
+use Rattle.stops.specs.declared.Writing.{Writing}
+use Rattle.sudoku.specs.Codes.{coded}
+use Rattle.sudoku.specs.code.Fitting.{Fitting}
+use borrow.Author.Needs.{needs}
+use Rattle.sudoku.proofs.codes.of_writing.Statement.{statement}
+use Rattle.sudoku.proofs.codes.of_writing.Tie as tie
+
+enum-known-writing : tie.Need-enum-known-writing
+enum-known-writing c = search needs
+
+of-stop-requires : tie.Need-of-stop-requires
+of-stop-requires c κs = search needs
+
+enum-known-writing-2 : tie.Need-enum-known-writing-2
+enum-known-writing-2 c = search needs
+
+of-count-requires : tie.Need-of-count-requires
+of-count-requires c κs = subst (λ (w : Writing). Fitting (map pos (writingAnswer w))) (c .before .writing2 .given .1) (c .before .before .before .pre)
+
+returns : tie.Need-returns
+returns c = c .of-stop .ensures ∙ ap (λ (w : Writing). coded (map pos (writingAnswer w)) 0) (sym (c .before .before .writing .given .1))
+
+returns-2 : tie.Need-returns-2
+returns-2 c = c .of-count .ensures ∙ ap (λ (w : Writing). coded (map pos (writingAnswer w)) 0) (sym (c .before .before .writing2 .given .1))
+
+pub of-writing-spec : {M : Type 1} → statement M
+of-writing-spec =
+    tie.close
+    (tie.spec
+    enum-known-writing
+    of-stop-requires
+    enum-known-writing-2
+    of-count-requires
+    returns
+    returns-2)

@@ -1,0 +1,55 @@
+-- Each arm says which case it is.
+use mathlib.Core.Path.{_≡_, sym, ap, _∙_}
+use borrow.Author.Needs.{needs}
+use Rattle.calls.specs.StepNumbers.{steppingAnswer}
+use Rattle.calls.specs.declared.Stepping.{Stepping}
+use Rattle.sudoku.specs.code.Parts.{partsCode}
+use Rattle.sudoku.proofs.step_calls.of_stepping.Statement.{statement}
+use Rattle.sudoku.proofs.step_calls.of_stepping.Tie as tie
+
+enum-known-stepping : tie.Need-enum-known-stepping
+enum-known-stepping c = search needs
+
+of-stop-requires : tie.Need-of-stop-requires
+of-stop-requires c κs = search needs
+
+enum-known-stepping-2 : tie.Need-enum-known-stepping-2
+enum-known-stepping-2 c = search needs
+
+of-values-requires : tie.Need-of-values-requires
+of-values-requires c κs = search needs
+
+enum-told : tie.Need-enum-told
+enum-told c = search needs
+
+of-unknown-requires : tie.Need-of-unknown-requires
+of-unknown-requires c κs = search needs
+
+returns : tie.Need-returns
+returns c =
+    let a = c .before .before .before .before .args in
+    c .of-stop .ensures ∙ ap (λ (x : Stepping). partsCode (a .number) (steppingAnswer x) (a .reports) (a .sweeps) (a .removed)) (sym (c .before .before .stepping .given .1))
+
+returns-2 : tie.Need-returns-2
+returns-2 c =
+    let a = c .before .before .before .before .args in
+    c .of-values .ensures ∙ ap (λ (x : Stepping). partsCode (a .number) (steppingAnswer x) (a .reports) (a .sweeps) (a .removed)) (sym (c .before .before .stepping2 .given .1))
+
+returns-3 : tie.Need-returns-3
+returns-3 c =
+    let a = c .before .before .before .args in
+    c .of-unknown .ensures ∙ ap (λ (x : Stepping). partsCode (a .number) (steppingAnswer x) (a .reports) (a .sweeps) (a .removed)) (sym (c .before .enum-told .given .1))
+
+pub of-stepping-spec : {M : Type 1} → statement M
+of-stepping-spec =
+    tie.close
+    (tie.spec
+    enum-known-stepping
+    of-stop-requires
+    enum-known-stepping-2
+    of-values-requires
+    enum-told
+    of-unknown-requires
+    returns
+    returns-2
+    returns-3)

@@ -1,0 +1,109 @@
+-- The invariant: the reports that are left still make the whole.
+use mathlib.Core.Path.{_≡_, refl, ap, _∙_}
+use mathlib.Core.Bool.{Bool, true, false, cond}
+use Prim.Native.Nat.{ℕ, _-_, _≤_}
+use native.Mathlib.Omega.{arith}
+use borrow.Author.Needs.{needs}
+use borrow.Author.Tests.{ltb-true}
+use lib.Dec.{ltb}
+use lib.ListN.{replicate}
+use Rattle.grid.proofs.Lists.{turn-done, turns-over}
+use Rattle.steps.specs.Loops.{each, range}
+use Rattle.sudoku.specs.Steps.{putReport, reportBytes, used}
+use Rattle.sudoku.proofs.step_calls.put_bytes.Statement.{statement}
+use Rattle.sudoku.proofs.step_calls.put_bytes.Tie as tie
+
+abbrev Inv-loop : tie.InvT-loop
+Inv-loop bytes₀ reports count report₀ bytes report =
+    (report ≤ count) × (count ≤ 324)
+    × (each (putReport (reports .cells) (reports .digits)) (range (count - report) report) bytes ≡ each (putReport (reports .cells) (reports .digits)) (range count 0) (replicate 648 0))
+
+abbrev μ-loop : tie.MeasureT-loop
+μ-loop bytes₀ reports count report₀ bytes report = count - report
+
+room : (n : ℕ) → used n ≤ 324
+room n = go (ltb n 324) refl
+  where
+    go : (t : Bool) → ltb n 324 ≡ t → cond t n 324 ≤ 324
+    go true e = omega (arith, ltb-true n 324 e)
+    go false e = omega arith
+
+used-requires : tie.Need-used-requires Inv-loop μ-loop
+used-requires c κs = search needs
+
+loop-holds : tie.Need-loop-holds Inv-loop μ-loop
+loop-holds c =
+    let u = c .before in
+    let q = u .before .args .t1 in
+    let n = u .used .result in
+    let all : n - 0 ≡ n = omega arith in (
+      omega arith,
+      omega (arith, u .used .ensures, room (q .count)),
+      ap (λ (k : ℕ). each (putReport (q .cells) (q .digits)) (range k 0) (replicate 648 0)) all,
+    )
+
+element-copy-out-bytes : tie.Need-element-copy-out-bytes Inv-loop μ-loop
+element-copy-out-bytes c = omega arith
+
+mul-bytes : tie.Need-mul-bytes Inv-loop μ-loop
+mul-bytes c = omega arith
+
+element-write-bytes : tie.Need-element-write-bytes Inv-loop μ-loop
+element-write-bytes c = omega arith
+
+element-copy-out-bytes-2 : tie.Need-element-copy-out-bytes-2 Inv-loop μ-loop
+element-copy-out-bytes-2 c = omega arith
+
+mul-bytes-2 : tie.Need-mul-bytes-2 Inv-loop μ-loop
+mul-bytes-2 c = omega arith
+
+add-bytes : tie.Need-add-bytes Inv-loop μ-loop
+add-bytes c = omega arith
+
+element-write-bytes-2 : tie.Need-element-write-bytes-2 Inv-loop μ-loop
+element-write-bytes-2 c = omega arith
+
+add-report : tie.Need-add-report Inv-loop μ-loop
+add-report c = omega arith
+
+loop-less : tie.Need-loop-less Inv-loop μ-loop
+loop-less c = omega arith
+
+loop-again : tie.Need-loop-again Inv-loop μ-loop
+loop-again c =
+    let l = c .before .before .before in
+    let u = l .before .before in
+    let q = u .before .args .t1 in (
+      omega arith,
+      omega arith,
+      turn-done (putReport (q .cells) (q .digits)) (u .used .result) (l .loop .report) (omega arith) refl (l .loop .inv .2),
+    )
+
+returns : tie.Need-returns Inv-loop μ-loop
+unfolding reportBytes
+returns c =
+    let l = c .before in
+    let u = l .before .before in
+    let q = u .before .args .t1 in
+    turns-over (putReport (q .cells) (q .digits)) (u .used .result) (l .loop .report) (c .loop-test .left) (l .loop .inv .2)
+    ∙ ap (λ (k : ℕ). each (putReport (q .cells) (q .digits)) (range k 0) (replicate 648 0)) (u .used .ensures)
+
+pub put-bytes-spec : {M : Type 1} → statement M
+put-bytes-spec =
+    tie.close
+    (tie.spec
+    Inv-loop
+    μ-loop
+    used-requires
+    loop-holds
+    element-copy-out-bytes
+    mul-bytes
+    element-write-bytes
+    element-copy-out-bytes-2
+    mul-bytes-2
+    add-bytes
+    element-write-bytes-2
+    add-report
+    loop-less
+    loop-again
+    returns)

@@ -1,0 +1,34 @@
+-- The move's answer, coded; the record stands as it wrote it.
+use borrow.Author.Needs.{needs}
+use lib.ListN.{length}
+use mathlib.Core.Path.{sym, ap, subst, _∙_}
+use Prim.Native.Nat.{ℕ}
+use lib.IntN.{pos}
+use Rattle.stops.specs.Answer.{Answer, map}
+use Rattle.sudoku.specs.Codes.{coded}
+use Rattle.sudoku.specs.Records.{movedFrom}
+use Rattle.sudoku.specs.code.Fitting.{Fitting}
+use Rattle.sudoku.proofs.Fitting.{move-fits}
+use Rattle.sudoku.proofs.sudoku_move_record.Statement.{statement}
+use Rattle.sudoku.proofs.sudoku_move_record.Tie as tie
+
+move-either-requires : tie.Need-move-either-requires
+move-either-requires c κs = search needs
+
+of-writing-requires : tie.Need-of-writing-requires
+of-writing-requires c κs =
+    let w = c .before .before in
+    let a = w .before .before .before .before .args in
+    subst (λ (x : Answer ℕ). Fitting (map pos x)) (sym (w .move-either .ensures .0)) (move-fits (movedFrom (a .back)) (a .bytes .now) (length (a .moved .now)))
+
+same-length : tie.Need-same-length
+same-length c = search needs
+
+returns : tie.Need-returns
+returns c =
+    let e = c .before .before .before .move-either .ensures in
+    (c .of-writing .ensures ∙ ap (λ (a : Answer ℕ). coded (map pos a) 0) (e .0), e .1)
+
+pub sudoku-move-record-spec : {M : Type 1} → statement M
+sudoku-move-record-spec =
+    tie.close (tie.spec move-either-requires of-writing-requires same-length returns)

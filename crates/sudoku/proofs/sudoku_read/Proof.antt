@@ -1,0 +1,26 @@
+-- The reader's answer, coded, and its clues in what was lent.
+use mathlib.Core.Path.{ap, _∙_}
+use mathlib.Core.List.{List}
+use borrow.Author.Needs.{needs}
+use lib.IntN.{ℤ}
+use Rattle.stops.specs.Answer.{Answer, map, valueOr}
+use Rattle.sudoku.specs.Boards.{clueNumber}
+use Rattle.sudoku.specs.Codes.{coded}
+use Rattle.sudoku.proofs.sudoku_read.Statement.{statement}
+use Rattle.sudoku.proofs.sudoku_read.Tie as tie
+
+parse-string-requires : tie.Need-parse-string-requires
+parse-string-requires c κs = search needs
+
+put-grid-requires : tie.Need-put-grid-requires
+put-grid-requires c κs = search needs
+
+returns : tie.Need-returns
+returns c =
+    let p = c .before .before .before .before .before in
+    let e = p .parse-string .ensures .0 in
+    let w = c .put-grid .ensures in
+    (w .0 ∙ ap (λ (a : Answer (List ℤ)). coded (map clueNumber a) 0) e, w .1 ∙ ap (valueOr (p .before .before .args .clues .now)) e)
+
+pub sudoku-read-spec : {M : Type 1} → statement M
+sudoku-read-spec = tie.close (tie.spec parse-string-requires put-grid-requires returns)

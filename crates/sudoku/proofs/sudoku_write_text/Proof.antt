@@ -1,0 +1,34 @@
+-- The writer's answer, coded; the text stands as it wrote it.
+use borrow.Author.Needs.{needs}
+use native.Mathlib.Omega.{arith}
+use lib.ListN.{length}
+use Rattle.sudoku.proofs.Fitting.{text-fits}
+use mathlib.Core.Path.{sym, ap, subst, _∙_}
+use Prim.Native.Nat.{ℕ}
+use lib.IntN.{pos}
+use Rattle.stops.specs.Answer.{Answer, map}
+use Rattle.sudoku.specs.Codes.{coded}
+use Rattle.sudoku.specs.code.Fitting.{Fitting}
+use Rattle.sudoku.proofs.sudoku_write_text.Statement.{statement}
+use Rattle.sudoku.proofs.sudoku_write_text.Tie as tie
+
+write-text-requires : tie.Need-write-text-requires
+write-text-requires c κs = search needs
+
+of-writing-requires : tie.Need-of-writing-requires
+of-writing-requires c κs =
+    let w = c .before .before in
+    let a = w .before .before .before .args in
+    subst (λ (x : Answer ℕ). Fitting (map pos x)) (sym (w .write-text .ensures .0)) (text-fits 81 (a .clues .now) (length (a .text .now)) (omega arith))
+
+same-length : tie.Need-same-length
+same-length c = search needs
+
+returns : tie.Need-returns
+returns c =
+    let e = c .before .before .before .write-text .ensures in
+    (c .of-writing .ensures ∙ ap (λ (a : Answer ℕ). coded (map pos a) 0) (e .0), e .1)
+
+pub sudoku-write-text-spec : {M : Type 1} → statement M
+sudoku-write-text-spec =
+    tie.close (tie.spec write-text-requires of-writing-requires same-length returns)
