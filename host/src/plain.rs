@@ -626,12 +626,7 @@ fn settling(board: &mut Joint) -> Outcome {
 // ---- the difficulty figure (document 02, F-14)
 
 /// "points divided by open cells without entries, as a whole quotient and the exact remainder"
-#[derive(Clone, Copy, Debug, PartialEq, Eq)]
-pub struct Difficulty {
-    pub quotient: usize,
-    pub remainder: usize,
-    pub cells: usize,
-}
+pub use sudoku::Difficulty;
 
 /// The wide passes in a sweep's order.
 const WIDE: [fn(&mut Joint); 6] = [Joint::lone, Joint::place, Joint::pair, Joint::pointing, Joint::claiming, Joint::cross];

@@ -63,7 +63,7 @@ pub fn engine_settles(board: &Board) -> Result<(Outcome, Vec<u8>), Stop> {
     let (mut left, mut bytes) = (*board, [LENT_BYTE; 4374]);
     match crate::settle(&mut left, &mut bytes, &mut [0; 6]) {
         Err(stop) if left == *board && bytes == [LENT_BYTE; 4374] => Err(stop),
-        Ok(crate::Settled { sweeps, removed, steps: steps @ 0..=729 }) if Board { masks: board.masks, ..left } == *board => {
+        Ok(crate::SettledCounts { sweeps, removed, steps: steps @ 0..=729 }) if Board { masks: board.masks, ..left } == *board => {
             let (list, rest) = bytes.split_at(6 * steps as usize);
             let outcome = Outcome { sweeps: sweeps as usize, removed: removed as usize, ..plain::silent(&left.masks) };
             if rest.iter().all(|&byte| byte == 0) { Ok((outcome, list.to_vec())) } else { Err(BROKEN) }

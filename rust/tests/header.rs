@@ -1,12 +1,12 @@
-//! The exports as crates/sudoku/src/lib.rt has them, as src/lib.rs declares them and as include/sudoku.h does: the same names, each with the same
+//! The exports as crates/sudoku/src/lib.rt has them, as src/exports.rs declares them and as include/sudoku.h does: the same names, each with the same
 //! parameters, their kinds, lengths and what is written of them, and the same result.
 
 use std::collections::BTreeMap;
 
 const EXPORTED: &str = include_str!("../../crates/sudoku/src/lib.rt");
-const DECLARED: &str = include_str!("../src/lib.rs");
+const DECLARED: &str = include_str!("../src/exports.rs");
 const HEADER: &str = include_str!("../../include/sudoku.h");
-const PAGE: &str = include_str!("../README.md");
+const PAGE: &str = include_str!("../../host/README.md");
 
 /// Of each export the kinds of its parameters and then that of its result: a number, `bool`, or where a pointer leads, such as `const i32 81`, with no
 /// length for the bytes of a slice, whose length is the next parameter.
@@ -49,19 +49,22 @@ fn exported() -> Exports {
     rust_exports(EXPORTED, "pub extern \"C\" fn ", "\n    ensures", kinds)
 }
 
-/// `*mut Masks` by the type of that name.
+/// `&mut Masks` by the type of that name; `*const u8` is where the bytes of a slice are.
 fn declared() -> Exports {
     let types: BTreeMap<&str, String> = between(DECLARED, "type ", ";\n")
         .filter_map(|line| line.split_once(" = ["))
         .map(|(name, array)| (name, array.trim_end_matches(']').replace("; ", " ")))
         .collect();
     let kinds = |kind: &str| {
-        let Some(pointer) = kind.strip_prefix('*') else { return vec![kind.to_string()] };
-        let (access, named) = pointer.split_once(' ').unwrap();
-        vec![format!("{access} {}", types.get(named).map_or(named, String::as_str))]
+        if let Some(pointer) = kind.strip_prefix('*') {
+            return vec![pointer.to_string()];
+        }
+        let Some(lent) = kind.strip_prefix('&') else { return vec![kind.to_string()] };
+        let (access, named) = lent.strip_prefix("mut ").map_or(("const", lent), |named| ("mut", named));
+        vec![format!("{access} {}", types[named])]
     };
     let block = DECLARED.split_once("extern \"C\" {").unwrap().1.split_once("\n}").unwrap().0;
-    rust_exports(block, "    fn ", ";", kinds)
+    rust_exports(block, "safe fn ", ";", kinds)
 }
 
 /// `const int32_t clues[SUDOKU_CELLS]` is `const i32 81`.
@@ -107,7 +110,7 @@ fn the_exports_are_those_of_the_header() {
 
 #[test]
 fn the_header_has_the_number_of_these_signatures() {
-    assert!(HEADER.contains(&format!("#define SUDOKU_ABI {}u\n", sudoku_host::ABI)));
+    assert!(HEADER.contains(&format!("#define SUDOKU_ABI {}u\n", sudoku::calls::ABI)));
 }
 
 #[test]
