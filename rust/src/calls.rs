@@ -1,12 +1,11 @@
 //! The exports as safe functions on plain numbers, for whoever hands over any numbers: the comparison, and stations that keep the three arrays
 //! themselves. What is wrong with the numbers is answered with a stop, and what is lent keeps its contents then. host/README.md says what each writes.
 //!
-//! The types of the crate's root are made of these. A program that calls them without those asks [`abi`] first: where it is not [`ABI`], nothing else
-//! may be called.
+//! The types of the crate's root are made of these. All but [`abi`] panic where the archive that was linked has other signatures than [`ABI`].
 
-use crate::exports;
+use crate::exports::{self, Answer};
 pub use crate::exports::{CardBytes, Clues, Entries, Masks, PassCounts, ReportBytes, StepBytes, ABI};
-use crate::Difficulty;
+use crate::{Difficulty, SingleCandidate, Verdict};
 
 /// The entries of a board that has none.
 pub const NO_ENTRIES: Entries = [0; 81];
@@ -38,16 +37,31 @@ pub struct RawStop {
     pub detail: i64,
 }
 
-/// The four numbers of an answer: what stands beside the values and the two values, or the stop.
-fn answered(call: impl FnOnce(&mut exports::Answer)) -> Result<[i64; 3], RawStop> {
+/// Where the archive has other signatures nothing may be called.
+fn same_signatures() {
+    assert!(abi() == ABI, "libsudoku.a has the signatures {}, this crate those of {ABI}", abi());
+}
+
+/// The four numbers that a call writes.
+fn four(call: impl FnOnce(&mut Answer)) -> Answer {
+    same_signatures();
     let mut answer = [0; 4];
     call(&mut answer);
-    let [number, detail, value, second] = answer;
-    if number == 0 { Ok([detail, value, second]) } else { Err(RawStop { number, detail }) }
+    answer
+}
+
+/// What stands beside the values and the two values, or the stop.
+fn answered(call: impl FnOnce(&mut Answer)) -> Result<[i64; 3], RawStop> {
+    let [number, detail, value, second] = four(call);
+    if number == 0 {
+        Ok([detail, value, second])
+    } else {
+        Err(RawStop { number, detail })
+    }
 }
 
 /// The call's value, or the stop.
-fn valued(call: impl FnOnce(&mut exports::Answer)) -> Result<i64, RawStop> {
+fn valued(call: impl FnOnce(&mut Answer)) -> Result<i64, RawStop> {
     answered(call).map(|[_, value, _]| value)
 }
 
@@ -87,29 +101,14 @@ pub struct SetAnswer {
 
 /// A call of the candidate set on a mask and a digit; one that takes no mask or no digit does not look at it.
 pub fn set(call: SetCall, mask: u16, digit: i32) -> SetAnswer {
-    let mut answer = [0; 4];
-    exports::sudoku_set(call as u8, mask, digit, &mut answer);
-    let [number, detail, value, left] = answer;
+    let [number, detail, value, left] = four(|answer| exports::sudoku_set(call as u8, mask, digit, answer));
     let answer = if number == 0 { Ok(value) } else { Err(RawStop { number, detail }) };
     SetAnswer { answer, mask: left as u16 }
 }
 
-/// What `single_candidate` says of a set.
-#[derive(Clone, Copy, Debug, PartialEq, Eq)]
-pub enum SingleCandidate {
-    /// The set holds this digit alone.
-    Digit(i32),
-    /// The set is empty.
-    Empty,
-    /// The set holds two digits or more.
-    Several,
-}
-
 /// Whether a mask holds one digit, none or several.
-pub fn single_candidate(mask: u16) -> SingleCandidate {
-    let mut answer = [0; 4];
-    exports::sudoku_set(SetCall::SingleCandidate as u8, mask, 0, &mut answer);
-    match answer {
+pub fn single_candidate(mask: u16) -> SingleCandidate<i32> {
+    match four(|answer| exports::sudoku_set(SetCall::SingleCandidate as u8, mask, 0, answer)) {
         [0, 0, 0, _] => SingleCandidate::Empty,
         [0, 1, digit, _] => SingleCandidate::Digit(digit as i32),
         [0, 2, 0, _] => SingleCandidate::Several,
@@ -117,27 +116,29 @@ pub fn single_candidate(mask: u16) -> SingleCandidate {
     }
 }
 
+/// One step of a walk over a mask's digits, rising: the first digit at the place or above, and the mask and the place to go on with. It begins with
+/// place 0.
+pub fn next(mask: u16, place: u8) -> Option<(i32, u16, u8)> {
+    let [_, after, digit, left] = four(|answer| exports::sudoku_next(mask, place, answer));
+    (digit != 0).then_some((digit as i32, left as u16, after as u8))
+}
+
 /// The digits of a mask, rising, one `next` after the other.
 pub fn digits(mask: u16) -> Vec<i32> {
     let mut found = Vec::new();
-    let mut answer = [0; 4];
-    let mut place = 0;
-    let mut rest = mask;
-    loop {
-        exports::sudoku_next(rest, place, &mut answer);
-        let [_, after, digit, left] = answer;
-        if digit == 0 {
-            return found;
-        }
-        found.push(digit as i32);
-        (place, rest) = (after as u8, left as u16);
+    let (mut rest, mut place) = (mask, 0);
+    while let Some((digit, left, after)) = next(rest, place) {
+        found.push(digit);
+        (rest, place) = (left, after);
     }
+    found
 }
 
 // ---- grids, texts and boards
 
 /// Whether 81 numbers are a correct filling.
 pub fn verify(grid: &Clues) -> bool {
+    same_signatures();
     exports::sudoku_verify(grid)
 }
 
@@ -160,9 +161,9 @@ pub fn clue_count(board: &RawBoard) -> Result<i64, RawStop> {
     ask(0, 0, board)
 }
 
-/// The verdict in its word: `dead`, `finished` or `open`.
-pub fn verdict(board: &RawBoard) -> Result<&'static str, RawStop> {
-    Ok(["dead", "finished", "open"][ask(1, 0, board)? as usize])
+/// The verdict.
+pub fn verdict(board: &RawBoard) -> Result<Verdict, RawStop> {
+    Ok([Verdict::Dead, Verdict::Finished, Verdict::Open][ask(1, 0, board)? as usize])
 }
 
 /// The mask of one cell.
