@@ -1,6 +1,6 @@
 #!/usr/bin/env bash
-# Tries the engine from other languages, on the archive that `rt staticlib sudoku` has made: the example station as C and as C++ against
-# examples/station/expected, and the tests of the Python module. What cannot be tried is said in a line.
+# Tries the engine from other languages, on the archive that `rt staticlib sudoku` has made: the example station as C, as C++ and as Rust against
+# examples/station/expected, and the tests of the Rust package and of the Python module. What cannot be tried is said in a line.
 set -euo pipefail
 cd "$(dirname "$0")/.."
 
@@ -22,7 +22,7 @@ if command -v cc >/dev/null; then
     compiled target/station cc -std=c11
     as_expected C target/station
     if command -v valgrind >/dev/null; then
-        as_expected "C under valgrind" valgrind -q --error-exitcode=1 target/station
+        as_expected "C under valgrind" valgrind -q --error-exitcode=1 --leak-check=full target/station
     else
         echo "station, C under valgrind: skipped, it needs valgrind"
     fi
@@ -35,6 +35,17 @@ if command -v g++ >/dev/null; then
     as_expected C++ target/station++
 else
     echo "station, C++: skipped, it needs g++"
+fi
+
+if command -v cargo >/dev/null; then
+    export CARGO_TARGET_DIR=${CARGO_TARGET_DIR:-$PWD/target/cargo} CARGO_HOME=${CARGO_HOME:-$PWD/target/cargo-home}
+    cargo test --offline --locked --manifest-path rust/Cargo.toml
+    as_expected Rust "$CARGO_TARGET_DIR/debug/examples/station"
+    if command -v python3 >/dev/null; then
+        python3 -B tools/station.py --try "$CARGO_TARGET_DIR/debug/examples/station"
+    fi
+else
+    echo "station, Rust, and the Rust package: skipped, they need cargo"
 fi
 
 if command -v cc >/dev/null && command -v python3 >/dev/null; then

@@ -10,6 +10,7 @@ use std::error::Error;
 use std::io::{self, Read};
 use std::process::ExitCode;
 
+use sudoku::calls::MOST_SHEET;
 use sudoku::{Board, Cell, Digit, SingleCandidate, Stop};
 
 fn main() -> ExitCode {
@@ -28,7 +29,7 @@ fn main() -> ExitCode {
 
 fn station() -> Result<(), Box<dyn Error>> {
     let mut sheet = Vec::new();
-    io::stdin().take(4097).read_to_end(&mut sheet)?; // one byte more than a sheet has, so that a longer one is refused
+    io::stdin().take(MOST_SHEET as u64 + 1).read_to_end(&mut sheet)?; // one byte more, so that a longer sheet is refused
     let mut board = Board::read_sheet(&sheet)?;
     println!("clues {}", board.clue_count());
 

@@ -3,11 +3,8 @@
 use std::fmt;
 use std::str::FromStr;
 
-use crate::calls::{self, Clues, Entries, PassCounts, RawBoard};
+use crate::calls::{self, Clues, Entries, PassCounts, RawBoard, RECORD, SHEET, STEP_BYTES, TEXT};
 use crate::{unrefused, CandidateSet, Cell, Digit, Report, Step, StepNumber, Stop};
-
-/// Bytes in which every record has room.
-pub(crate) const RECORD: usize = 1786;
 
 /// How a board stands.
 #[derive(Clone, Copy, Debug, PartialEq, Eq, Hash)]
@@ -300,7 +297,7 @@ impl Board {
     pub fn settle(&mut self) -> Settled {
         let (mut bytes, mut counts) = ([0; 4374], [0; 6]);
         let settled = unrefused(calls::settle(&mut self.raw, &mut bytes, &mut counts));
-        let steps = bytes.chunks_exact(6).take(settled.steps as usize).map(|six| told(six.try_into().ok().and_then(Step::from_bytes)));
+        let steps = bytes.chunks_exact(STEP_BYTES).take(settled.steps as usize).map(|six| told(six.try_into().ok().and_then(Step::from_bytes)));
         Settled { sweeps: settled.sweeps as usize, removed: settled.removed as usize, counts, steps: steps.collect() }
     }
 
@@ -344,14 +341,14 @@ impl Board {
 
     /// The text of the printed clues, `.` for an open cell.
     pub fn write_text(&self) -> String {
-        let mut text = [0; 81];
+        let mut text = [0; TEXT];
         unrefused(calls::write_text(&self.raw.clues, &mut text));
         text.map(char::from).iter().collect()
     }
 
     /// The canonical sheet of the printed clues: nine lines of nine characters, `.` for an open cell.
     pub fn write_sheet(&self) -> String {
-        let mut sheet = [0; 90];
+        let mut sheet = [0; SHEET];
         unrefused(calls::write_sheet(&self.raw.clues, &mut sheet));
         sheet.map(char::from).iter().collect()
     }

@@ -7,6 +7,19 @@ use crate::exports::{self, Answer};
 pub use crate::exports::{CardBytes, Clues, Entries, Masks, PassCounts, ReportBytes, StepBytes, ABI};
 use crate::{Difficulty, SingleCandidate, Verdict};
 
+/// Bytes of a text.
+pub const TEXT: usize = 81;
+/// Bytes of a canonical sheet.
+pub const SHEET: usize = 90;
+/// The most bytes that a pasted sheet may have.
+pub const MOST_SHEET: usize = 4096;
+/// Bytes in which every record has room.
+pub const RECORD: usize = 1786;
+/// Bytes of one step of a list.
+pub const STEP_BYTES: usize = 6;
+/// The most steps that a list may have.
+pub const MOST_STEPS: usize = 729;
+
 /// The entries of a board that has none.
 pub const NO_ENTRIES: Entries = [0; 81];
 
@@ -75,18 +88,28 @@ pub fn abi() -> u32 {
 /// The calls of the candidate set, by their numbers.
 #[derive(Clone, Copy, Debug, PartialEq, Eq)]
 #[repr(u8)]
-#[allow(missing_docs)] // the names say it
 pub enum SetCall {
+    /// The empty set.
     New,
+    /// All nine digits.
     Full,
+    /// The digit alone.
     Single,
+    /// Whether the digit is there.
     Contains,
+    /// Takes the digit in.
     Insert,
+    /// Takes the digit out, and says whether it was there.
     Remove,
+    /// Takes all digits out.
     Clear,
+    /// How many digits there are.
     Len,
+    /// Whether there are none.
     IsEmpty,
+    /// Whether there is one, none or several; [`single_candidate`] says which.
     SingleCandidate,
+    /// The mask to hand to [`next`].
     Iter,
 }
 

@@ -127,7 +127,7 @@ pub enum RecordForm {
 ///
 /// [`Stop::RecordBytes`], [`Stop::RecordEntry`] and [`Stop::RecordRemoval`]; to the old form [`Stop::RecordEntries`].
 pub fn move_record(record: impl AsRef<[u8]>, to: RecordForm) -> Result<Vec<u8>, Stop> {
-    let mut moved = vec![0; board::RECORD];
+    let mut moved = vec![0; calls::RECORD];
     let length = calls::move_record(to == RecordForm::Old, record.as_ref(), &mut moved).map_err(Stop::in_record)?;
     moved.truncate(length as usize);
     Ok(moved)

@@ -2,6 +2,7 @@
 
 use std::fmt;
 
+use crate::calls::STEP_BYTES;
 use crate::{Cell, Digit, Stop, Unit, UnitKind};
 
 /// The board calls, by their step numbers.
@@ -155,7 +156,7 @@ fn two<T>(part: fn(u8) -> Option<T>, first: u8, second: u8) -> Option<[T; 2]> {
 
 impl Step {
     /// The six bytes of the step: its kind, its parts, and zeros.
-    pub fn to_bytes(self) -> [u8; 6] {
+    pub fn to_bytes(self) -> [u8; STEP_BYTES] {
         match self {
             Step::Lone { cell, digit } => [0, cell.into(), digit.into(), 0, 0, 0],
             Step::Place { unit, digit, cell } => [1, unit.index(), digit.into(), cell.into(), 0, 0],
@@ -169,7 +170,7 @@ impl Step {
 
     /// The step of six bytes, where they are a kind and its parts. Whether these go together, as the two cells of a pair do that rise and are in its
     /// unit, is for [`Board::check_steps`](crate::Board::check_steps) to say.
-    pub fn from_bytes(six: [u8; 6]) -> Option<Step> {
+    pub fn from_bytes(six: [u8; STEP_BYTES]) -> Option<Step> {
         Some(match six {
             [0, at, d, 0, 0, 0] => Step::Lone { cell: cell(at)?, digit: digit(d)? },
             [1, u, d, at, 0, 0] => Step::Place { unit: Unit::from_index(u)?, digit: digit(d)?, cell: cell(at)? },

@@ -63,8 +63,11 @@ fn declared() -> Exports {
         let (access, named) = lent.strip_prefix("mut ").map_or(("const", lent), |named| ("mut", named));
         vec![format!("{access} {}", types[named])]
     };
-    let block = DECLARED.split_once("extern \"C\" {").unwrap().1.split_once("\n}").unwrap().0;
-    rust_exports(block, "safe fn ", ";", kinds)
+    rust_exports(declarations(), "safe fn ", ";", kinds) // `safe fn` and `unsafe fn`
+}
+
+fn declarations() -> &'static str {
+    DECLARED.split_once("extern \"C\" {").unwrap().1.split_once("\n}").unwrap().0
 }
 
 /// `const int32_t clues[SUDOKU_CELLS]` is `const i32 81`.
@@ -106,6 +109,13 @@ fn the_exports_are_those_of_the_header() {
     assert_eq!(exported.len(), EXPORTED.matches("#[no_mangle]").count());
     assert_eq!(declared, exported);
     assert_eq!(header, exported);
+}
+
+#[test]
+fn what_takes_a_pointer_is_not_declared_safe() {
+    for line in declarations().lines().filter(|line| !line.is_empty()) {
+        assert_eq!(line.starts_with("    unsafe fn "), line.contains('*'), "{line}");
+    }
 }
 
 #[test]

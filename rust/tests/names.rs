@@ -1,43 +1,58 @@
 //! The names, numbers and words of the types, held to include/sudoku.h.
 
-use sudoku::calls::{RawStop, SetCall};
+use std::fmt::Debug;
+
+use sudoku::calls::{RawStop, SetCall, MOST_SHEET, MOST_STEPS, RECORD, SHEET, STEP_BYTES, TEXT};
 use sudoku::{Step, StepNumber, Stop, Verdict};
 
 const HEADER: &str = include_str!("../../include/sudoku.h");
 
-/// The members of an enum of the header: name, number and comment.
-fn members(of: &str) -> Vec<(String, i64, String)> {
-    let body = HEADER.split_once(&format!("enum {of} {{")).unwrap().1.split_once("};").unwrap().0;
-    let lines: Vec<&str> = body.split("SUDOKU_").skip(1).collect();
-    lines.iter().map(|line| member(line)).collect()
+/// A member of an enum of the header: `SUDOKU_STOP_CLUE_CELL = 12, /* the cell has a clue: the cell */`, as `ClueCell`, 12 and the comment.
+struct Member {
+    name: String,
+    number: i64,
+    comment: String,
 }
 
-fn member(line: &str) -> (String, i64, String) {
-    let (name, rest) = line.split_once(" = ").unwrap();
+/// The members of an enum, which begin with the prefix.
+fn members(of: &str, prefix: &str) -> Vec<Member> {
+    let body = HEADER.split_once(&format!("enum {of} {{")).unwrap().1.split_once("};").unwrap().0;
+    body.split(prefix).skip(1).map(member).collect()
+}
+
+fn member(text: &str) -> Member {
+    let (name, rest) = text.split_once(" = ").unwrap();
     let number: String = rest.chars().take_while(|&character| character == '-' || character.is_ascii_digit()).collect();
     let comment = rest.split_once("/*").map_or("", |(_, comment)| comment.split_once("*/").unwrap().0);
-    let name = name.split('_').skip(1).map(capital).collect();
-    (name, number.parse().unwrap(), comment.split_whitespace().collect::<Vec<_>>().join(" "))
+    Member {
+        name: name.split('_').map(|word| word[..1].to_string() + &word[1..].to_lowercase()).collect(),
+        number: number.parse().unwrap(),
+        comment: comment.split_whitespace().collect::<Vec<_>>().join(" "),
+    }
 }
 
-/// `CLUE` is `Clue`.
-fn capital(word: &str) -> String {
-    word[..1].to_string() + &word[1..].to_lowercase()
+/// Names and numbers alone.
+fn numbered(of: &str, prefix: &str) -> Vec<(String, i64)> {
+    members(of, prefix).into_iter().map(|member| (member.name, member.number)).collect()
 }
 
 /// The name of a variant, without its parts.
-fn variant(value: impl std::fmt::Debug) -> String {
+fn variant(value: impl Debug) -> String {
     format!("{value:?}").chars().take_while(char::is_ascii_alphanumeric).collect()
 }
 
-fn numbered(members: Vec<(String, i64, String)>) -> Vec<(String, i64)> {
-    members.into_iter().map(|(name, number, _)| (name, number)).collect()
+#[test]
+fn sizes() {
+    let header = numbered("sudoku_size", "SUDOKU_");
+    for (name, size) in [("Text", TEXT), ("Sheet", SHEET), ("MostSheet", MOST_SHEET), ("Record", RECORD), ("StepBytes", STEP_BYTES), ("MostSteps", MOST_STEPS)]
+    {
+        assert!(header.contains(&(name.to_string(), size as i64)), "{name}");
+    }
 }
 
 #[test]
 fn step_numbers() {
-    // SUDOKU_STEP_X_WING and the like
-    assert_eq!(numbered(members("sudoku_step_number")), StepNumber::ALL.map(|number| (variant(number), number as i64)));
+    assert_eq!(numbered("sudoku_step_number", "SUDOKU_STEP_"), StepNumber::ALL.map(|number| (variant(number), number as i64)));
     assert_eq!(StepNumber::try_from(15), Ok(StepNumber::XChain));
     assert_eq!(StepNumber::try_from(16), Err(Stop::NoNumber(16)));
 }
@@ -45,21 +60,21 @@ fn step_numbers() {
 #[test]
 fn verdicts() {
     let verdicts = [Verdict::Dead, Verdict::Finished, Verdict::Open];
-    assert_eq!(numbered(members("sudoku_verdict")), verdicts.map(|verdict| (variant(verdict), verdict as i64)));
+    assert_eq!(numbered("sudoku_verdict", "SUDOKU_VERDICT_"), verdicts.map(|verdict| (variant(verdict), verdict as i64)));
 }
 
 #[test]
 fn calls_of_the_set() {
     use SetCall::*;
     let calls = [New, Full, Single, Contains, Insert, Remove, Clear, Len, IsEmpty, SingleCandidate, Iter];
-    assert_eq!(numbered(members("sudoku_set_call")), calls.map(|call| (variant(call), call as i64)));
+    assert_eq!(numbered("sudoku_set_call", "SUDOKU_SET_"), calls.map(|call| (variant(call), call as i64)));
 }
 
 #[test]
 fn kinds_of_steps() {
     let steps =
         [[0, 0, 1, 0, 0, 0], [1, 0, 1, 0, 0, 0], [2, 0, 0, 1, 1, 2], [3, 18, 1, 0, 0, 0], [4, 0, 1, 18, 0, 0], [5, 1, 0, 1, 9, 10], [6, 1, 9, 10, 0, 1]];
-    assert_eq!(numbered(members("sudoku_kind")), steps.map(|six| (variant(Step::from_bytes(six).unwrap()), six[0].into())));
+    assert_eq!(numbered("sudoku_kind", "SUDOKU_KIND_"), steps.map(|six| (variant(Step::from_bytes(six).unwrap()), six[0].into())));
 }
 
 /// What a comment says of a stop, as it is written with 7 beside it: `WORDS: WHAT` is `WORDS (WHAT: 7)`.
@@ -75,7 +90,7 @@ fn said(number: i64, words: &str, seven: &str) -> String {
 fn stops() {
     let at_cell = ["BadClue", "BadEntry", "BadMask", "ClueCell", "Entered"];
     let mut seen = 0;
-    for (name, number, comment) in members("sudoku_stop") {
+    for Member { name, number, comment } in members("sudoku_stop", "SUDOKU_STOP_") {
         if number == 0 {
             continue;
         }
@@ -93,7 +108,7 @@ fn stops() {
 #[test]
 fn stops_in_a_record() {
     for (stop, number) in [(Stop::RecordEntry(7), 8), (Stop::RecordRemoval(7), 9)] {
-        let comment = members("sudoku_stop").into_iter().find(|member| member.1 == number).unwrap().2;
+        let comment = members("sudoku_stop", "SUDOKU_STOP_").into_iter().find(|member| member.number == number).unwrap().comment;
         let (_, words) = comment.split_once(". In a record, ").unwrap();
         assert_eq!(stop.to_string(), said(number, &format!("in a record, {words}"), "7"));
         assert_eq!((stop.number(), stop.detail()), (number, 7));
