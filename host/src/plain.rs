@@ -829,3 +829,41 @@ fn shown(mask: &u16) -> char {
         _ => '.',
     }
 }
+
+// ---- a round's line
+
+/// What the program `round` prints of a line, with its byte 10.
+pub fn round_line(line: &[u8]) -> Vec<u8> {
+    let text = line.strip_suffix(b"\r").unwrap_or(line);
+    if text.is_empty() || line[0] == b'#' {
+        return [line, b"\n"].concat();
+    }
+    let mut parts = text.splitn(2, |byte| b" \t,;".contains(byte));
+    let grid = parts.next().unwrap_or_default();
+    let fields = read_text(grid).map(|clues| fields(&clues, grid, parts.next()));
+    fields.unwrap_or_else(|stop| format!("refused {} {}\n", stop.number, stop.detail)).into_bytes()
+}
+
+fn fields(clues: &Clues, grid: &[u8], answer: Option<&[u8]>) -> String {
+    let board = Board::without_entries(clues, &fresh(clues));
+    let reported = step(6, &board).unwrap().reports.len();
+    let settled = step(12, &board).unwrap();
+    let given = clues.iter().filter(|&&clue| clue != 0).count();
+    let figure = difficulty(&board).map_or("none".to_string(), |figure| format!("{}+{}/{}", figure.quotient, figure.remainder, figure.cells));
+    let verdict = verdict(&Board { masks: settled.masks, ..board }).unwrap();
+    let answer = answer.map_or("none".to_string(), |answer| judged(grid, answer));
+    format!("{given} {reported} {} {} {verdict} {figure} {answer}\n", settled.sweeps, settled.removed)
+}
+
+/// "not 81 bytes `1` to `9` `wrong`; the first broken clue `clue CELL`; the verifier's no `wrong`; else `right`"
+fn judged(grid: &[u8], answer: &[u8]) -> String {
+    if answer.len() != CELLS || !answer.iter().all(|byte| (b'1'..=b'9').contains(byte)) {
+        return "wrong".to_string();
+    }
+    let broken = (0..CELLS).find(|&cell| !b"0.".contains(&grid[cell]) && grid[cell] != answer[cell]);
+    match broken {
+        Some(cell) => format!("clue {cell}"),
+        None if verify(&std::array::from_fn(|cell| (answer[cell] - b'0').into())) => "right".to_string(),
+        None => "wrong".to_string(),
+    }
+}
