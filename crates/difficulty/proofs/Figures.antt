@@ -16,7 +16,7 @@ use Rattle.candidates.proofs.Tests.{by-test, cond-true, cond-false}
 use Rattle.grid.specs.Cells.{cells}
 use Rattle.grid.specs.Lists.{range, select}
 use Rattle.grid.proofs.Lists.{range-on, range-end}
-use Rattle.steps.specs.Boards.{Board, Givens, givens, isOpen, fresh, total}
+use Rattle.steps.specs.Boards.{Board, Givens, givens, isOpen, fresh}
 use Rattle.steps.specs.Calls.{checkOf}
 use Rattle.steps.specs.Difficulty.{summed, passCounts, weighed, worth, pointsOf, openCells, Figure, figureOf, difficultyOf}
 use Rattle.steps.specs.Passes.{settle}

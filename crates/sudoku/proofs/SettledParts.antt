@@ -1,6 +1,6 @@
 -- Settling's numbers are small, and what is made of the parts that it hands back. Assumes nothing.
 use mathlib.Core.Path.{_≡_, ap, ap₂, _∙_}
-use mathlib.Core.List.{List, []}
+use mathlib.Core.List.{List}
 use mathlib.Core.Option.{some}
 use Prim.Native.Nat.{ℕ}
 use native.Mathlib.Omega.{arith}
@@ -12,7 +12,7 @@ use Rattle.stops.specs.Answer.{Answer, gives, stop, map, valueOr}
 use Rattle.stops.proofs.Answers.{map-map}
 use Rattle.steps.specs.Boards.{Board}
 use Rattle.steps.specs.Calls.{Outcome, settlingCall, answer}
-use Rattle.passes.specs.Settlings.{Settles, countsOf, settlingAnswer, stepsDone, countsDone, inRoom}
+use Rattle.passes.specs.Settlings.{Settles, countsOf, settlingAnswer, stepsDone}
 use Rattle.passes.specs.declared.Counts.{Counts}
 use Rattle.passes.specs.declared.SettledBoard.{SettledBoard}
 use Rattle.passes.proofs.StepValues.{few-steps}

@@ -1,7 +1,5 @@
 -- `difficulty::difficulty` meets its contract. Assumes nothing.
 use mathlib.Core.Path.{sym, ap, subst, _∙_}
-use mathlib.Core.List.{List}
-use Prim.Native.Nat.{ℕ}
 use borrow.Author.Needs.{needs}
 use Rattle.stops.proofs.Answers.{told}
 use Rattle.steps.specs.Boards.{Givens}
