@@ -16,9 +16,8 @@ use Rattle.board.specs.Boards.{boardOf}
 use Rattle.techniques.specs.Reports.{reportsOf}
 use Rattle.techniques.specs.Techniques.{Finds}
 use Rattle.techniques.specs.declared.Reported.{Reported}
-use Rattle.passes.specs.Settlings.{settlingAnswer, countsOf, Settles}
+use Rattle.passes.specs.Settlings.{countsOf}
 use Rattle.passes.specs.declared.Counts.{Counts}
-use Rattle.passes.specs.declared.SettledBoard.{SettledBoard}
 use Rattle.eliminations.specs.Eliminations.{Eliminates}
 use Rattle.eliminations.specs.declared.Eliminated.{Eliminated}
 use Rattle.calls.specs.StepNumbers.{stepCalls, stepCall, stepAnswer, outcomeOr, Hands, HandsBack}
@@ -107,21 +106,20 @@ module _ (k : Call) (b : S.Board) {o : Option (Answer Outcome)} (is : some (answ
       }
 
 -- what settling counts
-counted : {A : Type 0} (f : Counts → A) (b : S.Board) (d : SettledBoard) → Settles b d → answers.map f (settlingAnswer (d .answer)) ≡ answers.map (λ (o : Outcome). f (countsOf o)) (answer settlingCall b)
-counted f b d e = ap (answers.map f) (e .counts) ∙ map-map f countsOf (answer settlingCall b)
+counted : {A : Type 0} (f : Counts → A) (b : S.Board) {a : Answer Counts} → a ≡ answers.map countsOf (answer settlingCall b) → answers.map f a ≡ answers.map (λ (o : Outcome). f (countsOf o)) (answer settlingCall b)
+counted f b e = ap (answers.map f) e ∙ map-map f countsOf (answer settlingCall b)
 
-pub settling-hands : (b : S.Board) {o : Option (Answer Outcome)} → some (answer settlingCall b) ≡ o → {r : Stepped} (d : SettledBoard) → Settles b d
-    → Hands r (some (answers.map (λ _. false) (settlingAnswer (d .answer)))) (boardOf (d .board)) (reportsOf []) (valueOr 0 (answers.map (λ (k : Counts). k .sweeps) (settlingAnswer (d .answer)))) (valueOr 0 (answers.map (λ (k : Counts). k .removed) (settlingAnswer (d .answer))))
-    → HandsBack r b o
+pub settling-hands : (b : S.Board) {r : Stepped} {a : Answer Counts} {c : S.Board} → a ≡ answers.map countsOf (answer settlingCall b) → c ≡ left b (answer settlingCall b)
+    → Hands r (some (answers.map (λ _. false) a)) c (reportsOf []) (valueOr 0 (answers.map (λ (k : Counts). k .sweeps) a)) (valueOr 0 (answers.map (λ (k : Counts). k .removed) a))
+    → HandsBack r b (some (answer settlingCall b))
 unfolding outcome
-settling-hands b is {r} d e h =
-    subst (HandsBack r b) is
+settling-hands b counts board h =
     record {
-      flag = h .flag ∙ ap some (counted (λ _. false) b d e ∙ same-part (λ (o : Outcome). false) (λ (o : Outcome). o .flag) settlingCall b refl);
-      board = h .board ∙ e .board;
+      flag = h .flag ∙ ap some (counted (λ _. false) b counts ∙ same-part (λ (o : Outcome). false) (λ (o : Outcome). o .flag) settlingCall b refl);
+      board = h .board ∙ board;
       reports = h .reports ∙ ap reportsOf (no-reports settlingCall b refl);
-      sweeps = h .sweeps ∙ ap (valueOr 0) (counted (λ (k : Counts). k .sweeps) b d e);
-      removed = h .removed ∙ ap (valueOr 0) (counted (λ (k : Counts). k .removed) b d e);
+      sweeps = h .sweeps ∙ ap (valueOr 0) (counted (λ (k : Counts). k .sweeps) b counts);
+      removed = h .removed ∙ ap (valueOr 0) (counted (λ (k : Counts). k .removed) b counts);
     }
 
 -- `update_candidates` has no flag

@@ -4,17 +4,18 @@ ghost use mathlib.Core.Bool.{false};
 ghost use mathlib.Core.List.{[]};
 ghost use mathlib.Core.Option.{some};
 ghost use Rattle.stops.specs.Answer.{checkAnswer, map, passing, progressAnswer, valueOr};
+ghost use Rattle.steps.specs.Calls.{answer, settlingCall};
 ghost use Rattle.board.specs.Boards.{boardOf};
 ghost use Rattle.techniques.specs.Reports.{reportsOf};
 ghost use Rattle.passes.specs.Settlings.{settlingAnswer};
-ghost use Rattle.calls.specs.StepNumbers.{Hands, steppingAnswer};
+ghost use Rattle.calls.specs.StepNumbers.{Hands, HandsBack, steppingAnswer};
 use crate::Stepped;
 use crate::Stepping;
 use board::Board;
 use board::Updated;
 use eliminations::Eliminated;
-use passes::SettledBoard;
 use passes::Settling;
+use passes::settle_handed;
 use stops::Check;
 use stops::Progress;
 use techniques::Reported;
@@ -78,11 +79,9 @@ pub fn of_reports(done: Reported) -> Stepped
 }
 
 // Settling has no flag, and counts.
-pub fn of_settling(done: SettledBoard) -> Stepped
-    ensures { λ r. ⌜ Hands r (some (map (λ _. false) (settlingAnswer (done .answer)))) (boardOf (done .board)) (reportsOf []) (valueOr 0 (map (λ k. k .sweeps) (settlingAnswer (done .answer)))) (valueOr 0 (map (λ k. k .removed) (settlingAnswer (done .answer)))) ⌝ }
+fn of_settling(settling: Settling, board: Board) -> Stepped
+    ensures { λ r. ⌜ Hands r (some (map (λ _. false) (settlingAnswer settling))) (boardOf board) (reportsOf []) (valueOr 0 (map (λ k. k .sweeps) (settlingAnswer settling))) (valueOr 0 (map (λ k. k .removed) (settlingAnswer settling))) ⌝ }
 {
-    let settling = done.answer;
-    let board = done.board;
     match settling {
         Settling::Counted(sweeps, removed) => Stepped {
             answer: Stepping::Made(false),
@@ -93,4 +92,24 @@ pub fn of_settling(done: SettledBoard) -> Stepped
         },
         Settling::Refused(stop) => quiet(Stepping::Refused(stop), board),
     }
+}
+
+// Settling as a step: nobody asks for its own steps, nor for what each pass removed.
+pub fn settling(board: Board) -> Stepped
+    ensures { λ r. ⌜ HandsBack r (boardOf board) (some (answer settlingCall (boardOf board))) ⌝ }
+{
+    let clues = board.clues;
+    let entries = board.entries;
+    let mut masks = board.masks;
+    let mut none: [u8; 0] = [];
+    let mut by_pass = [0usize; 6];
+    let answer = settle_handed(&clues, &entries, &mut masks, &mut none, &mut by_pass);
+    of_settling(
+        answer,
+        Board {
+            clues,
+            entries,
+            masks,
+        },
+    )
 }

@@ -44,7 +44,7 @@ pub fn step(number: u8, board: Board) -> Stepped
         9 => answers::of_elimination(eliminations::apply_pair(board)),
         10 => answers::of_elimination(eliminations::apply_pointing(board)),
         11 => answers::of_elimination(eliminations::apply_cross(board)),
-        12 => answers::of_settling(passes::apply_settling(board)),
+        12 => answers::settling(board),
         13 => answers::of_elimination(eliminations::apply_alternating_inference_chains(board)),
         14 => answers::of_elimination(eliminations::apply_claiming(board)),
         15 => answers::of_elimination(eliminations::apply_x_chains(board)),

@@ -60,9 +60,9 @@ fn step_masks(number: u8, givens: &[u8; 81], masks: &mut [u16; 81])
         10 => eliminate(Elimination::Pointing, givens, masks),
         11 => eliminate(Elimination::Cross, givens, masks),
         12 => {
-            let mut log = [0u8; 4376];
+            let mut none: [u8; 0] = [];
             let mut by_pass = [0usize; 6];
-            settle(givens, masks, &mut log, &mut by_pass);
+            settle(givens, masks, &mut none, &mut by_pass);
         }
         13 => eliminate(Elimination::Chains, givens, masks),
         14 => eliminate(Elimination::Claiming, givens, masks),

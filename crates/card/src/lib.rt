@@ -45,8 +45,8 @@ pub fn score(clues: &[i32; 81], tally: &mut [usize; 6]) -> Card
     let givens = givens_of(clues);
     let mut masks = fresh_masks(&givens);
     let reported = singles(&givens, &masks).count;
-    let mut log = [0u8; 4376];
-    let counts = settle(&givens, &mut masks, &mut log, tally);
+    let mut none: [u8; 0] = [];
+    let counts = settle(&givens, &mut masks, &mut none, tally);
     Card {
         clues: count_clues(clues),
         reported,

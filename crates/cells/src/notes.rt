@@ -1,7 +1,10 @@
-// The log of settling: each step that removed something, as six bytes, and how many there are as the last two bytes of the array, the lower one first.
+// The log of settling: each step that removed something, as six bytes, and behind room for 729 of them how many there are, as two bytes, the lower one first.
+// It is lent as a slice, so that who wants no steps lends one without bytes; of any other length it takes what it has room for.
 ghost use mathlib.Core.Path.{_≡_};
 ghost use mathlib.Core.List.{[], _∷_};
 ghost use Prim.Native.Nat.{_<_};
+ghost use lib.ListN.{set};
+ghost use Rattle.steps.specs.Boards.{at};
 ghost use Rattle.steps.specs.code.Logs.{stepsNoted, noted};
 ghost use Rattle.cells.specs.code.Notes.{stepsHeld};
 
@@ -11,15 +14,34 @@ fn wide(byte: u8) -> usize
     byte as usize
 }
 
-pub fn steps_noted(log: &[u8; 4376]) -> usize
+// The byte at a place, 0 past the log's end.
+fn byte_at(log: &[u8], place: usize) -> usize
+    ensures { λ r. ⌜ (r ≡ at (now (log .entry)) place) × (r < 256) ⌝ }
+{
+    if place < log.len() {
+        return wide(log[place]);
+    }
+    0
+}
+
+pub fn steps_noted(log: &[u8]) -> usize
     ensures { λ r. ⌜ r ≡ stepsNoted (now (log .entry)) ⌝ }
 {
-    wide(log[4374]) + 256 * wide(log[4375])
+    byte_at(log, 4374) + 256 * byte_at(log, 4375)
+}
+
+// A byte at a place; nothing past the log's end.
+fn put(log: &mut [u8], place: usize, byte: u8)
+    ensures { λ _. ⌜ now (log .exit) ≡ set (now (log .entry)) place byte ⌝ }
+{
+    if place < log.len() {
+        log[place] = byte;
+    }
 }
 
 // One more step. A full log stays as it is: settling never fills one.
 pub fn note(
-    log: &mut [u8; 4376],
+    log: &mut [u8],
     kind: usize,
     first: usize,
     second: usize,
@@ -30,17 +52,20 @@ pub fn note(
     requires { ⌜ (kind < 256) × (first < 256) × (second < 256) × (third < 256) × (fourth < 256) × (fifth < 256) ⌝ }
     ensures { λ _. ⌜ now (log .exit) ≡ noted (kind ∷ first ∷ second ∷ third ∷ fourth ∷ fifth ∷ []) (now (log .entry)) ⌝ }
 {
+    if log.len() == 0 {
+        return;
+    }
     let count = steps_noted(log);
     if count < 729 {
-        let at = 6 * count;
-        log[at] = kind as u8;
-        log[at + 1] = first as u8;
-        log[at + 2] = second as u8;
-        log[at + 3] = third as u8;
-        log[at + 4] = fourth as u8;
-        log[at + 5] = fifth as u8;
-        log[4374] = ((count + 1) % 256) as u8;
-        log[4375] = ((count + 1) / 256) as u8;
+        let place = 6 * count;
+        put(log, place, kind as u8);
+        put(log, place + 1, first as u8);
+        put(log, place + 2, second as u8);
+        put(log, place + 3, third as u8);
+        put(log, place + 4, fourth as u8);
+        put(log, place + 5, fifth as u8);
+        put(log, 4374, ((count + 1) % 256) as u8);
+        put(log, 4375, ((count + 1) / 256) as u8);
     }
 }
 

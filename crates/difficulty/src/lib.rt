@@ -50,9 +50,9 @@ fn pass_counts(givens: &[u8; 81], masks: [u16; 81]) -> [usize; 6]
     ensures { λ r. ⌜ r ≡ passCounts (now (givens .entry)) masks ⌝ }
 {
     let mut left = masks;
-    let mut log = [0u8; 4376];
+    let mut none: [u8; 0] = [];
     let mut counts = [0usize; 6];
-    settle(givens, &mut left, &mut log, &mut counts);
+    settle(givens, &mut left, &mut none, &mut counts);
     counts
 }
 

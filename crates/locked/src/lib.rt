@@ -86,7 +86,7 @@ fn take_met(
 }
 
 // Claiming is noted of a line, Pointing of a box.
-fn note_met(log: &mut [u8; 4376], unit: usize, digit: usize, nth: usize)
+fn note_met(log: &mut [u8], unit: usize, digit: usize, nth: usize)
     requires { ⌜ (unit < 27) × (digit < 9) × (nth < meetings unit) ⌝ }
     ensures { λ _. ⌜ now (log .exit) ≡ noted (stepBytes (metInstance unit digit nth)) (now (log .entry)) ⌝ }
 {
@@ -101,7 +101,7 @@ fn note_met(log: &mut [u8; 4376], unit: usize, digit: usize, nth: usize)
 fn locked_at(
     givens: &[u8; 81],
     masks: &mut [u16; 81],
-    log: &mut [u8; 4376],
+    log: &mut [u8],
     unit: usize,
     digit: usize,
     held: u16,
@@ -117,13 +117,7 @@ fn locked_at(
 }
 
 // The instances of a digit. None of them changes which places of the unit hold it.
-fn locked_digit(
-    givens: &[u8; 81],
-    masks: &mut [u16; 81],
-    log: &mut [u8; 4376],
-    unit: usize,
-    digit: usize,
-)
+fn locked_digit(givens: &[u8; 81], masks: &mut [u16; 81], log: &mut [u8], unit: usize, digit: usize)
     requires { ⌜ (unit < 27) × (digit < 9) ⌝ }
     ensures { λ _. ⌜ now (masks .exit) ≡ lockedDigit (now (givens .entry)) unit digit (now (masks .entry)) ⌝ }
     ensures { λ _. ⌜ now (log .exit) ≡ logAfter (now (givens .entry)) (digitInstances unit digit) (now (masks .entry)) (now (log .entry)) ⌝ }
@@ -138,13 +132,7 @@ fn locked_digit(
 }
 
 // The due instances of a unit. Which digits are due is asked once, since the instances of a digit change no other.
-fn locked_unit(
-    givens: &[u8; 81],
-    masks: &mut [u16; 81],
-    log: &mut [u8; 4376],
-    unit: usize,
-    due: u16,
-)
+fn locked_unit(givens: &[u8; 81], masks: &mut [u16; 81], log: &mut [u8], unit: usize, due: u16)
     requires { ⌜ (unit < 27) × DigitSkips (now givens) (now masks) unit due ⌝ }
     ensures { λ _. ⌜ now (masks .exit) ≡ lockedUnit (now (givens .entry)) unit (now (masks .entry)) ⌝ }
     ensures { λ _. ⌜ now (log .exit) ≡ logAfter (now (givens .entry)) (unitInstances unit) (now (masks .entry)) (now (log .entry)) ⌝ }
@@ -162,7 +150,7 @@ fn locked_unit(
 fn locked_lanes(
     givens: &[u8; 81],
     masks: &mut [u16; 81],
-    log: &mut [u8; 4376],
+    log: &mut [u8],
     doors: &[u16; 432],
     lanes: &mut [u16; 432],
     first: usize,
@@ -195,7 +183,7 @@ fn locked_lanes(
 pub fn pointing_lanes(
     givens: &[u8; 81],
     masks: &mut [u16; 81],
-    log: &mut [u8; 4376],
+    log: &mut [u8],
     doors: &[u16; 432],
     lanes: &mut [u16; 432],
 )
@@ -211,7 +199,7 @@ pub fn pointing_lanes(
 pub fn claiming_lanes(
     givens: &[u8; 81],
     masks: &mut [u16; 81],
-    log: &mut [u8; 4376],
+    log: &mut [u8],
     doors: &[u16; 432],
     lanes: &mut [u16; 432],
 )
@@ -227,18 +215,18 @@ pub fn claiming_lanes(
 pub fn pointing(givens: &[u8; 81], masks: &mut [u16; 81])
     ensures { λ _. ⌜ now (masks .exit) ≡ pass (now (givens .entry)) Pointing (now (masks .entry)) ⌝ }
 {
-    let mut log = [0u8; 4376];
+    let mut none: [u8; 0] = [];
     let doors = lanes_of(&doors(givens));
     let mut lanes = lanes_of(masks);
-    pointing_lanes(givens, masks, &mut log, &doors, &mut lanes);
+    pointing_lanes(givens, masks, &mut none, &doors, &mut lanes);
 }
 
 // Claiming: all cells of a row or column that hold d are in one box: the other cells of that box lose d.
 pub fn claiming(givens: &[u8; 81], masks: &mut [u16; 81])
     ensures { λ _. ⌜ now (masks .exit) ≡ pass (now (givens .entry)) Claiming (now (masks .entry)) ⌝ }
 {
-    let mut log = [0u8; 4376];
+    let mut none: [u8; 0] = [];
     let doors = lanes_of(&doors(givens));
     let mut lanes = lanes_of(masks);
-    claiming_lanes(givens, masks, &mut log, &doors, &mut lanes);
+    claiming_lanes(givens, masks, &mut none, &doors, &mut lanes);
 }

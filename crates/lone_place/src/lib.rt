@@ -15,8 +15,8 @@ pub fn lone(givens: &[u8; 81], masks: &mut [u16; 81])
 {
     let doors = lanes_of(&doors(givens));
     let mut lanes = lanes_of(masks);
-    let mut log = [0u8; 4376];
-    lones::lone_lanes(givens, masks, &mut log, &doors, &mut lanes);
+    let mut none: [u8; 0] = [];
+    lones::lone_lanes(givens, masks, &mut none, &doors, &mut lanes);
 }
 
 // Place: no other cell of a unit holds d: the cell loses all but d.
@@ -25,6 +25,6 @@ pub fn place(givens: &[u8; 81], masks: &mut [u16; 81])
 {
     let doors = lanes_of(&doors(givens));
     let mut lanes = lanes_of(masks);
-    let mut log = [0u8; 4376];
-    places::place_lanes(givens, masks, &mut log, &doors, &mut lanes);
+    let mut none: [u8; 0] = [];
+    places::place_lanes(givens, masks, &mut none, &doors, &mut lanes);
 }

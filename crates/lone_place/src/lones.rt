@@ -24,13 +24,7 @@ use lanes::lay;
 use lanes::loose;
 
 // One instance.
-fn lone_at(
-    givens: &[u8; 81],
-    masks: &mut [u16; 81],
-    log: &mut [u8; 4376],
-    cell: usize,
-    digit: usize,
-)
+fn lone_at(givens: &[u8; 81], masks: &mut [u16; 81], log: &mut [u8], cell: usize, digit: usize)
     requires { ⌜ (cell < 81) × (digit < 9) ⌝ }
     ensures { λ _. ⌜ now (masks .exit) ≡ instanceTaken (now (givens .entry)) (lone cell digit) (now (masks .entry)) ⌝ }
     ensures { λ _. ⌜ now (log .exit) ≡ logAfter (now (givens .entry)) (lone cell digit ∷ []) (now (masks .entry)) (now (log .entry)) ⌝ }
@@ -75,7 +69,7 @@ fn lone_held(givens: &[u8; 81], masks: &[u16; 81], cell: usize) -> u16
 }
 
 // The instances of a cell, without those that lose nothing.
-fn lone_digits(givens: &[u8; 81], masks: &mut [u16; 81], log: &mut [u8; 4376], cell: usize)
+fn lone_digits(givens: &[u8; 81], masks: &mut [u16; 81], log: &mut [u8], cell: usize)
     requires { ⌜ cell < 81 ⌝ }
     ensures { λ _. ⌜ now (masks .exit) ≡ loneCell (now (givens .entry)) cell (now (masks .entry)) ⌝ }
     ensures { λ _. ⌜ now (log .exit) ≡ logAfter (now (givens .entry)) (cellLones cell) (now (masks .entry)) (now (log .entry)) ⌝ }
@@ -98,7 +92,7 @@ fn lone_due(mask: u16, near: u16) -> bool
 }
 
 // The instances of a cell, where every digit that it shares with a peer is among `near`.
-fn lone_cell(givens: &[u8; 81], masks: &mut [u16; 81], log: &mut [u8; 4376], near: u16, cell: usize)
+fn lone_cell(givens: &[u8; 81], masks: &mut [u16; 81], log: &mut [u8], near: u16, cell: usize)
     requires { ⌜ (cell < 81) × Near (now masks) cell near ⌝ }
     ensures { λ _. ⌜ now (masks .exit) ≡ loneCell (now (givens .entry)) cell (now (masks .entry)) ⌝ }
     ensures { λ _. ⌜ now (log .exit) ≡ logAfter (now (givens .entry)) (cellLones cell) (now (masks .entry)) (now (log .entry)) ⌝ }
@@ -108,13 +102,7 @@ fn lone_cell(givens: &[u8; 81], masks: &mut [u16; 81], log: &mut [u8; 4376], nea
     }
 }
 
-fn lone_row(
-    givens: &[u8; 81],
-    masks: &mut [u16; 81],
-    log: &mut [u8; 4376],
-    near: &[u16; 16],
-    row: usize,
-)
+fn lone_row(givens: &[u8; 81], masks: &mut [u16; 81], log: &mut [u8], near: &[u16; 16], row: usize)
     requires { ⌜ (row < 9) × NearRow (now masks) row (now near) ⌝ }
     ensures { λ _. ⌜ now (masks .exit) ≡ loneRow (now (givens .entry)) row (now (masks .entry)) ⌝ }
     ensures { λ _. ⌜ now (log .exit) ≡ logAfter (now (givens .entry)) (rowLones row) (now (masks .entry)) (now (log .entry)) ⌝ }
@@ -180,12 +168,7 @@ fn near_row(sets: &[u16; 48], row: usize) -> [u16; 16]
 }
 
 // The rows in which a cell is due; whether there are any. The sets may be of earlier masks, since masks only shrink.
-fn lone_rows(
-    givens: &[u8; 81],
-    masks: &mut [u16; 81],
-    log: &mut [u8; 4376],
-    sets: &[u16; 48],
-) -> bool
+fn lone_rows(givens: &[u8; 81], masks: &mut [u16; 81], log: &mut [u8], sets: &[u16; 48]) -> bool
     requires { ⌜ Covers (now sets) (now masks) ⌝ }
     ensures { λ _. ⌜ now (masks .exit) ≡ pass (now (givens .entry)) Lone (now (masks .entry)) ⌝ }
     ensures { λ r. ⌜ Kept r (now (masks .entry)) (now (masks .exit)) ⌝ }
@@ -208,7 +191,7 @@ fn lone_rows(
 pub fn lone_lanes(
     givens: &[u8; 81],
     masks: &mut [u16; 81],
-    log: &mut [u8; 4376],
+    log: &mut [u8],
     doors: &[u16; 432],
     lanes: &mut [u16; 432],
 )

@@ -29,7 +29,7 @@ use lanes::loose;
 fn place_at(
     givens: &[u8; 81],
     masks: &mut [u16; 81],
-    log: &mut [u8; 4376],
+    log: &mut [u8],
     unit: usize,
     digit: usize,
     held: u16,
@@ -49,13 +49,7 @@ fn place_at(
 }
 
 // The instances of a digit. None of them changes which places hold it.
-fn place_digit(
-    givens: &[u8; 81],
-    masks: &mut [u16; 81],
-    log: &mut [u8; 4376],
-    unit: usize,
-    digit: usize,
-)
+fn place_digit(givens: &[u8; 81], masks: &mut [u16; 81], log: &mut [u8], unit: usize, digit: usize)
     requires { ⌜ (unit < 27) × (digit < 9) ⌝ }
     ensures { λ _. ⌜ now (masks .exit) ≡ placeDigit (now (givens .entry)) unit digit (now (masks .entry)) ⌝ }
     ensures { λ _. ⌜ now (log .exit) ≡ logAfter (now (givens .entry)) (digitPlaces unit digit) (now (masks .entry)) (now (log .entry)) ⌝ }
@@ -84,13 +78,7 @@ fn due_digits(masks: &[u16; 81], unit: usize) -> u16
 }
 
 // The instances of a unit. Those of a digit are passed over where none of them loses anything; `first` are the digits of which some may, as the masks are.
-fn place_unit(
-    givens: &[u8; 81],
-    masks: &mut [u16; 81],
-    log: &mut [u8; 4376],
-    unit: usize,
-    first: u16,
-)
+fn place_unit(givens: &[u8; 81], masks: &mut [u16; 81], log: &mut [u8], unit: usize, first: u16)
     requires { ⌜ (unit < 27) × Spares (now givens) unit first (now masks) ⌝ }
     ensures { λ _. ⌜ now (masks .exit) ≡ placeUnit (now (givens .entry)) unit (now (masks .entry)) ⌝ }
     ensures { λ _. ⌜ now (log .exit) ≡ logAfter (now (givens .entry)) (unitPlaces unit) (now (masks .entry)) (now (log .entry)) ⌝ }
@@ -142,7 +130,7 @@ fn due_lanes(lanes: &[u16; 432], free: &[u16; 16], first: usize) -> [u16; 16]
 fn place_due(
     givens: &[u8; 81],
     masks: &mut [u16; 81],
-    log: &mut [u8; 4376],
+    log: &mut [u8],
     due: &[u16; 16],
     family: usize,
 )
@@ -163,7 +151,7 @@ fn place_due(
 fn place_family(
     givens: &[u8; 81],
     masks: &mut [u16; 81],
-    log: &mut [u8; 4376],
+    log: &mut [u8],
     doors: &[u16; 432],
     lanes: &mut [u16; 432],
     family: usize,
@@ -186,7 +174,7 @@ fn place_family(
 pub fn place_lanes(
     givens: &[u8; 81],
     masks: &mut [u16; 81],
-    log: &mut [u8; 4376],
+    log: &mut [u8],
     doors: &[u16; 432],
     lanes: &mut [u16; 432],
 )

@@ -21,7 +21,7 @@ use lanes::loose;
 fn cross_due(
     givens: &[u8; 81],
     masks: &mut [u16; 81],
-    log: &mut [u8; 4376],
+    log: &mut [u8],
     doors: &[u16; 432],
     digits: &[u16; 432],
     due: &[u16; 16],
@@ -52,7 +52,7 @@ fn cross_due(
 fn cross_half(
     givens: &[u8; 81],
     masks: &mut [u16; 81],
-    log: &mut [u8; 4376],
+    log: &mut [u8],
     doors: &[u16; 432],
     lanes: &mut [u16; 432],
     half: usize,
@@ -77,7 +77,7 @@ fn cross_half(
 pub fn cross_lanes(
     givens: &[u8; 81],
     masks: &mut [u16; 81],
-    log: &mut [u8; 4376],
+    log: &mut [u8],
     doors: &[u16; 432],
     lanes: &mut [u16; 432],
 )

@@ -18,8 +18,8 @@ pub fn pair(givens: &[u8; 81], masks: &mut [u16; 81])
 {
     let doors = lanes_of(&doors(givens));
     let mut lanes = lanes_of(masks);
-    let mut log = [0u8; 4376];
-    pairs::pair_lanes(givens, masks, &mut log, &doors, &mut lanes);
+    let mut none: [u8; 0] = [];
+    pairs::pair_lanes(givens, masks, &mut none, &doors, &mut lanes);
 }
 
 // Cross: all cells that hold d in two rows are in two columns: the other cells of those columns lose d. Then the same with rows and columns exchanged.
@@ -28,6 +28,6 @@ pub fn cross(givens: &[u8; 81], masks: &mut [u16; 81])
 {
     let doors = lanes_of(&doors(givens));
     let mut lanes = lanes_of(masks);
-    let mut log = [0u8; 4376];
-    crosses::cross_lanes(givens, masks, &mut log, &doors, &mut lanes);
+    let mut none: [u8; 0] = [];
+    crosses::cross_lanes(givens, masks, &mut none, &doors, &mut lanes);
 }

@@ -17,7 +17,7 @@ use lanes::loose;
 fn pair_due(
     givens: &[u8; 81],
     masks: &mut [u16; 81],
-    log: &mut [u8; 4376],
+    log: &mut [u8],
     doors: &[u16; 432],
     lanes: &[u16; 432],
     due: &[u16; 16],
@@ -47,7 +47,7 @@ fn pair_due(
 fn pair_family(
     givens: &[u8; 81],
     masks: &mut [u16; 81],
-    log: &mut [u8; 4376],
+    log: &mut [u8],
     doors: &[u16; 432],
     lanes: &mut [u16; 432],
     family: usize,
@@ -70,7 +70,7 @@ fn pair_family(
 pub fn pair_lanes(
     givens: &[u8; 81],
     masks: &mut [u16; 81],
-    log: &mut [u8; 4376],
+    log: &mut [u8],
     doors: &[u16; 432],
     lanes: &mut [u16; 432],
 )

@@ -66,7 +66,7 @@ fn lines_left(held: &[u16; 9], doors: &[u16; 9], lost: u16) -> [u16; 9]
 fn two_turn(
     givens: &[u8; 81],
     masks: &mut [u16; 81],
-    log: &mut [u8; 4376],
+    log: &mut [u8],
     frame: Frame,
     doors: &[u16; 9],
     held: &mut [u16; 9],
@@ -108,7 +108,7 @@ fn asks(x: u16, y: u16, heat: u16) -> bool
 fn line_turns(
     givens: &[u8; 81],
     masks: &mut [u16; 81],
-    log: &mut [u8; 4376],
+    log: &mut [u8],
     frame: Frame,
     doors: &[u16; 9],
     held: &mut [u16; 9],
@@ -149,7 +149,7 @@ fn leads(held: u16, heat: u16) -> bool
 pub fn two_frame(
     givens: &[u8; 81],
     masks: &mut [u16; 81],
-    log: &mut [u8; 4376],
+    log: &mut [u8],
     frame: Frame,
     doors: &[u16; 9],
     start: [u16; 9],

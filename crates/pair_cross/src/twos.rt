@@ -157,7 +157,7 @@ fn lose_two(
 }
 
 // The step of lines i and j and places a and b: Pair, Cross, or Cross exchanged, whose lines are columns.
-fn note_two(log: &mut [u8; 4376], frame: Frame, i: usize, j: usize, a: usize, b: usize)
+fn note_two(log: &mut [u8], frame: Frame, i: usize, j: usize, a: usize, b: usize)
     requires { ⌜ Framed frame × (i < 9) × (j < 9) × (a < 9) × (b < 9) ⌝ }
     ensures { λ _. ⌜ now (log .exit) ≡ noted (stepBytes (frameInstance frame i j a b)) (now (log .entry)) ⌝ }
 {
@@ -181,7 +181,7 @@ fn note_two(log: &mut [u8; 4376], frame: Frame, i: usize, j: usize, a: usize, b:
 fn two_at(
     givens: &[u8; 81],
     masks: &mut [u16; 81],
-    log: &mut [u8; 4376],
+    log: &mut [u8],
     frame: Frame,
     i: usize,
     j: usize,
@@ -210,7 +210,7 @@ fn two_at(
 pub fn two_lines(
     givens: &[u8; 81],
     masks: &mut [u16; 81],
-    log: &mut [u8; 4376],
+    log: &mut [u8],
     frame: Frame,
     i: usize,
     j: usize,

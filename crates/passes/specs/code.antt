@@ -1,3 +1,4 @@
 -- How the code goes about it: nothing here needs belief.
 pub mod Rounds
 pub mod Tallies
+pub mod Handed

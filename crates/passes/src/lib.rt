@@ -4,14 +4,17 @@ ghost use mathlib.Core.Bool.{cond};
 ghost use Prim.Native.Nat.{_+_, _≤_, _<_};
 ghost use mir.Syntax.{w64};
 ghost use mir.Val.{Fits};
+ghost use Rattle.stops.specs.Answer.{map};
 ghost use Rattle.steps.specs.Boards.{at, total};
+ghost use Rattle.steps.specs.Calls.{answer, settlingCall};
 ghost use Rattle.steps.specs.Difficulty.{removedEach, summed, passCounts};
 ghost use Rattle.steps.specs.Passes.{kinds, pass, instances, changed, settle, removedBy};
 ghost use Rattle.steps.specs.StepLists.{sweepInstances, settlingInstances};
 ghost use Rattle.steps.specs.code.Logs.{logAfter};
-ghost use Rattle.board.specs.Boards.{boardOf};
+ghost use Rattle.board.specs.Boards.{boardOf, handed};
 ghost use Rattle.lanes.specs.code.Lanes.{InLanes, laid};
-ghost use Rattle.passes.specs.Settlings.{Settles};
+ghost use Rattle.passes.specs.Settlings.{Settles, countsOf, settlingAnswer};
+ghost use Rattle.passes.specs.code.Handed.{masksLeft, logLeft, countsLeft};
 ghost use Rattle.passes.specs.code.Rounds.{nthKind, LastIdle, Swept};
 ghost use Rattle.passes.specs.code.Tallies.{tallied, tallyWith, Tally};
 use board::Board;
@@ -36,7 +39,7 @@ use stops::Stop;
 fn nth_pass(
     givens: &[u8; 81],
     masks: &mut [u16; 81],
-    log: &mut [u8; 4376],
+    log: &mut [u8],
     doors: &[u16; 432],
     lanes: &mut [u16; 432],
     nth: usize,
@@ -82,7 +85,7 @@ fn tally_pass(tally: &mut [usize; 7], nth: usize, after: [u16; 81])
 fn sweep(
     givens: &[u8; 81],
     masks: &mut [u16; 81],
-    log: &mut [u8; 4376],
+    log: &mut [u8],
     tally: &mut [usize; 7],
     doors: &[u16; 432],
     lanes: &mut [u16; 432],
@@ -117,7 +120,7 @@ fn sweep(
 fn sweep_on(
     givens: &[u8; 81],
     masks: &mut [u16; 81],
-    log: &mut [u8; 4376],
+    log: &mut [u8],
     tally: &mut [usize; 7],
 ) -> usize
     requires { ⌜ Tally (now masks) (now tally) ⌝ }
@@ -152,7 +155,7 @@ pub struct Counts {
 pub fn settle(
     givens: &[u8; 81],
     masks: &mut [u16; 81],
-    log: &mut [u8; 4376],
+    log: &mut [u8],
     counts: &mut [usize; 6],
 ) -> Counts
     ensures { λ r. ⌜ r .sweeps ≡ settle (now (givens .entry)) (now (masks .entry)) .sweeps ⌝ }
@@ -177,6 +180,29 @@ pub enum Settling {
     Refused(Stop),
 }
 
+// Settling over a lent board, which is checked once, before the first sweep. The log and `counts` are those of `settle`; beside a refusal all that is lent stays as it was.
+pub fn settle_handed(
+    clues: &[i32; 81],
+    entries: &[i32; 81],
+    masks: &mut [u16; 81],
+    log: &mut [u8],
+    counts: &mut [usize; 6],
+) -> Settling
+    ensures { λ r. ⌜ settlingAnswer r ≡ map countsOf (answer settlingCall (handed (now (clues .entry)) (now (entries .entry)) (now (masks .entry)))) ⌝ }
+    ensures { λ _. ⌜ now (masks .exit) ≡ masksLeft (handed (now (clues .entry)) (now (entries .entry)) (now (masks .entry))) ⌝ }
+    ensures { λ _. ⌜ now (log .exit) ≡ logLeft (handed (now (clues .entry)) (now (entries .entry)) (now (masks .entry))) (now (log .entry)) ⌝ }
+    ensures { λ _. ⌜ now (counts .exit) ≡ countsLeft (handed (now (clues .entry)) (now (entries .entry)) (now (masks .entry))) (now (counts .entry)) ⌝ }
+{
+    let givens = givens_of(clues, entries);
+    match check_given(clues, entries, &givens, masks) {
+        Check::Refused(stop) => Settling::Refused(stop),
+        Check::Passed => {
+            let done = settle(&givens, masks, log, counts);
+            Settling::Counted(done.sweeps, done.removed)
+        }
+    }
+}
+
 // The board that settling leaves, its steps that removed something, and what each of the six passes removed; beside a refusal the board as it was, no step and zeros.
 pub struct SettledBoard {
     pub answer: Settling,
@@ -185,39 +211,24 @@ pub struct SettledBoard {
     pub counts: [usize; 6],
 }
 
-// Sweeps until nothing more is removed. The board is checked once, before the first sweep.
+// Sweeps until nothing more is removed, with its steps. Who does not want these has `settle_handed`.
 pub fn apply_settling(board: Board) -> SettledBoard
     ensures { λ r. ⌜ Settles (boardOf board) r ⌝ }
 {
     let clues = board.clues;
     let entries = board.entries;
     let mut masks = board.masks;
-    let givens = givens_of(&clues, &entries);
     let mut log = [0u8; 4376];
-    let mut by_pass = [0usize; 6];
-    match check_given(&clues, &entries, &givens, &masks) {
-        Check::Refused(stop) => SettledBoard {
-            answer: Settling::Refused(stop),
-            board: Board {
-                clues,
-                entries,
-                masks,
-            },
-            steps: steps_of(&log),
-            counts: by_pass,
+    let mut counts = [0usize; 6];
+    let answer = settle_handed(&clues, &entries, &mut masks, &mut log, &mut counts);
+    SettledBoard {
+        answer,
+        board: Board {
+            clues,
+            entries,
+            masks,
         },
-        Check::Passed => {
-            let counts = settle(&givens, &mut masks, &mut log, &mut by_pass);
-            SettledBoard {
-                answer: Settling::Counted(counts.sweeps, counts.removed),
-                board: Board {
-                    clues,
-                    entries,
-                    masks,
-                },
-                steps: steps_of(&log),
-                counts: by_pass,
-            }
-        }
+        steps: steps_of(&log),
+        counts,
     }
 }

@@ -7,7 +7,7 @@ use Rattle.steps.specs.Passes.{Lone, Place, Pair, Pointing, Claiming, Cross}
 use Rattle.board.specs.Boards.{boardOf}
 use Rattle.calls.specs.StepNumbers.{HandsBack}
 use Rattle.candidates.proofs.Tests.{past}
-use Rattle.calls.proofs.Arms.{step-is, no-step-is, quiet-hands, elimination-hands, reports-hands, settling-hands, update-flag}
+use Rattle.calls.proofs.Arms.{step-is, no-step-is, quiet-hands, elimination-hands, reports-hands, update-flag}
 use Rattle.calls.proofs.Arms.{quiet-update, quiet-pairs, quiet-box-line, quiet-x-wing, quiet-chain, quiet-x-chain, quiet-wide, uncounted-naked, uncounted-hidden, uncounted-advanced}
 use Rattle.calls.proofs.step.Statement.{statement}
 use Rattle.calls.proofs.step.Tie as tie
@@ -84,11 +84,8 @@ apply-cross-requires c κs = search needs
 of-elimination-requires-8 : tie.Need-of-elimination-requires-8
 of-elimination-requires-8 c κs = search needs
 
-apply-settling-requires : tie.Need-apply-settling-requires
-apply-settling-requires c κs = search needs
-
-of-settling-requires : tie.Need-of-settling-requires
-of-settling-requires c κs = search needs
+settling-requires : tie.Need-settling-requires
+settling-requires c κs = search needs
 
 apply-alternating-inference-chains-requires : tie.Need-apply-alternating-inference-chains-requires
 apply-alternating-inference-chains-requires c κs = search needs
@@ -173,8 +170,8 @@ returns-12 c =
 
 returns-13 : tie.Need-returns-13
 returns-13 c =
-    let b = boardOf (c .before .before .before .args .board) in
-    settling-hands b (step-is b settlingCall 12 (c .before .before .match .keys13) refl) (c .before .apply-settling .result) (c .before .apply-settling .ensures) (c .of-settling .ensures)
+    let b = boardOf (c .before .before .args .board) in
+    subst (HandsBack (c .settling .result) b) (step-is b settlingCall 12 (c .before .match .keys13) refl) (c .settling .ensures)
 
 returns-14 : tie.Need-returns-14
 returns-14 c =
@@ -241,8 +238,7 @@ step-spec =
     of-elimination-requires-7
     apply-cross-requires
     of-elimination-requires-8
-    apply-settling-requires
-    of-settling-requires
+    settling-requires
     apply-alternating-inference-chains-requires
     of-elimination-requires-9
     apply-claiming-requires

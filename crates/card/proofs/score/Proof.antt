@@ -26,6 +26,9 @@ fresh-masks-requires c κs = search needs
 singles-requires : tie.Need-singles-requires
 singles-requires c κs = search needs
 
+slice-aggregate-settle : tie.Need-slice-aggregate-settle
+slice-aggregate-settle c = search needs
+
 settle-requires : tie.Need-settle-requires
 settle-requires c κs = search needs
 
@@ -39,7 +42,7 @@ returns : tie.Need-returns
 unfolding cardFor outcome reportsOf
 returns c =
     let counted = c .before .before in
-    let settled = counted .before in
+    let settled = counted .before .before in
     let found = settled .before .before .before .before .before in
     let made = found .before .before .before in
     let given = made .before .before in
@@ -65,6 +68,7 @@ score-spec =
     givens-of-requires
     fresh-masks-requires
     singles-requires
+    slice-aggregate-settle
     settle-requires
     count-clues-requires
     verdict-of-requires

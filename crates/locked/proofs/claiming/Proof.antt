@@ -14,6 +14,9 @@ lanes-of-requires c κs = search needs
 lanes-of-requires-2 : tie.Need-lanes-of-requires-2
 lanes-of-requires-2 c κs = search needs
 
+slice-aggregate-claiming-lanes : tie.Need-slice-aggregate-claiming-lanes
+slice-aggregate-claiming-lanes c = search needs
+
 claiming-lanes-requires : tie.Need-claiming-lanes-requires
 claiming-lanes-requires c κs =
     let second = c .before .before .before .before in
@@ -21,7 +24,7 @@ claiming-lanes-requires c κs =
     record { doors = first .lanes-of .ensures ∙ ap laid (first .before .before .doors .ensures); masks = second .lanes-of2 .ensures }
 
 returns : tie.Need-returns
-returns c = c .claiming-lanes .ensures .0
+returns c = c .before .claiming-lanes .ensures .0
 
 pub claiming-spec : {M : Type 1} → statement M
-claiming-spec = tie.close (tie.spec doors-requires lanes-of-requires lanes-of-requires-2 claiming-lanes-requires returns)
+claiming-spec = tie.close (tie.spec doors-requires lanes-of-requires lanes-of-requires-2 slice-aggregate-claiming-lanes claiming-lanes-requires returns)

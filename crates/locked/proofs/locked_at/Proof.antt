@@ -11,22 +11,25 @@ take-met-requires c κs = search needs
 note-met-requires : tie.Need-note-met-requires
 note-met-requires c κs = search needs
 
+same-length : tie.Need-same-length
+same-length c = search needs
+
 returns : tie.Need-returns
 returns c =
-    let branch = c .before .before in
+    let branch = c .before .before .before .before in
     let taken = branch .before in
-    let start = taken .before .before in
+    let start = taken .before .before .before in
     let a = start .args in
     let p = start .pre in (
       taken .take-met .ensures .0,
-      c .note-met .ensures
+      c .before .before .note-met .ensures
           ∙ log-lost (a .givens .now) (a .unit) (a .digit) (a .nth) (p .0) (p .1) (p .2) (a .masks .now) (p .3) (taken .take-met .ensures .0) (a .log .now) (sym (taken .take-met .ensures .1) ∙ branch .if1 .taken),
     )
 
 returns-2 : tie.Need-returns-2
 returns-2 c =
     let taken = c .before in
-    let start = taken .before .before in
+    let start = taken .before .before .before in
     let a = start .args in
     let p = start .pre in (
       taken .take-met .ensures .0,
@@ -34,4 +37,4 @@ returns-2 c =
     )
 
 pub locked-at-spec : {M : Type 1} → statement M
-locked-at-spec = tie.close (tie.spec take-met-requires note-met-requires returns returns-2)
+locked-at-spec = tie.close (tie.spec take-met-requires note-met-requires same-length returns returns-2)

@@ -9,6 +9,7 @@ use Rattle.steps.specs.Loops.{each, for, range, upTo}
 use Rattle.steps.specs.Instances.{Instance}
 use Rattle.steps.specs.code.Logs.{logAfter}
 use Rattle.steps.proofs.StepLogs.{log-done, log-over}
+use Rattle.cells.proofs.LogLengths.{log-kept}
 use Rattle.cells.specs.code.Meets.{meetings, meetTurn, meetTurns}
 use Rattle.cells.specs.code.Places.{heldPlaces}
 use Rattle.locked.specs.code.Locked.{metInstance, digitInstances, lockedDigit}
@@ -36,7 +37,7 @@ meetings-requires c κs = search needs
 loop-holds : tie.Need-loop-holds Inv-loop μ-loop
 unfolding meetTurns digitInstances
 loop-holds c =
-    let start = c .before .before .before in
+    let start = c .before .before .before .before in
     let a = start .args in
     let g = a .givens .now in
     let held = c .before .held-places .ensures in
@@ -52,7 +53,7 @@ locked-at-requires : tie.Need-locked-at-requires Inv-loop μ-loop
 locked-at-requires c κs =
     let l = c .before .before .before .loop in
     let counted = c .before .before .before .before in
-    let start = counted .before .before .before in
+    let start = counted .before .before .before .before in
     (start .pre .0, start .pre .1, omega (arith, counted .meetings .ensures), l .inv .1)
 
 add-nth : tie.Need-add-nth Inv-loop μ-loop
@@ -64,26 +65,29 @@ loop-less c = omega arith
 loop-again : tie.Need-loop-again Inv-loop μ-loop
 unfolding each
 loop-again c =
-    let l = c .before .before .before .before .loop in
-    let counted = c .before .before .before .before .before in
-    let start = counted .before .before .before in
+    let l = c .before .before .before .before .before .before .loop in
+    let counted = c .before .before .before .before .before .before .before in
+    let start = counted .before .before .before .before in
     let a = start .args in
     let g = a .givens .now in
     let held = counted .before .held-places .result in
     let few : l .nth < meetings (a .unit) = omega (arith, counted .meetings .ensures) in
-    let done = c .locked-at .ensures .0 in (
+    let done = c .before .before .locked-at .ensures .0 in (
       omega arith,
       l .inv .1 ∙ sym (keeps g (a .unit) (a .digit) (start .pre .0) (start .pre .1) held (l .nth) (l .masks) few) ∙ ap (λ (m : List ℕ). heldPlaces m (a .unit) (a .digit)) (sym done),
       turn-done (meetTurn g (a .unit) (a .digit) held) (counted .meetings .result) (l .nth) (omega arith) done (l .inv .2),
       log-done g (block (a .unit) (a .digit)) (counted .meetings .result) (l .nth) (l .masks) (l .log) (omega arith)
-          (done ∙ sym (instance-taken g (a .unit) (a .digit) (l .nth) (start .pre .0) (start .pre .1) few (l .masks) (l .inv .1))) (c .locked-at .ensures .1) (l .inv .3),
+          (done ∙ sym (instance-taken g (a .unit) (a .digit) (l .nth) (start .pre .0) (start .pre .1) few (l .masks) (l .inv .1))) (c .before .before .locked-at .ensures .1) (l .inv .3),
     )
+
+same-length : tie.Need-same-length Inv-loop μ-loop
+same-length c = log-kept _ _ _ _ _ _ _ (c .before .loop .inv .3)
 
 returns : tie.Need-returns Inv-loop μ-loop
 returns c =
     let l = c .before .loop in
     let counted = c .before .before in
-    let a = counted .before .before .before .args in
+    let a = counted .before .before .before .before .args in
     let g = a .givens .now in
     let n = counted .meetings .result in (
       turns-over (meetTurn g (a .unit) (a .digit) (counted .before .held-places .result)) n (l .nth) (c .loop-test .left) (l .inv .2),
@@ -103,4 +107,5 @@ locked-digit-spec =
     add-nth
     loop-less
     loop-again
+    same-length
     returns)

@@ -12,6 +12,7 @@ use Rattle.steps.specs.Loops.{each, for, range}
 use Rattle.steps.specs.code.Logs.{logAfter}
 use Rattle.steps.proofs.Masks.{under-refl}
 use Rattle.steps.proofs.StepLogs.{log-idle, log-done, log-over}
+use Rattle.cells.proofs.LogLengths.{log-kept}
 use Rattle.lanes.specs.code.Lanes.{laid, doorsOf}
 use Rattle.locked.specs.code.Locked.{unitInstances, lockedUnit}
 use Rattle.locked.specs.code.Rests.{Rests, renewed}
@@ -36,20 +37,20 @@ put-rests-requires c κs = search needs
 
 loop-holds : tie.Need-loop-holds Inv-loop μ-loop
 loop-holds c =
-    let start = c .before .before .before in
+    let start = c .before .before .before .before in
     let a = start .args in
     let laid-in = start .pre .0 in
     let table = rests-laid (a .givens .now) (a .masks .now) (laid-in .doors) (laid-in .masks) (rests-read (a .lanes .now) (a .doors .now) (a .boxes) (replicate 288 0) refl (c .put-rests .ensures)) in
     (omega arith, start .pre .1 .rise, refl, outs-laid (a .givens .now) (a .masks .now) _ (a .boxes) table, λ _. (laid-in .masks, table), refl)
 
 due-now-requires : tie.Need-due-now-requires Inv-loop μ-loop
-due-now-requires c κs = omega (arith, c .before .before .before .before .before .before .before .pre .1 .most)
+due-now-requires c κs = omega (arith, c .before .before .before .before .before .before .before .before .pre .1 .most)
 
 locked-unit-requires : tie.Need-locked-unit-requires Inv-loop μ-loop
 locked-unit-requires c κs =
     let asked = c .before .before .before in
     let l = asked .before .before .before .before .loop in
-    let start = asked .before .before .before .before .before .before .before .before in (
+    let start = asked .before .before .before .before .before .before .before .before .before in (
       omega (arith, start .pre .1 .most),
       now-skips (start .args .givens .now) (l .masks) (l .unit) (l .lost) (start .pre .1) (l .inv .0) (omega arith) (l .inv .3) (λ e. l .inv .4 e .1) (asked .due-now .ensures .0) (asked .due-now .ensures .1) .1,
     )
@@ -64,7 +65,7 @@ loop-again : tie.Need-loop-again Inv-loop μ-loop
 loop-again c =
     let asked = c .before in
     let l = asked .before .before .before .before .loop in
-    let start = asked .before .before .before .before .before .before .before .before in
+    let start = asked .before .before .before .before .before .before .before .before .before in
     let a = start .args in
     let g = a .givens .now in
     let turn = lockedUnit g in
@@ -73,13 +74,13 @@ loop-again c =
     let now = now-skips g (l .masks) (l .unit) (l .lost) (start .pre .1) (l .inv .0) (omega arith) (l .inv .3) (λ e. l .inv .4 e .1) (asked .due-now .ensures .0) (asked .due-now .ensures .1) in
     ⊎-elim
     (λ w.
-    let done = w .4 ∙ w .3 .ensures .0 in (
+    let done = w .6 ∙ w .3 .ensures .0 in (
       omega arith,
       omega arith,
       turn-done turn (a .end) (l .unit) (omega arith) done (l .inv .2),
       outs-less done (unit-under g (l .unit) (l .masks)) (now .0),
-      λ e. absurd (true≢false (sym (w .6) ∙ e)),
-      go (omega arith) (done ∙ sym same) (w .5 ∙ w .3 .ensures .1) (l .inv .5),
+      λ e. absurd (true≢false (sym (w .8) ∙ e)),
+      go (omega arith) (done ∙ sym same) (w .7 ∙ w .3 .ensures .1) (l .inv .5),
     ))
     (λ w.
     let idle = none-due g (l .masks) (l .unit) (now .1) (w .0 .left) in (
@@ -97,23 +98,29 @@ loop-again c =
 
 lay-requires : tie.Need-lay-requires Inv-loop μ-loop
 lay-requires c κs =
-    let start = c .before .before .before .before .before .before .before .before in
+    let start = c .before .before .before .before .before .before .before .before .before in
     record { of = start .args .masks .now; is = start .pre .0 .masks }
+
+same-length : tie.Need-same-length Inv-loop μ-loop
+same-length c = log-kept _ _ _ _ _ _ _ (c .before .before .before .before .before .loop .inv .5)
 
 returns : tie.Need-returns Inv-loop μ-loop
 returns c =
     let over = c .before .before .before .before in
     let l = over .before .loop in
-    let a = over .before .before .before .before .before .args in (
+    let a = over .before .before .before .before .before .before .args in (
       turns-over (lockedUnit (a .givens .now)) (a .end) (l .unit) (over .loop-test .left) (l .inv .2),
       (c .lay .ensures, log-over (a .givens .now) unitInstances (a .end) (l .unit) (l .masks) (l .log) (over .loop-test .left) (l .inv .5)),
     )
+
+same-length-2 : tie.Need-same-length-2 Inv-loop μ-loop
+same-length-2 c = log-kept _ _ _ _ _ _ _ (c .before .before .loop .inv .5)
 
 returns-2 : tie.Need-returns-2 Inv-loop μ-loop
 returns-2 c =
     let over = c .before in
     let l = over .before .loop in
-    let a = over .before .before .before .before .before .args in (
+    let a = over .before .before .before .before .before .before .args in (
       turns-over (lockedUnit (a .givens .now)) (a .end) (l .unit) (over .loop-test .left) (l .inv .2),
       (l .inv .4 (c .if2 .left) .0, log-over (a .givens .now) unitInstances (a .end) (l .unit) (l .masks) (l .log) (over .loop-test .left) (l .inv .5)),
     )
@@ -132,5 +139,7 @@ locked-lanes-spec =
     loop-less
     loop-again
     lay-requires
+    same-length
     returns
+    same-length-2
     returns-2)

@@ -7,6 +7,7 @@ use borrow.Author.Needs.{needs}
 use Rattle.steps.specs.Loops.{for, range}
 use Rattle.steps.specs.code.Logs.{logAfter}
 use Rattle.steps.proofs.StepLogs.{log-idle, log-done, log-over}
+use Rattle.cells.proofs.LogLengths.{log-kept}
 use Rattle.lanes.specs.code.Lanes.{Alike}
 use Rattle.lanes.proofs.Turns.{Going, going-start, going-on, going-past, going-end}
 use Rattle.locked.specs.code.Locked.{digitInstances, unitInstances, lockedDigit, lockedUnit}
@@ -24,7 +25,7 @@ abbrev μ-loop : tie.MeasureT-loop
 
 loop-holds : tie.Need-loop-holds Inv-loop μ-loop
 unfolding unitInstances
-loop-holds c = (going-start (digits-parted (c .args .givens .now) (c .args .unit)) (c .args .masks .now), refl)
+loop-holds c = (going-start (digits-parted (c .before .args .givens .now) (c .before .args .unit)) (c .before .args .masks .now), refl)
 
 has-digit-requires : tie.Need-has-digit-requires Inv-loop μ-loop
 has-digit-requires c κs = search needs
@@ -41,14 +42,14 @@ loop-less c = omega arith
 loop-again : tie.Need-loop-again Inv-loop μ-loop
 loop-again c =
     let l = c .before .before .before .loop in
-    let start = c .before .before .before .before in
+    let start = c .before .before .before .before .before in
     let a = start .args in
     let parts = digits-parted (a .givens .now) (a .unit) in
     let g = a .givens .now in
     let same = digit-each g (a .unit) (l .digit) (start .pre .0) (l .masks) in
     let go = log-done g (digitInstances (a .unit)) 9 (l .digit) (l .masks) (l .log) in
     ⊎-elim
-    (λ w. (going-on parts (l .inv .0) (omega arith) (w .4 ∙ w .3 .ensures .0), go (omega arith) (w .4 ∙ w .3 .ensures .0 ∙ sym same) (w .5 ∙ w .3 .ensures .1) (l .inv .1)))
+    (λ w. (going-on parts (l .inv .0) (omega arith) (w .6 ∙ w .3 .ensures .0), go (omega arith) (w .6 ∙ w .3 .ensures .0 ∙ sym same) (w .7 ∙ w .3 .ensures .1) (l .inv .1)))
     (λ w.
     let idle = start .pre .1 .idle (l .digit) (omega arith) (sym (c .before .has-digit .ensures) ∙ w .0 .left) (l .masks) (l .inv .0 .same (l .digit) (omega arith) (omega arith)) in (
       going-past parts (l .inv .0) (omega arith) (w .1) idle,
@@ -56,25 +57,17 @@ loop-again c =
     ))
     (c .if1 .came)
 
+same-length : tie.Need-same-length Inv-loop μ-loop
+same-length c = log-kept _ _ _ _ _ _ _ (c .before .loop .inv .1)
+
 returns : tie.Need-returns Inv-loop μ-loop
 unfolding lockedUnit
 returns c =
     let l = c .before .loop in
-    let a = c .before .before .args in (
+    let a = c .before .before .before .args in (
       going-end (digits-parted (a .givens .now) (a .unit)) (l .inv .0) (c .loop-test .left),
       log-over (a .givens .now) (digitInstances (a .unit)) 9 (l .digit) (l .masks) (l .log) (c .loop-test .left) (l .inv .1),
     )
 
 pub locked-unit-spec : {M : Type 1} → statement M
-locked-unit-spec =
-    tie.close
-    (tie.spec
-    Inv-loop
-    μ-loop
-    loop-holds
-    has-digit-requires
-    locked-digit-requires
-    add-digit
-    loop-less
-    loop-again
-    returns)
+locked-unit-spec = tie.close (tie.spec Inv-loop μ-loop loop-holds has-digit-requires locked-digit-requires add-digit loop-less loop-again same-length returns)

@@ -21,7 +21,7 @@ met-unit-requires c κs = search needs
 
 note-requires : tie.Need-note-requires
 note-requires c κs =
-    let start = c .before .before .before in
+    let start = c .before .before .before .before in
     omega (arith, met-below (start .args .unit) (start .args .nth) (start .pre .0) (start .pre .2), c .met-unit .ensures)
 
 add-note-2 : tie.Need-add-note-2
@@ -32,26 +32,32 @@ met-unit-requires-2 c κs = search needs
 
 note-requires-2 : tie.Need-note-requires-2
 note-requires-2 c κs =
-    let start = c .before .before .before in
+    let start = c .before .before .before .before in
     omega (arith, met-below (start .args .unit) (start .args .nth) (start .pre .0) (start .pre .2), c .met-unit2 .ensures)
+
+same-length : tie.Need-same-length
+same-length c = search needs
 
 returns : tie.Need-returns
 returns c =
-    let called = c .before in
+    let called = c .before .before .before in
     let branch = called .before .before in
-    let start = branch .before in
+    let start = branch .before .before in
     let a = start .args in
-    c .note .ensures
+    c .before .before .note .ensures
     ∙ ap (λ (bs : List ℕ). noted bs (a .log .now))
     (instance-bytes (a .unit) (a .digit) (a .nth) (start .pre .0) (start .pre .2) (sym (cond-true (ltb (a .unit) 18) 4 3 (lt-ltb (a .unit) 18 (branch .if1 .taken)))) (called .met-unit .ensures))
 
+same-length-2 : tie.Need-same-length-2
+same-length-2 c = search needs
+
 returns-2 : tie.Need-returns-2
 returns-2 c =
-    let called = c .before in
+    let called = c .before .before .before in
     let branch = called .before .before in
-    let start = branch .before in
+    let start = branch .before .before in
     let a = start .args in
-    c .note2 .ensures
+    c .before .before .note2 .ensures
     ∙ ap (λ (bs : List ℕ). noted bs (a .log .now))
     (instance-bytes (a .unit) (a .digit) (a .nth) (start .pre .0) (start .pre .2) (sym (cond-false (ltb (a .unit) 18) 4 3 (le-ltb (a .unit) 18 (branch .if1 .left)))) (called .met-unit2 .ensures))
 
@@ -65,5 +71,7 @@ note-met-spec =
     add-note-2
     met-unit-requires-2
     note-requires-2
+    same-length
     returns
+    same-length-2
     returns-2)

@@ -14,6 +14,9 @@ lanes-of-requires c κs = search needs
 lanes-of-requires-2 : tie.Need-lanes-of-requires-2
 lanes-of-requires-2 c κs = search needs
 
+slice-aggregate-pointing-lanes : tie.Need-slice-aggregate-pointing-lanes
+slice-aggregate-pointing-lanes c = search needs
+
 pointing-lanes-requires : tie.Need-pointing-lanes-requires
 pointing-lanes-requires c κs =
     let second = c .before .before .before .before in
@@ -21,7 +24,7 @@ pointing-lanes-requires c κs =
     record { doors = first .lanes-of .ensures ∙ ap laid (first .before .before .doors .ensures); masks = second .lanes-of2 .ensures }
 
 returns : tie.Need-returns
-returns c = c .pointing-lanes .ensures .0
+returns c = c .before .pointing-lanes .ensures .0
 
 pub pointing-spec : {M : Type 1} → statement M
-pointing-spec = tie.close (tie.spec doors-requires lanes-of-requires lanes-of-requires-2 pointing-lanes-requires returns)
+pointing-spec = tie.close (tie.spec doors-requires lanes-of-requires lanes-of-requires-2 slice-aggregate-pointing-lanes pointing-lanes-requires returns)

@@ -14,6 +14,9 @@ lanes-of-requires c κs = search needs
 lanes-of-requires-2 : tie.Need-lanes-of-requires-2
 lanes-of-requires-2 c κs = search needs
 
+slice-aggregate-lone-lanes : tie.Need-slice-aggregate-lone-lanes
+slice-aggregate-lone-lanes c = search needs
+
 lone-lanes-requires : tie.Need-lone-lanes-requires
 lone-lanes-requires c κs =
     let second = c .before .before .before .before in
@@ -21,7 +24,7 @@ lone-lanes-requires c κs =
     record { doors = first .lanes-of .ensures ∙ ap laid (first .before .before .doors .ensures); masks = second .lanes-of2 .ensures }
 
 returns : tie.Need-returns
-returns c = c .lone-lanes .ensures .0
+returns c = c .before .lone-lanes .ensures .0
 
 pub lone-spec : {M : Type 1} → statement M
-lone-spec = tie.close (tie.spec doors-requires lanes-of-requires lanes-of-requires-2 lone-lanes-requires returns)
+lone-spec = tie.close (tie.spec doors-requires lanes-of-requires lanes-of-requires-2 slice-aggregate-lone-lanes lone-lanes-requires returns)

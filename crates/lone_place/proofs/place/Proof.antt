@@ -14,6 +14,9 @@ lanes-of-requires c κs = search needs
 lanes-of-requires-2 : tie.Need-lanes-of-requires-2
 lanes-of-requires-2 c κs = search needs
 
+slice-aggregate-place-lanes : tie.Need-slice-aggregate-place-lanes
+slice-aggregate-place-lanes c = search needs
+
 place-lanes-requires : tie.Need-place-lanes-requires
 place-lanes-requires c κs =
     let second = c .before .before .before .before in
@@ -21,7 +24,7 @@ place-lanes-requires c κs =
     record { doors = first .lanes-of .ensures ∙ ap laid (first .before .before .doors .ensures); masks = second .lanes-of2 .ensures }
 
 returns : tie.Need-returns
-returns c = c .place-lanes .ensures .0
+returns c = c .before .place-lanes .ensures .0
 
 pub place-spec : {M : Type 1} → statement M
-place-spec = tie.close (tie.spec doors-requires lanes-of-requires lanes-of-requires-2 place-lanes-requires returns)
+place-spec = tie.close (tie.spec doors-requires lanes-of-requires lanes-of-requires-2 slice-aggregate-place-lanes place-lanes-requires returns)

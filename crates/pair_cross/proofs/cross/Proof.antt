@@ -14,6 +14,9 @@ lanes-of-requires c κs = search needs
 lanes-of-requires-2 : tie.Need-lanes-of-requires-2
 lanes-of-requires-2 c κs = search needs
 
+slice-aggregate-cross-lanes : tie.Need-slice-aggregate-cross-lanes
+slice-aggregate-cross-lanes c = search needs
+
 cross-lanes-requires : tie.Need-cross-lanes-requires
 cross-lanes-requires c κs =
     let second = c .before .before .before .before in
@@ -21,7 +24,7 @@ cross-lanes-requires c κs =
     record { doors = first .lanes-of .ensures ∙ ap laid (first .before .before .doors .ensures); masks = second .lanes-of2 .ensures }
 
 returns : tie.Need-returns
-returns c = c .cross-lanes .ensures .0
+returns c = c .before .cross-lanes .ensures .0
 
 pub cross-spec : {M : Type 1} → statement M
-cross-spec = tie.close (tie.spec doors-requires lanes-of-requires lanes-of-requires-2 cross-lanes-requires returns)
+cross-spec = tie.close (tie.spec doors-requires lanes-of-requires lanes-of-requires-2 slice-aggregate-cross-lanes cross-lanes-requires returns)

@@ -14,6 +14,9 @@ lanes-of-requires c κs = search needs
 lanes-of-requires-2 : tie.Need-lanes-of-requires-2
 lanes-of-requires-2 c κs = search needs
 
+slice-aggregate-pair-lanes : tie.Need-slice-aggregate-pair-lanes
+slice-aggregate-pair-lanes c = search needs
+
 pair-lanes-requires : tie.Need-pair-lanes-requires
 pair-lanes-requires c κs =
     let second = c .before .before .before .before in
@@ -21,7 +24,7 @@ pair-lanes-requires c κs =
     record { doors = first .lanes-of .ensures ∙ ap laid (first .before .before .doors .ensures); masks = second .lanes-of2 .ensures }
 
 returns : tie.Need-returns
-returns c = c .pair-lanes .ensures .0
+returns c = c .before .pair-lanes .ensures .0
 
 pub pair-spec : {M : Type 1} → statement M
-pair-spec = tie.close (tie.spec doors-requires lanes-of-requires lanes-of-requires-2 pair-lanes-requires returns)
+pair-spec = tie.close (tie.spec doors-requires lanes-of-requires lanes-of-requires-2 slice-aggregate-pair-lanes pair-lanes-requires returns)

@@ -34,43 +34,61 @@ claiming-lanes-requires c κs = search needs
 cross-lanes-requires : tie.Need-cross-lanes-requires
 cross-lanes-requires c κs = search needs
 
+same-length : tie.Need-same-length
+same-length c = search needs
+
 returns : tie.Need-returns
 unfolding nthKind
 returns c =
-    let a = c .before .before .before .before .before .args in
-    by-kind (a .givens .now) (a .masks .now) (a .log .now) (ap nthKind (sym (c .before .before .before .before .match .keys1))) (c .lone-lanes .ensures)
+    let a = c .before .before .before .before .before .before .before .before .args in
+    by-kind (a .givens .now) (a .masks .now) (a .log .now) (ap nthKind (sym (c .before .before .before .before .before .before .match .keys1))) (c .before .before .lone-lanes .ensures)
+
+same-length-2 : tie.Need-same-length-2
+same-length-2 c = search needs
 
 returns-2 : tie.Need-returns-2
 unfolding nthKind
 returns-2 c =
-    let a = c .before .before .before .before .before .args in
-    by-kind (a .givens .now) (a .masks .now) (a .log .now) (ap nthKind (sym (c .before .before .before .before .match .keys2))) (c .place-lanes .ensures)
+    let a = c .before .before .before .before .before .before .before .before .args in
+    by-kind (a .givens .now) (a .masks .now) (a .log .now) (ap nthKind (sym (c .before .before .before .before .before .before .match .keys2))) (c .before .before .place-lanes .ensures)
+
+same-length-3 : tie.Need-same-length-3
+same-length-3 c = search needs
 
 returns-3 : tie.Need-returns-3
 unfolding nthKind
 returns-3 c =
-    let a = c .before .before .before .before .before .args in
-    by-kind (a .givens .now) (a .masks .now) (a .log .now) (ap nthKind (sym (c .before .before .before .before .match .keys3))) (c .pair-lanes .ensures)
+    let a = c .before .before .before .before .before .before .before .before .args in
+    by-kind (a .givens .now) (a .masks .now) (a .log .now) (ap nthKind (sym (c .before .before .before .before .before .before .match .keys3))) (c .before .before .pair-lanes .ensures)
+
+same-length-4 : tie.Need-same-length-4
+same-length-4 c = search needs
 
 returns-4 : tie.Need-returns-4
 unfolding nthKind
 returns-4 c =
-    let a = c .before .before .before .before .before .args in
-    by-kind (a .givens .now) (a .masks .now) (a .log .now) (ap nthKind (sym (c .before .before .before .before .match .keys4))) (c .pointing-lanes .ensures)
+    let a = c .before .before .before .before .before .before .before .before .args in
+    by-kind (a .givens .now) (a .masks .now) (a .log .now) (ap nthKind (sym (c .before .before .before .before .before .before .match .keys4))) (c .before .before .pointing-lanes .ensures)
+
+same-length-5 : tie.Need-same-length-5
+same-length-5 c = search needs
 
 returns-5 : tie.Need-returns-5
 unfolding nthKind
 returns-5 c =
-    let a = c .before .before .before .before .before .args in
-    by-kind (a .givens .now) (a .masks .now) (a .log .now) (ap nthKind (sym (c .before .before .before .before .match .keys5))) (c .claiming-lanes .ensures)
+    let a = c .before .before .before .before .before .before .before .before .args in
+    by-kind (a .givens .now) (a .masks .now) (a .log .now) (ap nthKind (sym (c .before .before .before .before .before .before .match .keys5))) (c .before .before .claiming-lanes .ensures)
+
+same-length-6 : tie.Need-same-length-6
+same-length-6 c = search needs
 
 returns-6 : tie.Need-returns-6
 returns-6 c =
-    let a = c .before .before .before .before .before .args in
-    let r = c .before .before .before .before .match .rest in
+    let a = c .before .before .before .before .before .before .before .before .args in
+    let r = c .before .before .before .before .before .before .match .rest in
     let from3 = past (past (past zero-le (r .0 .0 .0 .0 .1)) (r .0 .0 .0 .1)) (r .0 .0 .1) in
     let from5 = past (past from3 (r .0 .1)) (r .1) in
-    by-kind (a .givens .now) (a .masks .now) (a .log .now) (sym (last-kind (a .nth) from5)) (c .cross-lanes .ensures)
+    by-kind (a .givens .now) (a .masks .now) (a .log .now) (sym (last-kind (a .nth) from5)) (c .before .before .cross-lanes .ensures)
 
 pub nth-pass-spec : {M : Type 1} → statement M
 nth-pass-spec =
@@ -82,9 +100,15 @@ nth-pass-spec =
     pointing-lanes-requires
     claiming-lanes-requires
     cross-lanes-requires
+    same-length
     returns
+    same-length-2
     returns-2
+    same-length-3
     returns-3
+    same-length-4
     returns-4
+    same-length-5
     returns-5
+    same-length-6
     returns-6)

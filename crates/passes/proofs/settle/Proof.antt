@@ -19,28 +19,28 @@ total-requires c κs = search needs
 sweep-on-requires : tie.Need-sweep-on-requires
 sweep-on-requires c κs =
     let t = c .before .before .before in
-    tally-start (t .before .before .args .masks .now) (t .total .ensures) (record { fits = t .total .ok })
+    tally-start (t .before .before .before .args .masks .now) (t .total .ensures) (record { fits = t .total .ok })
 
-array-read-t14 : tie.Need-array-read-t14
-array-read-t14 c = search needs
+array-read-t15 : tie.Need-array-read-t15
+array-read-t15 c = search needs
 
-array-read-t17 : tie.Need-array-read-t17
-array-read-t17 c = search needs
+array-read-t18 : tie.Need-array-read-t18
+array-read-t18 c = search needs
 
-array-read-t20 : tie.Need-array-read-t20
-array-read-t20 c = search needs
+array-read-t21 : tie.Need-array-read-t21
+array-read-t21 c = search needs
 
-array-read-t23 : tie.Need-array-read-t23
-array-read-t23 c = search needs
+array-read-t24 : tie.Need-array-read-t24
+array-read-t24 c = search needs
 
-array-read-t26 : tie.Need-array-read-t26
-array-read-t26 c = search needs
+array-read-t27 : tie.Need-array-read-t27
+array-read-t27 c = search needs
 
-array-read-t29 : tie.Need-array-read-t29
-array-read-t29 c = search needs
+array-read-t30 : tie.Need-array-read-t30
+array-read-t30 c = search needs
 
-array-read-t14-2 : tie.Need-array-read-t14-2
-array-read-t14-2 c = search needs
+array-read-t15-2 : tie.Need-array-read-t15-2
+array-read-t15-2 c = search needs
 
 six : (s : tie.Start) → length (passCounts (s .args .givens .now) (s .args .masks .now)) ≡ 6
 unfolding passCounts
@@ -50,20 +50,24 @@ six s = let g = s .args .givens .now in let m = s .args .masks .now in six-count
 left-total : (c : tie.After-sweep-on) → at (c .sweep-on .last .1 .1 .1 .0) 6 ≡ total (c .sweep-on .last .1 .0)
 left-total c =
     let t = c .before .before .before .before in
-    let s = t .before .before in
+    let s = t .before .before .before in
     tally-left (passCounts (s .args .givens .now) (s .args .masks .now)) (c .sweep-on .last .1 .0) (t .total .result) (six s) (c .sweep-on .ensures .1 .1 .1)
 
-sub-t29 : tie.Need-sub-t29
-sub-t29 c =
-    let t = c .before .before .before .before .before in
-    let a = t .before .before .args in
-    omega (arith, left-total (c .before), t .total .ensures, ap total (c .before .sweep-on .ensures .1 .0), settle-fewer (a .givens .now) 730 (a .masks .now))
+sub-t30 : tie.Need-sub-t30
+sub-t30 c =
+    let o = c .before .before .before in
+    let t = o .before .before .before .before in
+    let a = t .before .before .before .args in
+    omega (arith, left-total o, t .total .ensures, ap total (o .sweep-on .ensures .1 .0), settle-fewer (a .givens .now) 730 (a .masks .now))
+
+same-length : tie.Need-same-length
+same-length c = search needs
 
 returns : tie.Need-returns
 returns c =
-    let o = c .before in
+    let o = c .before .before .before in
     let t = o .before .before .before .before in
-    let s = t .before .before in
+    let s = t .before .before .before in
     let e = o .sweep-on .ensures in
     let counted = tally-counts (passCounts (s .args .givens .now) (s .args .masks .now)) (o .sweep-on .last .1 .0) (t .total .result) (six s) (e .1 .1 .1) in
     (e .0, (ap₂ _-_ (t .total .ensures) (left-total o), (e .1 .0, (e .1 .1 .0, counted))))
@@ -74,12 +78,13 @@ settle-spec =
     (tie.spec
     total-requires
     sweep-on-requires
-    array-read-t14
-    array-read-t17
-    array-read-t20
-    array-read-t23
-    array-read-t26
-    array-read-t29
-    array-read-t14-2
-    sub-t29
+    array-read-t15
+    array-read-t18
+    array-read-t21
+    array-read-t24
+    array-read-t27
+    array-read-t30
+    array-read-t15-2
+    sub-t30
+    same-length
     returns)

@@ -13,6 +13,7 @@ use Rattle.steps.specs.Passes.{kinds, pass, sweep}
 use Rattle.steps.specs.StepLists.{sweepInstances}
 use Rattle.steps.specs.code.Logs.{logAfter}
 use Rattle.steps.proofs.StepLogs.{log-done, log-over}
+use Rattle.cells.proofs.LogLengths.{log-kept}
 use Rattle.lanes.specs.code.Lanes.{laid}
 use Rattle.passes.specs.code.Tallies.{tallyWith, Tally}
 use Rattle.passes.proofs.Rounds.{passInstances, sweep-blocks, Going, going-start, going-on, swept-early, left-silent, swept-end}
@@ -30,19 +31,22 @@ abbrev μ-loop : tie.MeasureT-loop
 
 loop-holds : tie.Need-loop-holds Inv-loop μ-loop
 loop-holds c =
-    let a = c .args in
+    let a = c .before .args in
     let g = a .givens .now in
     let noted = ap (λ (xs : List Instance). logAfter g xs (a .masks .now) (a .log .now)) (sweep-blocks g) in
-    (omega arith, c .pre .0 .masks, going-start g (a .masks .now) (a .idle) (c .pre .1), noted, c .pre .3, sweep-tally g (c .pre .3))
+    (omega arith, c .before .pre .0 .masks, going-start g (a .masks .now) (a .idle) (c .before .pre .1), noted, c .before .pre .3, sweep-tally g (c .before .pre .3))
+
+same-length : tie.Need-same-length Inv-loop μ-loop
+same-length c = log-kept _ _ _ _ _ _ _ (c .before .before .loop .inv .3)
 
 returns : tie.Need-returns Inv-loop μ-loop
 returns c =
     let l = c .before .before in
-    let a = l .before .args in
+    let a = l .before .before .args in
     let g = a .givens .now in
     let w = l .loop .nth in
     let inv = l .loop .inv in
-    let swept = swept-early g (inv .0) (inv .2) (l .before .pre .2) (c .if1 .taken) in
+    let swept = swept-early g (inv .0) (inv .2) (l .before .before .pre .2) (c .if1 .taken) in
     let noted = sym (left-silent g (inv .0) (inv .2) swept (l .loop .log)) ∙ inv .3 in
     let counted = sym (left-uncounted g (inv .4) (range (6 - w) w) (inv .2 .rest ∙ sym (swept .swept))) ∙ inv .5 in
     (swept, (inv .1, (noted, (inv .4, swept-tally g (a .masks .now) (a .tally .now) counted))))
@@ -50,21 +54,21 @@ returns c =
 nth-pass-requires : tie.Need-nth-pass-requires Inv-loop μ-loop
 nth-pass-requires c κs =
     let l = c .before .before .before .before .before .before in
-    record { doors = l .before .pre .0 .doors; masks = l .loop .inv .1 }
+    record { doors = l .before .before .pre .0 .doors; masks = l .loop .inv .1 }
 
 -- the passes in a row are not six yet
 still-below : (c : tie.After-nth-pass Inv-loop μ-loop) → c .before .before .before .before .before .before .before .loop .still < 6
 still-below c = omega (arith, c .before .before .before .before .before .before .before .loop .inv .2 .few, c .before .before .before .before .before .if1 .left)
 
 idle-after-requires : tie.Need-idle-after-requires Inv-loop μ-loop
-idle-after-requires c κs = still-below (c .before)
+idle-after-requires c κs = still-below (c .before .before .before)
 
 tally-pass-requires : tie.Need-tally-pass-requires Inv-loop μ-loop
 tally-pass-requires c κs =
-    let p = c .before .before .before .before in
+    let p = c .before .before .before .before .before .before in
     let l = p .before .before .before .before .before .before .before in
     let tally = l .loop .inv .4 in
-    (omega arith, omega (arith, ap total (p .nth-pass .ensures .0), pass-fewer (l .before .args .givens .now) (l .loop .nth) (l .loop .masks), tally .left), tally .few)
+    (omega arith, omega (arith, ap total (p .nth-pass .ensures .0), pass-fewer (l .before .before .args .givens .now) (l .loop .nth) (l .loop .masks), tally .left), tally .few)
 
 add-nth : tie.Need-add-nth Inv-loop μ-loop
 add-nth c = omega arith
@@ -75,10 +79,10 @@ loop-less c = omega arith
 loop-again : tie.Need-loop-again Inv-loop μ-loop
 unfolding pass
 loop-again c =
-    let p = c .before .before .before in
+    let p = c .before .before .before .before .before in
     let l = p .before .before .before .before .before .before .before in
     let done = p .nth-pass .ensures in
-    let g = l .before .args .givens .now in
+    let g = l .before .before .args .givens .now in
     let w = l .loop .nth in
     let m = l .loop .masks in
     let inv = l .loop .inv in
@@ -94,10 +98,13 @@ loop-again c =
       turn-done (tallyTurn g) 6 w (omega arith) (tally .1) (inv .5),
     )
 
+same-length-2 : tie.Need-same-length-2 Inv-loop μ-loop
+same-length-2 c = log-kept _ _ _ _ _ _ _ (c .before .loop .inv .3)
+
 returns-2 : tie.Need-returns-2 Inv-loop μ-loop
 returns-2 c =
     let l = c .before in
-    let a = l .before .args in
+    let a = l .before .before .args in
     let g = a .givens .now in
     let w = l .loop .nth in
     let inv = l .loop .inv in
@@ -112,6 +119,7 @@ sweep-spec =
     Inv-loop
     μ-loop
     loop-holds
+    same-length
     returns
     nth-pass-requires
     idle-after-requires
@@ -119,4 +127,5 @@ sweep-spec =
     add-nth
     loop-less
     loop-again
+    same-length-2
     returns-2)

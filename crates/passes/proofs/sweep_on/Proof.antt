@@ -3,11 +3,13 @@ use mathlib.Core.Path.{_≡_, refl, sym, ap, _∙_}
 use Prim.Native.Nat.{_+_, _-_, _≤_, _<_}
 use native.Mathlib.Omega.{arith}
 use borrow.Author.Needs.{needs}
+use lib.ListN.{length}
 use Rattle.steps.specs.Difficulty.{added, removedIn, passCounts}
 use Rattle.steps.specs.Passes.{Sweeps, settle, settleIn}
 use Rattle.steps.specs.StepLists.{settlingInstances}
 use Rattle.steps.specs.code.Logs.{logAfter}
 use Rattle.steps.proofs.StepLogs.{sweepsOf, log-nothing}
+use Rattle.cells.proofs.LogLengths.{log-length, log-kept}
 use Rattle.lanes.specs.code.Lanes.{laid}
 use Rattle.passes.specs.code.Rounds.{LastIdle}
 use Rattle.passes.specs.code.Tallies.{tallyWith, Tally}
@@ -37,7 +39,7 @@ lanes-of-requires-2 c κs = search needs
 loop-holds : tie.Need-loop-holds Inv-loop μ-loop
 unfolding settlingInstances passCounts
 loop-holds c =
-    let s = c .before .before .before .before .before in
+    let s = c .before .before .before .before .before .before in
     (omega arith, c .lanes-of2 .ensures, omega arith, record { still = λ j a b. absurd (omega arith) }, omega arith, refl, refl, s .pre, refl)
 
 sweep-requires : tie.Need-sweep-requires Inv-loop μ-loop
@@ -49,12 +51,17 @@ sweep-requires c κs =
 add-sweeps : tie.Need-add-sweeps Inv-loop μ-loop
 add-sweeps c = omega arith
 
+same-length : tie.Need-same-length Inv-loop μ-loop
+same-length c =
+    let l = c .before .before .before .before .before .before .before .before .before .before in
+    ap length (c .before .before .before .sweep .ensures .1 .1 .0) ∙ log-length _ _ _ _ ∙ log-kept _ _ _ _ _ _ _ (l .loop .inv .6)
+
 returns : tie.Need-returns Inv-loop μ-loop
 unfolding tallyWith
 returns c =
-    let l = c .before .before .before .before .before .before .before .before in
-    let g = l .before .before .before .before .before .before .args .givens .now in
-    let swept = c .before .sweep .ensures in
+    let l = c .before .before .before .before .before .before .before .before .before .before in
+    let g = l .before .before .before .before .before .before .before .args .givens .now in
+    let swept = c .before .before .before .sweep .ensures in
     let s = settle-stops g (l .loop .sweeps) (l .loop .masks) (omega arith) (swept .0) (c .if1 .taken) in
     let noted = log-stops g (l .loop .sweeps) (l .loop .masks) (omega arith) (swept .0) (l .loop .log) (swept .1 .1 .0) (l .loop .inv .6) (c .if1 .taken) in
     let tally = swept .1 .1 .1 in
@@ -66,21 +73,24 @@ loop-less c = omega arith
 
 loop-again : tie.Need-loop-again Inv-loop μ-loop
 loop-again c =
-    let l = c .before .before .before .before .before .before .before .before in
-    let g = l .before .before .before .before .before .before .args .givens .now in
-    let swept = c .before .sweep .ensures in
-    let below : c .before .sweep .result < 6 = omega (arith, swept .0 .few, c .if1 .left) in
+    let l = c .before .before .before .before .before .before .before .before .before .before in
+    let g = l .before .before .before .before .before .before .before .args .givens .now in
+    let swept = c .before .before .before .sweep .ensures in
+    let below : c .before .before .before .sweep .result < 6 = omega (arith, swept .0 .few, c .if1 .left) in
     let s = settle-goes g (l .loop .sweeps) (l .loop .masks) (omega arith) (swept .0) below in
     let noted = log-goes g (l .loop .sweeps) (l .loop .masks) (omega arith) (swept .0) (l .loop .log) (swept .1 .1 .0) (l .loop .inv .6) below in
     let tally = swept .1 .1 .1 in
     let counted = counts-go g (l .loop .sweeps) (l .loop .masks) (omega arith) (swept .0) (l .loop .inv .7) (tally .1) (l .loop .inv .8) below in
     (omega arith, swept .1 .0, below, swept .0 .goes below .1, omega (arith, ap (λ (x : Sweeps). x .sweeps) s, l .loop .inv .4), sym (ap (λ (x : Sweeps). x .left) s) ∙ l .loop .inv .5, noted, tally .0, counted)
 
+same-length-2 : tie.Need-same-length-2 Inv-loop μ-loop
+same-length-2 c = log-kept _ _ _ _ _ _ _ (c .before .loop .inv .6)
+
 returns-2 : tie.Need-returns-2 Inv-loop μ-loop
 unfolding tallyWith
 returns-2 c =
     let l = c .before in
-    let g = l .before .before .before .before .before .before .args .givens .now in
+    let g = l .before .before .before .before .before .before .before .args .givens .now in
     let s = settle-ends g (l .loop .sweeps) (l .loop .masks) (c .loop-test .left) in
     let noted = sym (log-nothing g (l .loop .masks) (l .loop .log)) ∙ ap (λ (x : Sweeps). logAfter g (sweepsOf g (x .sweeps)) (l .loop .masks) (l .loop .log)) (sym s) ∙ l .loop .inv .6 in
     let counted = ap (λ (x : Sweeps). added (l .loop .tally) (removedIn g (x .sweeps) (l .loop .masks))) (sym s) ∙ l .loop .inv .8 in
@@ -98,7 +108,9 @@ sweep-on-spec =
     loop-holds
     sweep-requires
     add-sweeps
+    same-length
     returns
     loop-less
     loop-again
+    same-length-2
     returns-2)

@@ -39,6 +39,9 @@ eliminate-requires-7 c κs = search needs
 eliminate-requires-8 : tie.Need-eliminate-requires-8
 eliminate-requires-8 c κs = search needs
 
+slice-aggregate-settle : tie.Need-slice-aggregate-settle
+slice-aggregate-settle c = search needs
+
 settle-requires : tie.Need-settle-requires
 settle-requires c κs = search needs
 
@@ -117,8 +120,8 @@ returns-12 c =
 returns-13 : tie.Need-returns-13
 unfolding outcome
 returns-13 c =
-    let a = c .before .before .before .before .before .args in
-    c .settle .ensures .1 .1 .0 ∙ masks-are (a .givens .now) (a .masks .now) settlingCall 12 (c .before .before .before .before .match .keys13) refl
+    let a = c .before .before .before .before .before .before .args in
+    c .before .settle .ensures .1 .1 .0 ∙ masks-are (a .givens .now) (a .masks .now) settlingCall 12 (c .before .before .before .before .before .match .keys13) refl
 
 returns-14 : tie.Need-returns-14
 returns-14 c =
@@ -171,6 +174,7 @@ step-masks-spec =
     eliminate-requires-6
     eliminate-requires-7
     eliminate-requires-8
+    slice-aggregate-settle
     settle-requires
     eliminate-requires-9
     eliminate-requires-10

@@ -1,139 +1,174 @@
 -- `cells::notes::note` meets its contract. Assumes nothing.
 use mathlib.Core.Path.{sym, ap, _∙_}
 use mathlib.Core.List.{List, [], _∷_}
-use Prim.Native.Nat.{ℕ, _+_, _*_}
+use Prim.Native.Nat.{ℕ, _+_, _*_, _/_, _%_}
 use borrow.Author.Needs.{needs}
 use borrow.Author.Tests.{lt-ltb, le-ltb}
 use lib.Dec.{ltb}
+use lib.ListN.{set}
 use Rattle.candidates.proofs.Tests.{cond-true, cond-false}
 use Rattle.steps.specs.code.Logs.{stepsNoted, putSix, putCount, noted}
+use Rattle.cells.proofs.LogLengths.{noted-none}
 use Rattle.cells.proofs.notes.note.Statement.{statement}
 use Rattle.cells.proofs.notes.note.Tie as tie
+
+returns : tie.Need-returns
+returns c =
+    let a = c .before .before .args in
+    sym (noted-none (a .kind ∷ a .first ∷ a .second ∷ a .third ∷ a .fourth ∷ a .fifth ∷ []) (a .log .now) (c .if1 .taken))
 
 steps-noted-requires : tie.Need-steps-noted-requires
 steps-noted-requires c κs = search needs
 
-mul-at : tie.Need-mul-at
-mul-at c = search needs
+mul-place : tie.Need-mul-place
+mul-place c = search needs
 
-cast-log : tie.Need-cast-log
-cast-log c = search needs
+cast-put : tie.Need-cast-put
+cast-put c = search needs
 
-element-write-log : tie.Need-element-write-log
-element-write-log c = search needs
+put-requires : tie.Need-put-requires
+put-requires c κs = search needs
 
-cast-log-2 : tie.Need-cast-log-2
-cast-log-2 c = search needs
+add-put : tie.Need-add-put
+add-put c = search needs
 
-add-log : tie.Need-add-log
-add-log c = search needs
+cast-put-2 : tie.Need-cast-put-2
+cast-put-2 c = search needs
 
-element-write-log-2 : tie.Need-element-write-log-2
-element-write-log-2 c = search needs
+put-requires-2 : tie.Need-put-requires-2
+put-requires-2 c κs = search needs
 
-cast-log-3 : tie.Need-cast-log-3
-cast-log-3 c = search needs
+add-put-2 : tie.Need-add-put-2
+add-put-2 c = search needs
 
-add-log-2 : tie.Need-add-log-2
-add-log-2 c = search needs
+cast-put-3 : tie.Need-cast-put-3
+cast-put-3 c = search needs
 
-element-write-log-3 : tie.Need-element-write-log-3
-element-write-log-3 c = search needs
+put-requires-3 : tie.Need-put-requires-3
+put-requires-3 c κs = search needs
 
-cast-log-4 : tie.Need-cast-log-4
-cast-log-4 c = search needs
+add-put-3 : tie.Need-add-put-3
+add-put-3 c = search needs
 
-add-log-3 : tie.Need-add-log-3
-add-log-3 c = search needs
+cast-put-4 : tie.Need-cast-put-4
+cast-put-4 c = search needs
 
-element-write-log-4 : tie.Need-element-write-log-4
-element-write-log-4 c = search needs
+put-requires-4 : tie.Need-put-requires-4
+put-requires-4 c κs = search needs
 
-cast-log-5 : tie.Need-cast-log-5
-cast-log-5 c = search needs
+add-put-4 : tie.Need-add-put-4
+add-put-4 c = search needs
 
-add-log-4 : tie.Need-add-log-4
-add-log-4 c = search needs
+cast-put-5 : tie.Need-cast-put-5
+cast-put-5 c = search needs
 
-element-write-log-5 : tie.Need-element-write-log-5
-element-write-log-5 c = search needs
+put-requires-5 : tie.Need-put-requires-5
+put-requires-5 c κs = search needs
 
-cast-log-6 : tie.Need-cast-log-6
-cast-log-6 c = search needs
+add-put-5 : tie.Need-add-put-5
+add-put-5 c = search needs
 
-add-log-5 : tie.Need-add-log-5
-add-log-5 c = search needs
+cast-put-6 : tie.Need-cast-put-6
+cast-put-6 c = search needs
 
-element-write-log-6 : tie.Need-element-write-log-6
-element-write-log-6 c = search needs
+put-requires-6 : tie.Need-put-requires-6
+put-requires-6 c κs = search needs
 
-add-log-6 : tie.Need-add-log-6
-add-log-6 c = search needs
+add-put-6 : tie.Need-add-put-6
+add-put-6 c = search needs
 
-cast-log-7 : tie.Need-cast-log-7
-cast-log-7 c = search needs
+cast-put-7 : tie.Need-cast-put-7
+cast-put-7 c = search needs
 
-element-write-log-7 : tie.Need-element-write-log-7
-element-write-log-7 c = search needs
+put-requires-7 : tie.Need-put-requires-7
+put-requires-7 c κs = search needs
 
-add-log-7 : tie.Need-add-log-7
-add-log-7 c = search needs
+add-put-7 : tie.Need-add-put-7
+add-put-7 c = search needs
 
-cast-log-8 : tie.Need-cast-log-8
-cast-log-8 c = search needs
+cast-put-8 : tie.Need-cast-put-8
+cast-put-8 c = search needs
 
-element-write-log-8 : tie.Need-element-write-log-8
-element-write-log-8 c = search needs
+put-requires-8 : tie.Need-put-requires-8
+put-requires-8 c κs = search needs
 
-returns : tie.Need-returns
-unfolding noted putSix putCount
-returns c =
-    let counted = c .before in
-    let a = counted .before .before .args in
-    let l = a .log .now in
-    let step = a .kind ∷ a .first ∷ a .second ∷ a .third ∷ a .fourth ∷ a .fifth ∷ [] in
-    let grown : ℕ → List ℕ = λ n. putCount (n + 1) (putSix (6 * n) step l) in
-    ap grown (counted .steps-noted .ensures)
-    ∙ sym (cond-true (ltb (stepsNoted l) 729) (grown (stepsNoted l)) l (ap (λ (n : ℕ). ltb n 729) (sym (counted .steps-noted .ensures)) ∙ lt-ltb (counted .steps-noted .result) 729 (c .if1 .taken)))
+same-length : tie.Need-same-length
+same-length c = search needs
 
+-- the bytes of the step and the count, one after the other
 returns-2 : tie.Need-returns-2
-unfolding noted
+unfolding noted putSix putCount
 returns-2 c =
+    let p8 = c .before .before in
+    let p7 = p8 .before .before .before .before in
+    let p6 = p7 .before .before .before .before in
+    let p5 = p6 .before .before .before .before in
+    let p4 = p5 .before .before .before .before in
+    let p3 = p4 .before .before .before .before in
+    let p2 = p3 .before .before .before .before in
+    let p1 = p2 .before .before .before .before in
+    let test = p1 .before .before in
+    let counted = test .before in
+    let a = counted .before .before .before .before .args in
+    let l = a .log .now in
+    let n = counted .steps-noted .result in
+    let step = a .kind ∷ a .first ∷ a .second ∷ a .third ∷ a .fourth ∷ a .fifth ∷ [] in
+    let grown : ℕ → List ℕ = λ k. putCount (k + 1) (putSix (6 * k) step l) in
+    let place = 6 * n in
+    let e2 = p2 .put2 .ensures ∙ ap (λ (o : List ℕ). set o (place + 1) (a .first)) (p1 .put .ensures) in
+    let e3 = p3 .put3 .ensures ∙ ap (λ (o : List ℕ). set o (place + 2) (a .second)) e2 in
+    let e4 = p4 .put4 .ensures ∙ ap (λ (o : List ℕ). set o (place + 3) (a .third)) e3 in
+    let e5 = p5 .put5 .ensures ∙ ap (λ (o : List ℕ). set o (place + 4) (a .fourth)) e4 in
+    let e6 = p6 .put6 .ensures ∙ ap (λ (o : List ℕ). set o (place + 5) (a .fifth)) e5 in
+    let e7 = p7 .put7 .ensures ∙ ap (λ (o : List ℕ). set o 4374 ((n + 1) % 256)) e6 in
+    let e8 = p8 .put8 .ensures ∙ ap (λ (o : List ℕ). set o 4375 ((n + 1) / 256)) e7 in
+    e8 ∙ ap grown (counted .steps-noted .ensures)
+    ∙ sym (cond-true (ltb (stepsNoted l) 729) (grown (stepsNoted l)) l (ap (λ (k : ℕ). ltb k 729) (sym (counted .steps-noted .ensures)) ∙ lt-ltb n 729 (test .if2 .taken)))
+
+same-length-2 : tie.Need-same-length-2
+same-length-2 c = search needs
+
+returns-3 : tie.Need-returns-3
+unfolding noted
+returns-3 c =
     let counted = c .before in
-    let a = counted .before .before .args in
+    let a = counted .before .before .before .before .args in
     let l = a .log .now in
     let n = stepsNoted l in
     let step = a .kind ∷ a .first ∷ a .second ∷ a .third ∷ a .fourth ∷ a .fifth ∷ [] in
-    sym (cond-false (ltb n 729) (putCount (n + 1) (putSix (6 * n) step l)) l (ap (λ (k : ℕ). ltb k 729) (sym (counted .steps-noted .ensures)) ∙ le-ltb (counted .steps-noted .result) 729 (c .if1 .left)))
+    sym (cond-false (ltb n 729) (putCount (n + 1) (putSix (6 * n) step l)) l (ap (λ (k : ℕ). ltb k 729) (sym (counted .steps-noted .ensures)) ∙ le-ltb (counted .steps-noted .result) 729 (c .if2 .left)))
 
 pub note-spec : {M : Type 1} → statement M
 note-spec =
     tie.close
     (tie.spec
-    steps-noted-requires
-    mul-at
-    cast-log
-    element-write-log
-    cast-log-2
-    add-log
-    element-write-log-2
-    cast-log-3
-    add-log-2
-    element-write-log-3
-    cast-log-4
-    add-log-3
-    element-write-log-4
-    cast-log-5
-    add-log-4
-    element-write-log-5
-    cast-log-6
-    add-log-5
-    element-write-log-6
-    add-log-6
-    cast-log-7
-    element-write-log-7
-    add-log-7
-    cast-log-8
-    element-write-log-8
     returns
-    returns-2)
+    steps-noted-requires
+    mul-place
+    cast-put
+    put-requires
+    add-put
+    cast-put-2
+    put-requires-2
+    add-put-2
+    cast-put-3
+    put-requires-3
+    add-put-3
+    cast-put-4
+    put-requires-4
+    add-put-4
+    cast-put-5
+    put-requires-5
+    add-put-5
+    cast-put-6
+    put-requires-6
+    add-put-6
+    cast-put-7
+    put-requires-7
+    add-put-7
+    cast-put-8
+    put-requires-8
+    same-length
+    returns-2
+    same-length-2
+    returns-3)

@@ -45,9 +45,9 @@ steps-noted-requires c κs = search needs
 returns : tie.Need-returns Inv-loop μ-loop
 unfolding stepsHeld
 returns c =
-    let l = c .before .before .loop in
+    let l = c .before .before .before .loop in
     let whole : List ℕ → ℕ → Steps = λ bytes count. record { bytes = bytes; count = count } in
-    ap₂ whole (fill-end _ 4374 (l .at) (l .bytes) (l .inv) (c .before .loop-test .left)) (c .steps-noted .ensures)
+    ap₂ whole (fill-end _ 4374 (l .at) (l .bytes) (l .inv) (c .before .before .loop-test .left)) (c .steps-noted .ensures)
 
 pub steps-of-spec : {M : Type 1} → statement M
 steps-of-spec =

@@ -44,43 +44,46 @@ note-requires : tie.Need-note-requires
 note-requires c κs = omega arith
 
 -- the digit's mask
-one : (c : tie.After-digit-mask) → c .digit-mask .result ≡ single (c .before .args .digit)
-one c = c .digit-mask .ensures ∙ place-is (c .before .args .digit) (c .before .pre .1)
+one : (c : tie.After-digit-mask) → c .digit-mask .result ≡ single (c .before .before .args .digit)
+one c = c .digit-mask .ensures ∙ place-is (c .before .before .args .digit) (c .before .before .pre .1)
 
 -- what is tested
-tested : (c : tie.After-is-none) → c .is-none .result ≡ loneTest (c .before .before .before .before .before .before .args .masks .now) (c .before .before .before .before .before .before .args .cell) (c .before .before .before .before .before .before .args .digit)
+tested : (c : tie.After-is-none) → c .is-none .result ≡ loneTest (c .before .before .before .before .before .before .before .args .masks .now) (c .before .before .before .before .before .before .before .args .cell) (c .before .before .before .before .before .before .before .args .digit)
 tested c =
     let is-one = one (c .before .before .before .before .before) in
     c .is-none .ensures ∙ ap (λ (x : ℕ). eqb (count x) 0) (cc)
 
 -- where the test passes, the peers' loss is the step
-taken : (c : tie.After-lose-peers) {o : List ℕ} → let a = c .before .before .before .before .before .before .before .before .before .args in
+taken : (c : tie.After-lose-peers) {o : List ℕ} → let a = c .before .before .before .before .before .before .before .before .before .before .args in
     o ≡ peersLose (a .givens .now) (a .cell) (c .before .before .before .before .before .before .before .before .digit-mask .result) (a .masks .now) → o ≡ instanceTaken (a .givens .now) (lone (a .cell) (a .digit)) (a .masks .now)
 taken c e =
-    let start = c .before .before .before .before .before .before .before .before .before in
+    let start = c .before .before .before .before .before .before .before .before .before .before in
     let a = start .args in
     e ∙ ap (λ (k : ℕ). peersLose (a .givens .now) (a .cell) k (a .masks .now)) (one (c .before .before .before .before .before .before .before .before))
     ∙ lone-taken (a .givens .now) (a .masks .now) (a .cell) (a .digit) (start .pre .0) (sym (tested (c .before .before .before)) ∙ c .before .before .if1 .taken)
 
+same-length : tie.Need-same-length
+same-length c = search needs
+
 returns : tie.Need-returns
 unfolding stepBytes
 returns c =
-    let lost = c .before .before .before in
-    let a = lost .before .before .before .before .before .before .before .before .before .args in
+    let lost = c .before .before .before .before .before in
+    let a = lost .before .before .before .before .before .before .before .before .before .before .args in
     let m = a .masks .now in
     let e = taken lost (lost .lose-peers .ensures .0) in
-    (e, c .note .ensures ∙ sym (log-one (a .givens .now) (lone (a .cell) (a .digit)) m (a .log .now) (ap (sameMasks m) (sym e) ∙ sym (lost .lose-peers .ensures .1) ∙ ne-eqb (lost .lose-peers .result) 0 (c .before .before .if2 .taken))))
+    (e, c .before .before .note .ensures ∙ sym (log-one (a .givens .now) (lone (a .cell) (a .digit)) m (a .log .now) (ap (sameMasks m) (sym e) ∙ sym (lost .lose-peers .ensures .1) ∙ ne-eqb (lost .lose-peers .result) 0 (c .before .before .before .before .if2 .taken))))
 
 returns-2 : tie.Need-returns-2
 returns-2 c =
     let lost = c .before in
-    let a = lost .before .before .before .before .before .before .before .before .before .args in
+    let a = lost .before .before .before .before .before .before .before .before .before .before .args in
     let e = taken lost (lost .lose-peers .ensures .0) in
     (e, sym (log-none (a .givens .now) (lone (a .cell) (a .digit)) (a .masks .now) (a .log .now) (sym e ∙ sym (same-eq (a .masks .now) _ (sym (lost .lose-peers .ensures .1) ∙ eq-eqb (lost .lose-peers .result) 0 (c .if2 .left))))))
 
 returns-3 : tie.Need-returns-3
 returns-3 c =
-    let start = c .before .before .before .before .before .before .before in
+    let start = c .before .before .before .before .before .before .before .before in
     let a = start .args in
     let e = lone-left (a .givens .now) (a .masks .now) (a .cell) (a .digit) (start .pre .0) (sym (tested (c .before)) ∙ c .if1 .left) in
     (e, sym (log-none (a .givens .now) (lone (a .cell) (a .digit)) (a .masks .now) (a .log .now) (sym e)))
@@ -97,6 +100,7 @@ lone-at-spec =
     lose-peers-requires
     add-note
     note-requires
+    same-length
     returns
     returns-2
     returns-3)

@@ -23,27 +23,21 @@ lone-due-requires : tie.Need-lone-due-requires
 lone-due-requires c κs = search needs
 
 lone-digits-requires : tie.Need-lone-digits-requires
-lone-digits-requires c κs = c .before .before .before .before .before .before .pre .0
+lone-digits-requires c κs = c .before .before .before .before .before .before .before .pre .0
+
+same-length : tie.Need-same-length
+same-length c = search needs
 
 returns : tie.Need-returns
-returns c = c .lone-digits .ensures
+returns c = c .before .before .lone-digits .ensures
 
 returns-2 : tie.Need-returns-2
 returns-2 c =
     let due = c .before in
-    let start = due .before .before .before in
+    let start = due .before .before .before .before in
     let a = start .args in
     let idle = not-due (a .givens .now) (a .masks .now) (a .cell) (a .near) (start .pre .1) (sym (due .lone-due .ensures ∙ ap (λ (x : ℕ). loneDue x (a .near)) (due .before .meet .ensures)) ∙ c .if1 .left) in
     (sym idle, sym (log-idle (a .givens .now) (cellLones (a .cell)) (a .masks .now) (a .log .now) (sym (lone-cell (a .givens .now) (a .cell) (a .masks .now)) ∙ idle)))
 
 pub lone-cell-spec : {M : Type 1} → statement M
-lone-cell-spec =
-    tie.close
-    (tie.spec
-    mul-meet
-    element-copy-out-meet
-    meet-requires
-    lone-due-requires
-    lone-digits-requires
-    returns
-    returns-2)
+lone-cell-spec = tie.close (tie.spec mul-meet element-copy-out-meet meet-requires lone-due-requires lone-digits-requires same-length returns returns-2)

@@ -15,6 +15,7 @@ use Rattle.steps.specs.code.Logs.{logAfter}
 use Rattle.steps.proofs.Masks.{under-refl, under-trans}
 use Rattle.steps.proofs.StepLogs.{log-none, log-done, log-over}
 use Rattle.steps.proofs.Steps.{take-under}
+use Rattle.cells.proofs.LogLengths.{log-kept}
 use Rattle.lone_place.specs.code.Turns.{loneCell, cellLones}
 use Rattle.lone_place.proofs.Blocks.{one-taken}
 use Rattle.lone_place.proofs.LoneDue.{keeps-own, not-held-idle}
@@ -51,7 +52,7 @@ lone-held-requires c κs = search needs
 loop-holds : tie.Need-loop-holds Inv-loop μ-loop
 unfolding loneCell turn cellLones step
 loop-holds c =
-    let m = c .before .before .args .masks .now in
+    let m = c .before .before .before .args .masks .now in
     (omega arith, refl, record { under = under-refl m; own = refl }, refl)
 
 has-digit-requires : tie.Need-has-digit-requires Inv-loop μ-loop
@@ -60,7 +61,7 @@ has-digit-requires c κs = search needs
 lone-at-requires : tie.Need-lone-at-requires Inv-loop μ-loop
 lone-at-requires c κs =
     let tested = c .before .before .before in
-    (tested .before .before .before .before .before .pre, omega arith)
+    (tested .before .before .before .before .before .before .pre, omega arith)
 
 add-digit : tie.Need-add-digit Inv-loop μ-loop
 add-digit c = omega arith
@@ -73,18 +74,18 @@ unfolding turn step
 loop-again c =
     let l = c .before .before .before .loop in
     let held = c .before .before .before .before in
-    let start = held .before .before in
+    let start = held .before .before .before in
     let a = start .args in
     let g = a .givens .now in
     let f = turn g (a .cell) in
     let x = lone (a .cell) (l .digit) in
     ⊎-elim
     (λ w.
-    let e = w .4 ∙ w .3 .ensures .0 in (
+    let e = w .6 ∙ w .3 .ensures .0 in (
       omega arith,
       turn-done f 9 (l .digit) (omega arith) e (l .inv .1),
       shrunk-on g (a .cell) (l .digit) e (l .inv .2),
-      log-done g (step (a .cell)) 9 (l .digit) (l .masks) (l .log) (omega arith) (e ∙ one-taken g x (l .masks)) (w .5 ∙ w .3 .ensures .1) (l .inv .3),
+      log-done g (step (a .cell)) 9 (l .digit) (l .masks) (l .log) (omega arith) (e ∙ one-taken g x (l .masks)) (w .7 ∙ w .3 .ensures .1) (l .inv .3),
     ))
     (λ w.
     let idle = not-held-idle g (a .masks .now) (a .cell) (start .pre) (l .digit) (sym (c .before .has-digit .ensures ∙ ap (λ (x : ℕ). has x (l .digit)) (held .lone-held .ensures)) ∙ w .0 .left) (l .masks) (l .inv .2 .under) (l .inv .2 .own) in (
@@ -95,10 +96,13 @@ loop-again c =
     ))
     (c .if1 .came)
 
+same-length : tie.Need-same-length Inv-loop μ-loop
+same-length c = log-kept _ _ _ _ _ _ _ (c .before .loop .inv .3)
+
 returns : tie.Need-returns Inv-loop μ-loop
 returns c =
     let l = c .before .loop in
-    let a = c .before .before .before .before .args in (
+    let a = c .before .before .before .before .before .args in (
       turns-over (turn (a .givens .now) (a .cell)) 9 (l .digit) (c .loop-test .left) (l .inv .1),
       log-over (a .givens .now) (step (a .cell)) 9 (l .digit) (l .masks) (l .log) (c .loop-test .left) (l .inv .3),
     )
@@ -116,4 +120,5 @@ lone-digits-spec =
     add-digit
     loop-less
     loop-again
+    same-length
     returns)

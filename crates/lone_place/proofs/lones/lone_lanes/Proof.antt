@@ -23,7 +23,7 @@ unfolding pass
 returns c =
     let joined = c .before in
     let free = joined .before .before in
-    let start = free .before .before in
+    let start = free .before .before .before in
     let a = start .args in
     let idle = none-loose (a .givens .now) (a .masks .now) (start .pre) (free .loose .ensures) (sym (joined .join-sets .ensures) ∙ c .if1 .taken) in
     (sym idle, (start .pre .masks, sym (log-idle (a .givens .now) (instances Lone) (a .masks .now) (a .log .now) idle)))
@@ -34,24 +34,30 @@ shared-lanes-requires c κs = search needs
 lone-rows-requires : tie.Need-lone-rows-requires
 lone-rows-requires c κs =
     let sets = c .before .before .before in
-    let start = sets .before .before .before .before .before .before .before in
+    let start = sets .before .before .before .before .before .before .before .before in
     let m = start .args .masks .now in
     subst (λ (s : List ℕ). Covers s m) (sym (sets .shared-lanes .ensures ∙ ap sharedLanes (start .pre .masks))) (sets-cover m)
 
 lay-requires : tie.Need-lay-requires
 lay-requires c κs =
-    let start = c .before .before .before .before .before .before .before .before .before .before .before .before .before .before in
+    let start = c .before .before .before .before .before .before .before .before .before .before .before .before .before .before .before .before .before in
     record { of = start .args .masks .now; is = start .pre .masks }
+
+same-length : tie.Need-same-length
+same-length c = search needs
 
 returns-2 : tie.Need-returns-2
 returns-2 c =
-    let rows = c .before .before .before .before in
+    let rows = c .before .before .before .before .before .before in
     (rows .lone-rows .ensures .0, (c .lay .ensures, rows .lone-rows .ensures .1 .1))
+
+same-length-2 : tie.Need-same-length-2
+same-length-2 c = search needs
 
 returns-3 : tie.Need-returns-3
 returns-3 c =
-    let rows = c .before in
-    let start = rows .before .before .before .before .before .before .before .before .before .before .before in
+    let rows = c .before .before .before in
+    let start = rows .before .before .before .before .before .before .before .before .before .before .before .before in
     (rows .lone-rows .ensures .0, (start .pre .masks ∙ ap laid (sym (rows .lone-rows .ensures .1 .0 .is (c .if2 .left))), rows .lone-rows .ensures .1 .1))
 
 pub lone-lanes-spec : {M : Type 1} → statement M
@@ -64,5 +70,7 @@ lone-lanes-spec =
     shared-lanes-requires
     lone-rows-requires
     lay-requires
+    same-length
     returns-2
+    same-length-2
     returns-3)

@@ -8,6 +8,7 @@ use Rattle.steps.specs.Instances.{Instance}
 use Rattle.steps.specs.Loops.{each, for, range}
 use Rattle.steps.specs.code.Logs.{logAfter}
 use Rattle.steps.proofs.StepLogs.{log-done, log-over}
+use Rattle.cells.proofs.LogLengths.{log-kept}
 use Rattle.lone_place.specs.code.Turns.{loneCell, loneRow, cellLones, rowLones}
 use Rattle.lone_place.specs.code.Due.{NearRow}
 use Rattle.lone_place.proofs.Blocks.{lone-cell}
@@ -33,7 +34,7 @@ abbrev μ-loop : tie.MeasureT-loop
 
 loop-holds : tie.Need-loop-holds Inv-loop μ-loop
 unfolding loneRow turn rowLones block
-loop-holds c = (omega arith, refl, c .pre .1, refl)
+loop-holds c = (omega arith, refl, c .before .pre .1, refl)
 
 mul-lone-cell : tie.Need-mul-lone-cell Inv-loop μ-loop
 mul-lone-cell c = omega arith
@@ -61,19 +62,22 @@ loop-less c = omega arith
 loop-again : tie.Need-loop-again Inv-loop μ-loop
 unfolding turn block
 loop-again c =
-    let l = c .before .before .before .before .before .loop in
-    let a = c .before .before .before .before .before .before .args in
+    let l = c .before .before .before .before .before .before .before .loop in
+    let a = c .before .before .before .before .before .before .before .before .before .args in
     let g = a .givens .now in
-    let e = c .lone-cell .ensures .0 in (
+    let e = c .before .before .lone-cell .ensures .0 in (
       omega arith,
       turn-done (turn g (a .row)) 9 (l .nth) (omega arith) e (l .inv .1),
       subst (λ (m : List ℕ). NearRow m (a .row) (a .near .now)) (sym e) (row-near-under (lone-under g (9 * a .row + l .nth) (l .masks)) (l .inv .2)),
-      log-done g (block (a .row)) 9 (l .nth) (l .masks) (l .log) (omega arith) (e ∙ lone-cell g (9 * a .row + l .nth) (l .masks)) (c .lone-cell .ensures .1) (l .inv .3),
+      log-done g (block (a .row)) 9 (l .nth) (l .masks) (l .log) (omega arith) (e ∙ lone-cell g (9 * a .row + l .nth) (l .masks)) (c .before .before .lone-cell .ensures .1) (l .inv .3),
     )
+
+same-length : tie.Need-same-length Inv-loop μ-loop
+same-length c = log-kept _ _ _ _ _ _ _ (c .before .loop .inv .3)
 
 returns : tie.Need-returns Inv-loop μ-loop
 returns c =
-    let a = c .before .before .args in
+    let a = c .before .before .before .args in
     let l = c .before .loop in (
       turns-over (turn (a .givens .now) (a .row)) 9 (l .nth) (c .loop-test .left) (l .inv .1),
       log-over (a .givens .now) (block (a .row)) 9 (l .nth) (l .masks) (l .log) (c .loop-test .left) (l .inv .3),
@@ -94,4 +98,5 @@ lone-row-spec =
     add-nth
     loop-less
     loop-again
+    same-length
     returns)

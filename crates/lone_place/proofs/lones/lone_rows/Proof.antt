@@ -11,6 +11,7 @@ use Rattle.steps.specs.Loops.{each, for, range}
 use Rattle.steps.specs.Passes.{instances, pass, Lone}
 use Rattle.steps.specs.code.Logs.{logAfter}
 use Rattle.steps.proofs.StepLogs.{log-idle, log-done, log-over}
+use Rattle.cells.proofs.LogLengths.{log-kept}
 use Rattle.lone_place.specs.code.Turns.{loneRow, rowLones}
 use Rattle.lone_place.specs.code.Due.{Covers, NearRow, Kept}
 use Rattle.lone_place.proofs.Blocks.{lone-row, lones-by-rows}
@@ -33,8 +34,8 @@ abbrev μ-loop : tie.MeasureT-loop
 
 loop-holds : tie.Need-loop-holds Inv-loop μ-loop
 loop-holds c =
-    let a = c .args in
-    (omega arith, sym (lone-rows (a .givens .now) (a .masks .now)), c .pre, record { is = λ _. refl }, ap (λ (xs : List Instance). logAfter (a .givens .now) xs (a .masks .now) (a .log .now)) (sym lones-by-rows))
+    let a = c .before .args in
+    (omega arith, sym (lone-rows (a .givens .now) (a .masks .now)), c .before .pre, record { is = λ _. refl }, ap (λ (xs : List Instance). logAfter (a .givens .now) xs (a .masks .now) (a .log .now)) (sym lones-by-rows))
 
 near-row-requires : tie.Need-near-row-requires Inv-loop μ-loop
 near-row-requires c κs = omega arith
@@ -47,7 +48,7 @@ found : (c : lts.After-near-row (near-row-reads.Asked, near-row-reads.Learnt, du
     → NearRow (c .before .before .loop .masks) (c .before .before .loop .row) (c .near-row .result)
 found c =
     let l = c .before .before .loop in
-    let s = c .before .before .before .args .sets .now in
+    let s = c .before .before .before .before .args .sets .now in
     subst (NearRow (l .masks) (l .row)) (sym (c .near-row .ensures)) (covers-row s (l .row) (omega arith) (l .inv .2))
 
 lone-row-requires : tie.Need-lone-row-requires Inv-loop μ-loop
@@ -66,16 +67,16 @@ loop-again c =
     let due = c .before in
     let near = due .before .before .before in
     let l = near .before .before .loop in
-    let a = near .before .before .before .args in
+    let a = near .before .before .before .before .args in
     let g = a .givens .now in
     ⊎-elim
     (λ w.
-    let e = w .5 ∙ w .4 .ensures .0 in (
+    let e = w .7 ∙ w .4 .ensures .0 in (
       omega arith,
       turn-done (loneRow g) 9 (l .row) (omega arith) e (l .inv .1),
       subst (Covers (a .sets .now)) (sym e) (covers-under (row-under g (l .row) (l .masks)) (l .inv .2)),
-      record { is = λ q. absurd (true≢false (sym (w .7) ∙ q)) },
-      log-done g rowLones 9 (l .row) (l .masks) (l .log) (omega arith) (e ∙ lone-row g (l .row) (l .masks)) (w .6 ∙ w .4 .ensures .1) (l .inv .4),
+      record { is = λ q. absurd (true≢false (sym (w .9) ∙ q)) },
+      log-done g rowLones 9 (l .row) (l .masks) (l .log) (omega arith) (e ∙ lone-row g (l .row) (l .masks)) (w .8 ∙ w .4 .ensures .1) (l .inv .4),
     ))
     (λ w.
     let idle = row-idle g (l .masks) (l .row) (near .near-row .result) (found near) (sym (due .due-row .ensures) ∙ w .0 .left) in (
@@ -87,10 +88,13 @@ loop-again c =
     ))
     (c .if1 .came)
 
+same-length : tie.Need-same-length Inv-loop μ-loop
+same-length c = log-kept _ _ _ _ _ _ _ (c .before .loop .inv .4)
+
 returns : tie.Need-returns Inv-loop μ-loop
 returns c =
     let l = c .before .loop in
-    let g = c .before .before .args .givens .now in
+    let g = c .before .before .before .args .givens .now in
     (turns-over (loneRow g) 9 (l .row) (c .loop-test .left) (l .inv .1), (l .inv .3, log-over g rowLones 9 (l .row) (l .masks) (l .log) (c .loop-test .left) (l .inv .4)))
 
 pub lone-rows-spec : {M : Type 1} → statement M
@@ -106,4 +110,5 @@ lone-rows-spec =
     add-row
     loop-less
     loop-again
+    same-length
     returns)

@@ -54,22 +54,22 @@ add-note c = omega arith
 note-requires : tie.Need-note-requires
 note-requires c κs =
     let named = c .before .before .before .before in
-    let start = named .before .before .before .before .before .before .before in
+    let start = named .before .before .before .before .before .before .before .before in
     omega (arith, named .unit-cell .ensures, cell-below (start .args .unit) (start .args .place) (start .pre .0) (start .pre .2))
 
 -- what is tested
-tested : (c : tie.After-is-none) → c .is-none .result ≡ eqb (minus (c .before .before .before .args .held) (single (c .before .before .before .args .place))) 0
+tested : (c : tie.After-is-none) → c .is-none .result ≡ eqb (minus (c .before .before .before .before .args .held) (single (c .before .before .before .before .args .place))) 0
 tested c =
-    let start = c .before .before .before in
+    let start = c .before .before .before .before in
     c .is-none .ensures ∙ sym (test-none (c .before .lose .result))
     ∙ ap (λ (x : ℕ). eqb x 0) (c .before .lose .ensures ∙ ap (minus (start .args .held)) (c .before .before .digit-mask .ensures ∙ place-is (start .args .place) (start .pre .2)))
 
 -- where the test passes, the cell's loss is the turn
-lost : (c : tie.After-lose-cell) {o : List ℕ} → let a = c .before .before .before .before .before .before .before .before .before .args in
+lost : (c : tie.After-lose-cell) {o : List ℕ} → let a = c .before .before .before .before .before .before .before .before .before .before .args in
     o ≡ loseIn (isOpen (a .givens .now)) (c .before .before .unit-cell .result) (c .before .before .before .lose2 .result) (a .masks .now) → o ≡ placeTurn (a .givens .now) (a .unit) (a .digit) (a .held) (a .place) (a .masks .now)
 unfolding placeTurn
 lost c e =
-    let start = c .before .before .before .before .before .before .before .before .before in
+    let start = c .before .before .before .before .before .before .before .before .before .before in
     let a = start .args in
     let cell = unitCell (a .unit) (a .place) in
     let m = a .masks .now in
@@ -88,30 +88,33 @@ step c =
     ∙ sym (taken (a .givens .now) (a .unit) (a .digit) (c .pre .0) (c .pre .1) (a .masks .now) (a .place) (c .pre .2))
 
 -- whether the masks changed
-told : (c : tie.After-lose-cell) {o : List ℕ} → let a = c .before .before .before .before .before .before .before .before .before .args in
+told : (c : tie.After-lose-cell) {o : List ℕ} → let a = c .before .before .before .before .before .before .before .before .before .before .args in
     o ≡ loseIn (isOpen (a .givens .now)) (c .before .before .unit-cell .result) (c .before .before .before .lose2 .result) (a .masks .now) → Went (c .lose-cell .result) (a .masks .now) o
 told c e =
-    let a = c .before .before .before .before .before .before .before .before .before .args in
+    let a = c .before .before .before .before .before .before .before .before .before .before .args in
     went-as (c .lose-cell .ensures .1) e (went-cell (a .givens .now) (a .masks .now) (c .before .before .unit-cell .result) (c .before .before .before .lose2 .result))
+
+same-length : tie.Need-same-length
+same-length c = search needs
 
 returns : tie.Need-returns
 unfolding stepBytes
 returns c =
-    let gone = c .before .before .before in
-    let start = gone .before .before .before .before .before .before .before .before .before in
+    let gone = c .before .before .before .before .before in
+    let start = gone .before .before .before .before .before .before .before .before .before .before in
     let a = start .args in
     let m = a .masks .now in
     let x = place (a .unit) (a .digit) (a .place) in
     let e = lost gone (gone .lose-cell .ensures .0) in (
       e,
-      c .note .ensures ∙ ap (λ (cell : ℕ). noted (1 ∷ a .unit ∷ (a .digit + 1) ∷ cell ∷ 0 ∷ 0 ∷ []) (a .log .now)) (gone .before .before .unit-cell .ensures)
-          ∙ sym (log-one (a .givens .now) x m (a .log .now) (ap (sameMasks m) (sym (e ∙ step start)) ∙ sym (told gone (gone .lose-cell .ensures .0) .told) ∙ ne-eqb (gone .lose-cell .result) 0 (c .before .before .if2 .taken))),
+      c .before .before .note .ensures ∙ ap (λ (cell : ℕ). noted (1 ∷ a .unit ∷ (a .digit + 1) ∷ cell ∷ 0 ∷ 0 ∷ []) (a .log .now)) (gone .before .before .unit-cell .ensures)
+          ∙ sym (log-one (a .givens .now) x m (a .log .now) (ap (sameMasks m) (sym (e ∙ step start)) ∙ sym (told gone (gone .lose-cell .ensures .0) .told) ∙ ne-eqb (gone .lose-cell .result) 0 (c .before .before .before .before .if2 .taken))),
     )
 
 returns-2 : tie.Need-returns-2
 returns-2 c =
     let gone = c .before in
-    let start = gone .before .before .before .before .before .before .before .before .before in
+    let start = gone .before .before .before .before .before .before .before .before .before .before in
     let a = start .args in
     let x = place (a .unit) (a .digit) (a .place) in
     let e = lost gone (gone .lose-cell .ensures .0) in
@@ -120,7 +123,7 @@ returns-2 c =
 returns-3 : tie.Need-returns-3
 unfolding placeTurn
 returns-3 c =
-    let start = c .before .before .before .before in
+    let start = c .before .before .before .before .before in
     let a = start .args in
     let e =
     cond-false (eqb (minus (a .held) (single (a .place))) 0)
@@ -140,6 +143,7 @@ place-at-spec =
     lose-cell-requires
     add-note
     note-requires
+    same-length
     returns
     returns-2
     returns-3)

@@ -8,6 +8,7 @@ use Rattle.steps.specs.Instances.{Instance}
 use Rattle.steps.specs.Loops.{for, range}
 use Rattle.steps.specs.code.Logs.{logAfter}
 use Rattle.steps.proofs.StepLogs.{log-idle, log-done, log-over}
+use Rattle.cells.proofs.LogLengths.{log-kept}
 use Rattle.lanes.specs.code.Lanes.{SameOn}
 use Rattle.lanes.proofs.Turns.{Going, going-start, going-on, going-past, going-end}
 use Rattle.lone_place.specs.code.Turns.{unitPlaces, familyPlaces}
@@ -29,7 +30,7 @@ abbrev μ-loop : tie.MeasureT-loop
 
 loop-holds : tie.Need-loop-holds Inv-loop μ-loop
 unfolding familyPlaces block
-loop-holds c = (going-start (place-parted (c .args .givens .now) (c .args .family) (c .pre .0)) (c .args .masks .now), refl)
+loop-holds c = (going-start (place-parted (c .before .args .givens .now) (c .before .args .family) (c .before .pre .0)) (c .before .args .masks .now), refl)
 
 mul-if1 : tie.Need-mul-if1 Inv-loop μ-loop
 mul-if1 c = omega arith
@@ -52,7 +53,7 @@ element-copy-out-place-unit c = omega arith
 place-unit-requires : tie.Need-place-unit-requires Inv-loop μ-loop
 place-unit-requires c κs =
     let l = c .before .before .before .before .before .before .loop in
-    let start = c .before .before .before .before .before .before .before in
+    let start = c .before .before .before .before .before .before .before .before in
     (omega arith, start .pre .1 .of (l .nth) (omega arith) (l .masks) (l .inv .0 .same (l .nth) (omega arith) (omega arith)))
 
 add-nth : tie.Need-add-nth Inv-loop μ-loop
@@ -65,7 +66,7 @@ loop-again : tie.Need-loop-again Inv-loop μ-loop
 unfolding block
 loop-again c =
     let l = c .before .before .before .loop in
-    let start = c .before .before .before .before in
+    let start = c .before .before .before .before .before in
     let a = start .args in
     let g = a .givens .now in
     let u = 9 * a .family + l .nth in
@@ -73,8 +74,8 @@ loop-again c =
     let unit = place-unit g u (l .masks) in
     ⊎-elim
     (λ w.
-    let e = w .5 ∙ w .4 .ensures .0 in
-    (going-on parts (l .inv .0) (omega arith) e, log-done g (block (a .family)) 9 (l .nth) (l .masks) (l .log) (omega arith) (e ∙ unit) (w .6 ∙ w .4 .ensures .1) (l .inv .1)))
+    let e = w .7 ∙ w .4 .ensures .0 in
+    (going-on parts (l .inv .0) (omega arith) e, log-done g (block (a .family)) 9 (l .nth) (l .masks) (l .log) (omega arith) (e ∙ unit) (w .8 ∙ w .4 .ensures .1) (l .inv .1)))
     (λ w.
     let idle = spares-skips (start .pre .1) .idle (l .nth) (omega arith) (w .0 .left) (l .masks) (l .inv .0 .same (l .nth) (omega arith) (omega arith)) in (
       going-past parts (l .inv .0) (omega arith) (w .1) idle,
@@ -82,10 +83,13 @@ loop-again c =
     ))
     (c .if1 .came)
 
+same-length : tie.Need-same-length Inv-loop μ-loop
+same-length c = log-kept _ _ _ _ _ _ _ (c .before .loop .inv .1)
+
 returns : tie.Need-returns Inv-loop μ-loop
 unfolding placeFamily
 returns c =
-    let start = c .before .before in
+    let start = c .before .before .before in
     let a = start .args in
     let l = c .before .loop in (
       going-end (place-parted (a .givens .now) (a .family) (start .pre .0)) (l .inv .0) (c .loop-test .left),
@@ -109,4 +113,5 @@ place-due-spec =
     add-nth
     loop-less
     loop-again
+    same-length
     returns)

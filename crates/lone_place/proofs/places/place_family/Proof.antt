@@ -28,16 +28,16 @@ join-sets-requires c κs = search needs
 
 -- what the sets say
 spares : (c : tie.After-due-lanes)
-    → PlaceSpares (c .before .before .before .before .before .args .givens .now) (c .before .before .before .before .before .args .masks .now) (c .before .before .before .before .before .args .family) (c .due-lanes .result)
+    → PlaceSpares (c .before .before .before .before .before .before .args .givens .now) (c .before .before .before .before .before .before .args .masks .now) (c .before .before .before .before .before .before .args .family) (c .due-lanes .result)
 spares c =
-    let start = c .before .before .before .before .before in
+    let start = c .before .before .before .before .before .before in
     place-spared (start .args .givens .now) (start .args .masks .now) (start .args .family) (start .pre .0) (start .pre .1) (c .before .before .before .loose .ensures) (c .due-lanes .ensures)
 
 returns : tie.Need-returns
 unfolding placeFamily
 returns c =
     let tested = c .before .before .before in
-    let start = tested .before .before .before .before .before in
+    let start = tested .before .before .before .before .before .before in
     let a = start .args in
     let idle = skips-idle (place-parted (a .givens .now) (a .family) (start .pre .0)) (spares-skips (spares tested)) (sym (c .before .join-sets .ensures) ∙ c .if1 .taken) in
     (sym idle, (start .pre .1 .masks, sym (log-idle (a .givens .now) (familyPlaces (a .family)) (a .masks .now) (a .log .now) (sym (place-family (a .givens .now) (a .family) (a .masks .now)) ∙ idle))))
@@ -45,19 +45,32 @@ returns c =
 place-due-requires : tie.Need-place-due-requires
 place-due-requires c κs =
     let tested = c .before .before .before .before .before .before in
-    (tested .before .before .before .before .before .pre .0, spares tested)
+    (tested .before .before .before .before .before .before .pre .0, spares tested)
 
 lay-requires : tie.Need-lay-requires
 lay-requires c κs =
-    let start = c .before .before .before .before .before .before .before .before .before .before .before .before .before .before in
+    let start = c .before .before .before .before .before .before .before .before .before .before .before .before .before .before .before .before .before in
     record { of = start .args .masks .now; is = start .pre .1 .masks }
+
+same-length : tie.Need-same-length
+same-length c = search needs
 
 returns-2 : tie.Need-returns-2
 returns-2 c =
-    let due = c .before .before .before in
+    let due = c .before .before .before .before .before in
     (due .place-due .ensures .0, (c .lay .ensures, due .place-due .ensures .1))
 
 pub place-family-spec : {M : Type 1} → statement M
 place-family-spec =
     tie.close
-    (tie.spec mul-loose loose-requires mul-due-lanes due-lanes-requires join-sets-requires returns place-due-requires lay-requires returns-2)
+    (tie.spec
+    mul-loose
+    loose-requires
+    mul-due-lanes
+    due-lanes-requires
+    join-sets-requires
+    returns
+    place-due-requires
+    lay-requires
+    same-length
+    returns-2)

@@ -10,6 +10,7 @@ use Rattle.grid.proofs.Lists.{turn-done, turns-over}
 use Rattle.steps.specs.Loops.{each, for, range}
 use Rattle.steps.specs.code.Logs.{logAfter}
 use Rattle.steps.proofs.StepLogs.{log-idle, log-done, log-over}
+use Rattle.cells.proofs.LogLengths.{log-kept}
 use Rattle.cells.specs.code.Places.{allMasks}
 use Rattle.lone_place.specs.code.Turns.{placeDigit, placeUnit, digitPlaces, unitPlaces}
 use Rattle.lone_place.specs.code.Due.{dueOf, Spares}
@@ -28,7 +29,7 @@ abbrev μ-loop : tie.MeasureT-loop
 
 loop-holds : tie.Need-loop-holds Inv-loop μ-loop
 unfolding placeUnit unitPlaces
-loop-holds c = (omega arith, refl, c .pre .1, refl)
+loop-holds c = (omega arith, refl, c .before .pre .1, refl)
 
 has-digit-requires : tie.Need-has-digit-requires Inv-loop μ-loop
 has-digit-requires c κs = search needs
@@ -48,7 +49,7 @@ loop-less c = omega arith
 loop-again : tie.Need-loop-again Inv-loop μ-loop
 loop-again c =
     let l = c .before .before .before .loop in
-    let start = c .before .before .before .before in
+    let start = c .before .before .before .before .before in
     let a = start .args in
     let g = a .givens .now in
     let u = a .unit in
@@ -56,11 +57,11 @@ loop-again c =
     let block = place-digit g u (l .digit) (l .masks) in
     ⊎-elim
     (λ w.
-    let e = w .6 ∙ w .3 .ensures .0 in (
+    let e = w .8 ∙ w .3 .ensures .0 in (
       omega arith,
       turn-done f 9 (l .digit) (omega arith) e (l .inv .1),
-      renewed g u (start .pre .0) (w .8 ∙ w .5 .ensures) (w .6),
-      log-done g (digitPlaces u) 9 (l .digit) (l .masks) (l .log) (omega arith) (e ∙ block) (w .7 ∙ w .3 .ensures .1) (l .inv .3),
+      renewed g u (start .pre .0) (w .10 ∙ w .7 .ensures) (w .8),
+      log-done g (digitPlaces u) 9 (l .digit) (l .masks) (l .log) (omega arith) (e ∙ block) (w .9 ∙ w .3 .ensures .1) (l .inv .3),
     ))
     (λ w.
     let idle = l .inv .2 .idle (l .digit) (omega arith) (sym (c .before .has-digit .ensures) ∙ w .0 .left) in (
@@ -77,9 +78,12 @@ loop-again c =
     same : (g : List ℕ) (u : ℕ) {n o : List ℕ} {x y : ℕ} → o ≡ n → y ≡ x → Spares g u x n → Spares g u y o
     same g u {n} {o} {x} {y} p q w = subst (λ (z : ℕ). Spares g u z o) (sym q) (subst (Spares g u x) (sym p) w)
 
+same-length : tie.Need-same-length Inv-loop μ-loop
+same-length c = log-kept _ _ _ _ _ _ _ (c .before .loop .inv .3)
+
 returns : tie.Need-returns Inv-loop μ-loop
 returns c =
-    let a = c .before .before .args in
+    let a = c .before .before .before .args in
     let l = c .before .loop in (
       turns-over (placeDigit (a .givens .now) (a .unit)) 9 (l .digit) (c .loop-test .left) (l .inv .1),
       log-over (a .givens .now) (digitPlaces (a .unit)) 9 (l .digit) (l .masks) (l .log) (c .loop-test .left) (l .inv .3),
@@ -98,4 +102,5 @@ place-unit-spec =
     add-digit
     loop-less
     loop-again
+    same-length
     returns)

@@ -8,6 +8,7 @@ use Rattle.steps.specs.Instances.{Instance}
 use Rattle.steps.specs.Loops.{for, range}
 use Rattle.steps.specs.code.Logs.{logAfter}
 use Rattle.steps.proofs.StepLogs.{log-idle, log-done, log-over}
+use Rattle.cells.proofs.LogLengths.{log-kept}
 use Rattle.lanes.specs.code.Lanes.{Alike}
 use Rattle.lanes.proofs.Turns.{Going, going-start, going-on, going-past, going-end}
 use Rattle.pair_cross.specs.code.Twos.{frameTaken, crossLines, frameInstances, crossInstances}
@@ -39,7 +40,7 @@ open-places-requires c κs = omega arith
 
 loop-holds : tie.Need-loop-holds Inv-loop μ-loop
 unfolding crossInstances
-loop-holds c = let a = c .before .args in (going-start (cross-parted (a .givens .now) (9 * a .half)) (a .masks .now), refl)
+loop-holds c = let a = c .before .before .args in (going-start (cross-parted (a .givens .now) (9 * a .half)) (a .masks .now), refl)
 
 mul-if1 : tie.Need-mul-if1 Inv-loop μ-loop
 mul-if1 c = omega arith
@@ -56,7 +57,7 @@ two-frame-requires c κs =
     let l = inside .before .loop in
     let h = inside .loop-test .taken in
     let places = inside .before .before in
-    let start = places .before in
+    let start = places .before .before in
     let half = start .args .half in (
       (first-line half (start .pre .0), h),
       cross-doors (start .args .givens .now) half (l .digit) (start .pre .0) h (start .pre .1) (places .open-places .ensures),
@@ -72,7 +73,7 @@ loop-less c = omega arith
 loop-again : tie.Need-loop-again Inv-loop μ-loop
 loop-again c =
     let l = c .before .before .before .loop in
-    let start = c .before .before .before .before .before in
+    let start = c .before .before .before .before .before .before in
     let a = start .args in
     let g = a .givens .now in
     let parts = cross-parted g (9 * a .half) in
@@ -80,8 +81,8 @@ loop-again c =
     let taken = frame-each g (Lines (9 * a .half) (l .digit)) (first-line (a .half) (start .pre .0), omega arith) (l .masks) in
     ⊎-elim
     (λ w. (
-      going-on parts (l .inv .0) (omega arith) (w .6 ∙ w .5 .ensures .0),
-      log-done g (block (a .half)) 9 (l .digit) (l .masks) (l .log) (omega arith) (w .6 ∙ w .5 .ensures .0 ∙ sym taken) (w .7 ∙ w .5 .ensures .1) (l .inv .1),
+      going-on parts (l .inv .0) (omega arith) (w .8 ∙ w .5 .ensures .0),
+      log-done g (block (a .half)) 9 (l .digit) (l .masks) (l .log) (omega arith) (w .8 ∙ w .5 .ensures .0 ∙ sym taken) (w .9 ∙ w .5 .ensures .1) (l .inv .1),
     ))
     (λ w.
     let idle = start .pre .3 .idle (l .digit) (omega arith) (w .0 .left) (l .masks) (l .inv .0 .same (l .digit) (omega arith) (omega arith)) in (
@@ -90,11 +91,14 @@ loop-again c =
     ))
     (c .if1 .came)
 
+same-length : tie.Need-same-length Inv-loop μ-loop
+same-length c = log-kept _ _ _ _ _ _ _ (c .before .loop .inv .1)
+
 returns : tie.Need-returns Inv-loop μ-loop
 unfolding crossLines
 returns c =
     let l = c .before .loop in
-    let a = c .before .before .before .args in
+    let a = c .before .before .before .before .args in
     let g = a .givens .now in
     (going-end (cross-parted g (9 * a .half)) (l .inv .0) (c .loop-test .left), log-over g (block (a .half)) 9 (l .digit) (l .masks) (l .log) (c .loop-test .left) (l .inv .1))
 
@@ -115,4 +119,5 @@ cross-due-spec =
     add-digit
     loop-less
     loop-again
+    same-length
     returns)

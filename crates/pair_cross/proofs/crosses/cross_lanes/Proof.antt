@@ -3,6 +3,7 @@ use mathlib.Core.Path.{refl, sym, ap, ap₂, _∙_}
 use mathlib.Core.Logic.{inl}
 use mathlib.Core.List.{List}
 use native.Mathlib.Omega.{arith}
+use borrow.Author.Needs.{needs}
 use Rattle.steps.specs.Instances.{Instance}
 use Rattle.steps.specs.code.Logs.{logAfter}
 use Rattle.steps.proofs.StepLogs.{log-append}
@@ -13,19 +14,22 @@ use Rattle.pair_cross.proofs.crosses.cross_lanes.Statement.{statement}
 use Rattle.pair_cross.proofs.crosses.cross_lanes.Tie as tie
 
 cross-half-requires : tie.Need-cross-half-requires
-cross-half-requires c κs = (omega arith, c .before .before .before .pre)
+cross-half-requires c κs = (omega arith, c .before .before .before .before .pre)
 
 cross-half-requires-2 : tie.Need-cross-half-requires-2
-cross-half-requires-2 c κs = (omega arith, let rows = c .before .before .before in record { doors = rows .before .before .before .before .pre .doors; masks = rows .cross-half .ensures .1 .0 })
+cross-half-requires-2 c κs = (omega arith, let rows = c .before .before .before .before .before in record { doors = rows .before .before .before .before .before .pre .doors; masks = rows .cross-half .ensures .1 .0 })
+
+same-length : tie.Need-same-length
+same-length c = search needs
 
 returns : tie.Need-returns
 returns c =
-    let half = c .before .before .before .before in
-    let a = half .before .before .before .before .args in
+    let half = c .before .before .before .before .before .before .before .before in
+    let a = half .before .before .before .before .before .args in
     let g = a .givens .now in
     let m = a .masks .now in
     let rows = half .cross-half .ensures in
-    let columns = c .cross-half2 .ensures in (
+    let columns = c .before .before .cross-half2 .ensures in (
       columns .0 ∙ ap (crossLines g 9) (rows .0) ∙ sym (cross-pass g m),
       (
         columns .1 .0,
@@ -35,9 +39,4 @@ returns c =
     )
 
 pub cross-lanes-spec : {M : Type 1} → statement M
-cross-lanes-spec =
-    tie.close
-    (tie.spec
-    cross-half-requires
-    cross-half-requires-2
-    returns)
+cross-lanes-spec = tie.close (tie.spec cross-half-requires cross-half-requires-2 same-length returns)

@@ -8,6 +8,7 @@ use Rattle.steps.specs.Instances.{Instance}
 use Rattle.steps.specs.Loops.{for, range}
 use Rattle.steps.specs.code.Logs.{logAfter}
 use Rattle.steps.proofs.StepLogs.{log-idle, log-done, log-over}
+use Rattle.cells.proofs.LogLengths.{log-kept}
 use Rattle.lanes.specs.code.Lanes.{SameOn}
 use Rattle.lanes.proofs.Turns.{Going, going-start, going-on, going-past, going-end}
 use Rattle.pair_cross.specs.code.Twos.{frameInstances}
@@ -31,7 +32,7 @@ abbrev μ-loop : tie.MeasureT-loop
 
 loop-holds : tie.Need-loop-holds Inv-loop μ-loop
 unfolding familyInstances
-loop-holds c = (going-start (pair-parted (c .args .givens .now) (c .args .family) (c .pre .0)) (c .args .masks .now), refl)
+loop-holds c = (going-start (pair-parted (c .before .args .givens .now) (c .before .args .family) (c .before .pre .0)) (c .before .args .masks .now), refl)
 
 mul-if1 : tie.Need-mul-if1 Inv-loop μ-loop
 mul-if1 c = omega arith
@@ -48,8 +49,8 @@ add-lane c = omega arith
 mul-t15 : tie.Need-mul-t15 Inv-loop μ-loop
 mul-t15 c = omega arith
 
-add-t19 : tie.Need-add-t19 Inv-loop μ-loop
-add-t19 c = omega arith
+add-t20 : tie.Need-add-t20 Inv-loop μ-loop
+add-t20 c = omega arith
 
 lane-masks-requires : tie.Need-lane-masks-requires Inv-loop μ-loop
 lane-masks-requires c κs = omega arith
@@ -61,7 +62,7 @@ two-frame-requires : tie.Need-two-frame-requires Inv-loop μ-loop
 two-frame-requires c κs =
     let loop = c .before .before .before .before .before .before .before .before in
     let l = loop .loop in
-    let start = loop .before in
+    let start = loop .before .before in
     let w = pair-lines (start .args .family) (l .nth) (start .pre .0) (omega arith) (start .pre .1) (l .masks) (l .inv .0 .same (l .nth) (omega arith) (omega arith)) (c .before .before .lane-masks .ensures) (c .lane-masks2 .ensures) in
     (omega arith, w .0, w .1)
 
@@ -74,15 +75,15 @@ loop-less c = omega arith
 loop-again : tie.Need-loop-again Inv-loop μ-loop
 loop-again c =
     let l = c .before .before .before .loop in
-    let start = c .before .before .before .before in
+    let start = c .before .before .before .before .before in
     let a = start .args in
     let g = a .givens .now in
     let parts = pair-parted g (a .family) (start .pre .0) in
     let taken = frame-each g (Unit (9 * a .family + l .nth)) (omega arith) (l .masks) in
     ⊎-elim
     (λ w. (
-      going-on parts (l .inv .0) (omega arith) (w .7 ∙ w .6 .ensures .0),
-      log-done g (block (a .family)) 9 (l .nth) (l .masks) (l .log) (omega arith) (w .7 ∙ w .6 .ensures .0 ∙ sym taken) (w .8 ∙ w .6 .ensures .1) (l .inv .1),
+      going-on parts (l .inv .0) (omega arith) (w .9 ∙ w .6 .ensures .0),
+      log-done g (block (a .family)) 9 (l .nth) (l .masks) (l .log) (omega arith) (w .9 ∙ w .6 .ensures .0 ∙ sym taken) (w .10 ∙ w .6 .ensures .1) (l .inv .1),
     ))
     (λ w.
     let idle = start .pre .2 .idle (l .nth) (omega arith) (w .0 .left) (l .masks) (l .inv .0 .same (l .nth) (omega arith) (omega arith)) in (
@@ -91,11 +92,14 @@ loop-again c =
     ))
     (c .if1 .came)
 
+same-length : tie.Need-same-length Inv-loop μ-loop
+same-length c = log-kept _ _ _ _ _ _ _ (c .before .loop .inv .1)
+
 returns : tie.Need-returns Inv-loop μ-loop
 unfolding pairFamily
 returns c =
     let l = c .before .loop in
-    let start = c .before .before in
+    let start = c .before .before .before in
     let a = start .args in
     let g = a .givens .now in
     (going-end (pair-parted g (a .family) (start .pre .0)) (l .inv .0) (c .loop-test .left), log-over g (block (a .family)) 9 (l .nth) (l .masks) (l .log) (c .loop-test .left) (l .inv .1))
@@ -112,11 +116,12 @@ pair-due-spec =
     mul-lane
     add-lane
     mul-t15
-    add-t19
+    add-t20
     lane-masks-requires
     lane-masks-requires-2
     two-frame-requires
     add-nth
     loop-less
     loop-again
+    same-length
     returns)

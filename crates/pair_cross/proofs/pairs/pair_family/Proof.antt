@@ -27,16 +27,16 @@ join-sets-requires c κs = search needs
 
 -- what the sets say
 skips : (c : tie.After-lively-lanes)
-    → PairSkips (c .before .before .before .before .before .args .givens .now) (c .before .before .before .before .before .args .masks .now) (c .before .before .before .before .before .args .family) (c .lively-lanes .result)
+    → PairSkips (c .before .before .before .before .before .before .args .givens .now) (c .before .before .before .before .before .before .args .masks .now) (c .before .before .before .before .before .before .args .family) (c .lively-lanes .result)
 skips c =
-    let start = c .before .before .before .before .before in
+    let start = c .before .before .before .before .before .before in
     pair-skipped (start .args .givens .now) (start .args .masks .now) (start .args .family) (start .pre .0) (start .pre .1) (c .before .before .before .loose .ensures) (c .lively-lanes .ensures)
 
 returns : tie.Need-returns
 unfolding pairFamily
 returns c =
     let lively = c .before .before .before in
-    let start = lively .before .before .before .before .before in
+    let start = lively .before .before .before .before .before .before in
     let a = start .args in
     let g = a .givens .now in
     let idle = skips-idle (pair-parted g (a .family) (start .pre .0)) (skips lively) (sym (c .before .join-sets .ensures) ∙ c .if1 .taken) in
@@ -45,19 +45,32 @@ returns c =
 pair-due-requires : tie.Need-pair-due-requires
 pair-due-requires c κs =
     let lively = c .before .before .before .before .before .before .before in
-    let start = lively .before .before .before .before .before in
+    let start = lively .before .before .before .before .before .before in
     (start .pre .0, start .pre .1, skips lively)
 
 lay-requires : tie.Need-lay-requires
 lay-requires c κs =
-    let lively = c .before .before .before .before .before .before .before .before .before .before in
-    let start = lively .before .before .before .before .before in
+    let lively = c .before .before .before .before .before .before .before .before .before .before .before .before in
+    let start = lively .before .before .before .before .before .before in
     record { of = start .args .masks .now; is = start .pre .1 .masks }
 
+same-length : tie.Need-same-length
+same-length c = search needs
+
 returns-2 : tie.Need-returns-2
-returns-2 c = let due = c .before .before .before .pair-due .ensures in (due .0, (c .lay .ensures, due .1))
+returns-2 c = let due = c .before .before .before .before .before .pair-due .ensures in (due .0, (c .lay .ensures, due .1))
 
 pub pair-family-spec : {M : Type 1} → statement M
 pair-family-spec =
     tie.close
-    (tie.spec mul-loose loose-requires mul-lively-lanes lively-lanes-requires join-sets-requires returns pair-due-requires lay-requires returns-2)
+    (tie.spec
+    mul-loose
+    loose-requires
+    mul-lively-lanes
+    lively-lanes-requires
+    join-sets-requires
+    returns
+    pair-due-requires
+    lay-requires
+    same-length
+    returns-2)

@@ -9,6 +9,7 @@ use Rattle.steps.specs.Loops.{each, for, range}
 use Rattle.steps.specs.Passes.{pass, instances, Pair}
 use Rattle.steps.specs.code.Logs.{logAfter}
 use Rattle.steps.proofs.StepLogs.{log-done, log-over}
+use Rattle.cells.proofs.LogLengths.{log-kept}
 use Rattle.lanes.specs.code.Lanes.{laid}
 use Rattle.pair_cross.specs.code.Lively.{pairFamily, familyInstances}
 use Rattle.pair_cross.proofs.FrameInstances.{family-each}
@@ -27,12 +28,12 @@ abbrev μ-loop : tie.MeasureT-loop
 
 loop-holds : tie.Need-loop-holds Inv-loop μ-loop
 loop-holds c =
-    let a = c .args in
+    let a = c .before .args in
     let g = a .givens .now in
-    (omega arith, sym (pair-families g (a .masks .now)), c .pre .masks, ap (λ (xs : List Instance). logAfter g xs (a .masks .now) (a .log .now)) (sym family-list))
+    (omega arith, sym (pair-families g (a .masks .now)), c .before .pre .masks, ap (λ (xs : List Instance). logAfter g xs (a .masks .now) (a .log .now)) (sym family-list))
 
 pair-family-requires : tie.Need-pair-family-requires Inv-loop μ-loop
-pair-family-requires c κs = (omega arith, record { doors = c .before .before .before .before .before .pre .doors; masks = c .before .before .before .before .loop .inv .2 })
+pair-family-requires c κs = (omega arith, record { doors = c .before .before .before .before .before .before .pre .doors; masks = c .before .before .before .before .loop .inv .2 })
 
 add-family : tie.Need-add-family Inv-loop μ-loop
 add-family c = omega arith
@@ -42,21 +43,24 @@ loop-less c = omega arith
 
 loop-again : tie.Need-loop-again Inv-loop μ-loop
 loop-again c =
-    let loop = c .before .before .before .before .before in
+    let loop = c .before .before .before .before .before .before .before in
     let l = loop .loop in
-    let g = loop .before .args .givens .now in
-    let done = c .pair-family .ensures in (
+    let g = loop .before .before .args .givens .now in
+    let done = c .before .before .pair-family .ensures in (
       omega arith,
       turn-done (pairFamily g) 3 (l .family) (omega arith) (done .0) (l .inv .1),
       done .1 .0,
       log-done g familyInstances 3 (l .family) (l .masks) (l .log) (omega arith) (done .0 ∙ sym (family-each g (l .family) (omega arith) (l .masks))) (done .1 .1) (l .inv .3),
     )
 
+same-length : tie.Need-same-length Inv-loop μ-loop
+same-length c = log-kept _ _ _ _ _ _ _ (c .before .loop .inv .3)
+
 returns : tie.Need-returns Inv-loop μ-loop
 returns c =
     let l = c .before .loop in
-    let g = c .before .before .args .givens .now in
+    let g = c .before .before .before .args .givens .now in
     (turns-over (pairFamily g) 3 (l .family) (c .loop-test .left) (l .inv .1), (l .inv .2, log-over g familyInstances 3 (l .family) (l .masks) (l .log) (c .loop-test .left) (l .inv .3)))
 
 pub pair-lanes-spec : {M : Type 1} → statement M
-pair-lanes-spec = tie.close (tie.spec Inv-loop μ-loop loop-holds pair-family-requires add-family loop-less loop-again returns)
+pair-lanes-spec = tie.close (tie.spec Inv-loop μ-loop loop-holds pair-family-requires add-family loop-less loop-again same-length returns)

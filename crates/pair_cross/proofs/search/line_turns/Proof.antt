@@ -8,6 +8,7 @@ use Rattle.grid.proofs.Lists.{turn-done, turns-over}
 use Rattle.steps.specs.Loops.{each, for, range, above}
 use Rattle.steps.specs.code.Logs.{logAfter}
 use Rattle.steps.proofs.StepLogs.{log-idle, log-done, log-over}
+use Rattle.cells.proofs.LogLengths.{log-kept}
 use Rattle.pair_cross.specs.code.Twos.{linesTaken, linesInstances, lineInstances}
 use Rattle.pair_cross.specs.code.Search.{Seen}
 use Rattle.pair_cross.proofs.FrameInstances.{lines-each}
@@ -27,7 +28,7 @@ add-j : tie.Need-add-j Inv-loop μ-loop
 add-j c = omega arith
 
 loop-holds : tie.Need-loop-holds Inv-loop μ-loop
-loop-holds c = (omega arith, refl, c .pre .0, omega arith, refl)
+loop-holds c = (omega arith, refl, c .before .pre .0, omega arith, refl)
 
 mul-asks : tie.Need-mul-asks Inv-loop μ-loop
 mul-asks c = omega arith
@@ -58,7 +59,7 @@ loop-less c = omega arith
 loop-again : tie.Need-loop-again Inv-loop μ-loop
 loop-again c =
     let l = c .before .before .before .before .before .loop in
-    let a = c .before .before .before .before .before .before .args in
+    let a = c .before .before .before .before .before .before .before .args in
     let g = a .givens .now in
     let F = a .frame in
     let taken = lines-each g F (l .inv .2 .framed) (a .i) (l .j) (l .masks) in
@@ -66,10 +67,10 @@ loop-again c =
     ⊎-elim
     (λ w. (
       omega arith,
-      turn-done (linesTaken g F (a .i)) 9 (l .j) (omega arith) (w .5 ∙ w .4 .ensures .0) (l .inv .1),
-      seen-same (w .4 .ensures .1 .0) (w .5) (w .7) (w .8),
+      turn-done (linesTaken g F (a .i)) 9 (l .j) (omega arith) (w .7 ∙ w .4 .ensures .0) (l .inv .1),
+      seen-same (w .4 .ensures .1 .0) (w .7) (w .9) (w .10),
       omega (arith, l .inv .3),
-      log-done g block 9 (l .j) (l .masks) (l .log) (omega arith) (w .5 ∙ w .4 .ensures .0 ∙ sym taken) (w .6 ∙ w .4 .ensures .1 .1) (l .inv .4),
+      log-done g block 9 (l .j) (l .masks) (l .log) (omega arith) (w .7 ∙ w .4 .ensures .0 ∙ sym taken) (w .8 ∙ w .4 .ensures .1 .1) (l .inv .4),
     ))
     (λ w.
     let idle = cold-seen (l .inv .2) (a .i) (l .j) (l .inv .3) (omega arith) (sym (c .before .asks .ensures) ∙ w .0 .left) in (
@@ -81,10 +82,13 @@ loop-again c =
     ))
     (c .if1 .came)
 
+same-length : tie.Need-same-length Inv-loop μ-loop
+same-length c = log-kept _ _ _ _ _ _ _ (c .before .loop .inv .4)
+
 returns : tie.Need-returns Inv-loop μ-loop
 returns c =
     let l = c .before .loop in
-    let a = c .before .before .args in
+    let a = c .before .before .before .args in
     let g = a .givens .now in (
       turns-over (linesTaken g (a .frame) (a .i)) 9 (l .j) (c .loop-test .left) (l .inv .1),
       (l .inv .2, log-over g (linesInstances (a .frame) (a .i)) 9 (l .j) (l .masks) (l .log) (c .loop-test .left) (l .inv .4)),
@@ -107,4 +111,5 @@ line-turns-spec =
     add-j-2
     loop-less
     loop-again
+    same-length
     returns)

@@ -10,6 +10,7 @@ use Rattle.steps.specs.Loops.{each, for, range, above}
 use Rattle.steps.specs.code.Logs.{logAfter}
 use Rattle.steps.proofs.Loops.{in-above, each-idle}
 use Rattle.steps.proofs.StepLogs.{log-idle, log-done, log-over}
+use Rattle.cells.proofs.LogLengths.{log-kept}
 use Rattle.pair_cross.specs.code.Twos.{linesTaken, frameTaken, lineInstances, frameInstances}
 use Rattle.pair_cross.specs.code.Search.{Seen}
 use Rattle.pair_cross.specs.declared.twos.Frame.{Frame}
@@ -36,7 +37,7 @@ heat-of-requires c κs = search needs
 loop-holds : tie.Need-loop-holds Inv-loop μ-loop
 unfolding turn frameInstances
 loop-holds c =
-    let start = c .before .before in
+    let start = c .before .before .before in
     let a = start .args in
     (omega arith, sym (frame-lines (a .givens .now) (a .frame) (a .masks .now)), record { framed = start .pre .0; doors = start .pre .1; held = start .pre .2; heat = c .heat-of .ensures }, refl)
 
@@ -62,16 +63,16 @@ loop-again : tie.Need-loop-again Inv-loop μ-loop
 unfolding turn
 loop-again c =
     let l = c .before .before .before .loop in
-    let a = c .before .before .before .before .before .before .args in
+    let a = c .before .before .before .before .before .before .before .args in
     let g = a .givens .now in
     let F = a .frame in
     let taken = line-each g F (l .inv .2 .framed) (l .i) (l .masks) in
     ⊎-elim
     (λ w. (
       omega arith,
-      turn-done (turn g F) 9 (l .i) (omega arith) (w .5 ∙ w .4 .ensures .0) (l .inv .1),
-      seen-same (w .4 .ensures .1 .0) (w .5) (w .7) (w .8),
-      log-done g (lineInstances F) 9 (l .i) (l .masks) (l .log) (omega arith) (w .5 ∙ w .4 .ensures .0 ∙ sym taken) (w .6 ∙ w .4 .ensures .1 .1) (l .inv .3),
+      turn-done (turn g F) 9 (l .i) (omega arith) (w .7 ∙ w .4 .ensures .0) (l .inv .1),
+      seen-same (w .4 .ensures .1 .0) (w .7) (w .9) (w .10),
+      log-done g (lineInstances F) 9 (l .i) (l .masks) (l .log) (omega arith) (w .7 ∙ w .4 .ensures .0 ∙ sym taken) (w .8 ∙ w .4 .ensures .1 .1) (l .inv .3),
     ))
     (λ w.
     let idle = each-idle (linesTaken g F (l .i)) (above (l .i) 9) (l .masks) (λ j k. let r = in-above (l .i) 9 j k in lead-seen (l .inv .2) (l .i) j (r .0) (r .1) (sym (c .before .leads .ensures) ∙ w .0 .left)) in (
@@ -82,10 +83,13 @@ loop-again c =
     ))
     (c .if1 .came)
 
+same-length : tie.Need-same-length Inv-loop μ-loop
+same-length c = log-kept _ _ _ _ _ _ _ (c .before .loop .inv .3)
+
 returns : tie.Need-returns Inv-loop μ-loop
 returns c =
     let l = c .before .loop in
-    let a = c .before .before .before .before .args in
+    let a = c .before .before .before .before .before .args in
     let g = a .givens .now in
     (turns-over (turn g (a .frame)) 9 (l .i) (c .loop-test .left) (l .inv .1), log-over g (lineInstances (a .frame)) 9 (l .i) (l .masks) (l .log) (c .loop-test .left) (l .inv .3))
 
@@ -104,4 +108,5 @@ two-frame-spec =
     add-i
     loop-less
     loop-again
+    same-length
     returns)

@@ -37,7 +37,7 @@ reach-requires : tie.Need-reach-requires
 reach-requires c κs = search needs
 
 -- what the two can take
-lost-is : (c : tie.After-reach) → c .reach .result ≡ reachOf (union (at (c .before .before .before .before .args .held .now) (c .before .before .before .before .args .i)) (at (c .before .before .before .before .args .held .now) (c .before .before .before .before .args .j)))
+lost-is : (c : tie.After-reach) → c .reach .result ≡ reachOf (union (at (c .before .before .before .before .before .args .held .now) (c .before .before .before .before .before .args .i)) (at (c .before .before .before .before .before .args .held .now) (c .before .before .before .before .before .args .j)))
 lost-is c = c .reach .ensures ∙ ap reachOf (c .before .join .ensures)
 
 -- nothing is lost
@@ -53,7 +53,7 @@ still start e =
 
 returns : tie.Need-returns
 returns c =
-    let start = c .before .before .before .before .before in
+    let start = c .before .before .before .before .before .before in
     let a = start .args in
     let others = openHeld (a .held .now) (set (set (a .doors .now) (a .i) 0) (a .j) 0) in
     still start (ap (bitAnd others) (sym (lost-is (c .before)) ∙ c .if1 .taken) ∙ and-zero-r others)
@@ -69,23 +69,23 @@ meet-requires c κs = search needs
 
 -- what the open cells of the others hold of it
 open-is : (c : tie.After-meet)
-    → let start = c .before .before .before .before .before .before .before .before .before .before in
+    → let start = c .before .before .before .before .before .before .before .before .before .before .before in
     let a = start .args in
     c .meet .result ≡ bitAnd (openHeld (a .held .now) (set (set (a .doors .now) (a .i) 0) (a .j) 0)) (reachOf (union (at (a .held .now) (a .i)) (at (a .held .now) (a .j))))
 open-is c =
     let doors = c .before .before .before .before in
     let reach = doors .before .before in
-    let a = reach .before .before .before .before .args in
+    let a = reach .before .before .before .before .before .args in
     c .meet .ensures ∙ ap₂ bitAnd (c .before .open-held .ensures ∙ ap (openHeld (a .held .now)) (doors .other-doors .ensures)) (lost-is reach)
 
 returns-2 : tie.Need-returns-2
-returns-2 c = still (c .before .before .before .before .before .before .before .before .before .before .before) (sym (open-is (c .before)) ∙ c .if2 .taken)
+returns-2 c = still (c .before .before .before .before .before .before .before .before .before .before .before .before) (sym (open-is (c .before)) ∙ c .if2 .taken)
 
 two-lines-requires : tie.Need-two-lines-requires
 two-lines-requires c κs =
     let meet = c .before .before .before in
     let join = meet .before .before .before .before .before .before .before in
-    let start = join .before .before .before in
+    let start = join .before .before .before .before in
     let a = start .args in
     let w = start .pre .0 in (
       w .framed,
@@ -102,13 +102,16 @@ lines-left-requires c κs = search needs
 heat-of-requires : tie.Need-heat-of-requires
 heat-of-requires c κs = search needs
 
+same-length : tie.Need-same-length
+same-length c = search needs
+
 returns-3 : tie.Need-returns-3
 returns-3 c =
     let left = c .before .before in
-    let lost = left .before .before .before in
+    let lost = left .before .before .before .before .before in
     let doors = lost .before .before .before .before .before .before .before .before in
     let reach = doors .before .before in
-    let start = reach .before .before .before .before in
+    let start = reach .before .before .before .before .before in
     let a = start .args in
     let g = a .givens .now in
     let F = a .frame in
@@ -147,4 +150,5 @@ two-turn-spec =
     two-lines-requires
     lines-left-requires
     heat-of-requires
+    same-length
     returns-3)

@@ -36,7 +36,7 @@ note-requires c κs =
     let second = c .before in
     let first = second .before in
     let told = first .before .before in
-    let start = told .before .before in
+    let start = told .before .before .before in
     let a = start .args in
     let u = told .frame .given .0 .0 in
     let h : u < 27 = subst Framed (told .frame .given .1) (start .pre .0) in (
@@ -53,7 +53,7 @@ enum-known-frame-2 c = search needs
 
 -- the digit of rows or columns
 digit-below : (c : tie.After-known-told2) → c .before .frame2 .given .0 .1 .0 < 9
-digit-below c = subst Framed (c .before .frame2 .given .1) (c .before .before .before .pre .0) .1
+digit-below c = subst Framed (c .before .frame2 .given .1) (c .before .before .before .before .pre .0) .1
 
 add-note-3 : tie.Need-add-note-3
 add-note-3 c = omega (arith, digit-below (c .before .before))
@@ -79,32 +79,41 @@ add-note-8 c = search needs
 note-requires-3 : tie.Need-note-requires-3
 note-requires-3 c κs = (omega arith, omega (arith, digit-below (c .before .before)), omega arith, omega arith, omega arith, omega arith)
 
+same-length : tie.Need-same-length
+same-length c = search needs
+
 returns : tie.Need-returns
 unfolding stepBytes
 returns c =
-    let second = c .before .before in
+    let second = c .before .before .before .before in
     let told = second .before .before .before in
-    let a = told .before .before .args in
+    let a = told .before .before .before .args in
     let u = told .frame .given .0 .0 in
-    c .note .ensures
+    c .before .before .note .ensures
     ∙ ap₂ (λ (x y : ℕ). noted (2 ∷ u ∷ x ∷ y ∷ (a .a + 1) ∷ (a .b + 1) ∷ []) (a .log .now)) (second .before .unit-cell .ensures) (second .unit-cell2 .ensures)
     ∙ sym (ap (λ (F : Frame). noted (stepBytes (frameInstance F (a .i) (a .j) (a .a) (a .b))) (a .log .now)) (told .frame .given .1))
 
 -- the step of rows or columns
 module _ (c : tie.After-frame2) where
   abbrev given : Frame → Instance
-  given F = let a = c .before .before .args in frameInstance F (a .i) (a .j) (a .a) (a .b)
+  given F = let a = c .before .before .before .args in frameInstance F (a .i) (a .j) (a .a) (a .b)
 
-  lines-step : (x : Instance) → given (Lines (c .frame2 .given .0 .0) (c .frame2 .given .0 .1 .0)) ≡ x → noted (stepBytes x) (c .before .before .args .log .now) ≡ noted (stepBytes (given (c .before .before .args .frame))) (c .before .before .args .log .now)
-  lines-step x e = ap (λ (y : Instance). noted (stepBytes y) (c .before .before .args .log .now)) (sym (ap given (c .frame2 .given .1) ∙ e))
+  lines-step : (x : Instance) → given (Lines (c .frame2 .given .0 .0) (c .frame2 .given .0 .1 .0)) ≡ x → noted (stepBytes x) (c .before .before .before .args .log .now) ≡ noted (stepBytes (given (c .before .before .before .args .frame))) (c .before .before .before .args .log .now)
+  lines-step x e = ap (λ (y : Instance). noted (stepBytes y) (c .before .before .before .args .log .now)) (sym (ap given (c .frame2 .given .1) ∙ e))
+
+same-length-2 : tie.Need-same-length-2
+same-length-2 c = search needs
 
 returns-2 : tie.Need-returns-2
 unfolding stepBytes
-returns-2 c = c .note2 .ensures ∙ lines-step (c .before .before .before .before) _ (cond-true _ _ _ (eq-eqb _ 0 (c .before .before .if1 .taken)))
+returns-2 c = c .before .before .note2 .ensures ∙ lines-step (c .before .before .before .before .before .before) _ (cond-true _ _ _ (eq-eqb _ 0 (c .before .before .before .before .if1 .taken)))
+
+same-length-3 : tie.Need-same-length-3
+same-length-3 c = search needs
 
 returns-3 : tie.Need-returns-3
 unfolding stepBytes
-returns-3 c = c .note3 .ensures ∙ lines-step (c .before .before .before .before) _ (cond-false _ _ _ (ne-eqb _ 0 (c .before .before .if1 .left)))
+returns-3 c = c .before .before .note3 .ensures ∙ lines-step (c .before .before .before .before .before .before) _ (cond-false _ _ _ (ne-eqb _ 0 (c .before .before .before .before .if1 .left)))
 
 pub note-two-spec : {M : Type 1} → statement M
 note-two-spec =
@@ -125,6 +134,9 @@ note-two-spec =
     add-note-7
     add-note-8
     note-requires-3
+    same-length
     returns
+    same-length-2
     returns-2
+    same-length-3
     returns-3)

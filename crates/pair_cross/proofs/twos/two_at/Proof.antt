@@ -37,7 +37,7 @@ is-none-requires c κs = search needs
 
 lose-two-requires : tie.Need-lose-two-requires
 lose-two-requires c κs =
-    let start = c .before .before .before .before .before .before .before .before in
+    let start = c .before .before .before .before .before .before .before .before .before in
     (start .pre .0, start .pre .1, start .pre .2, start .pre .3, start .pre .4)
 
 changed-requires : tie.Need-changed-requires
@@ -45,13 +45,13 @@ changed-requires c κs = search needs
 
 note-two-requires : tie.Need-note-two-requires
 note-two-requires c κs =
-    let start = c .before .before .before .before .before .before .before .before .before .before .before .before .before in
+    let start = c .before .before .before .before .before .before .before .before .before .before .before .before .before .before in
     (start .pre .0, start .pre .1, start .pre .2, start .pre .3, start .pre .4)
 
 -- what is tested
-tested : (c : tie.After-is-none) → c .is-none .result ≡ eqb (minus (c .before .before .before .before .before .args .held) (both (c .before .before .before .before .before .args .a) (c .before .before .before .before .before .args .b))) 0
+tested : (c : tie.After-is-none) → c .is-none .result ≡ eqb (minus (c .before .before .before .before .before .before .args .held) (both (c .before .before .before .before .before .before .args .a) (c .before .before .before .before .before .before .args .b))) 0
 tested c =
-    let start = c .before .before .before .before .before in
+    let start = c .before .before .before .before .before .before in
     let a = start .args in
     c .is-none .ensures ∙ sym (test-none (c .before .lose .result))
     ∙ ap (λ (x : ℕ). eqb x 0)
@@ -62,7 +62,7 @@ tested c =
 -- the instance, where the two hold nothing outside a and b, and where they do
 module _ (c : tie.After-is-none) where
   abbrev start : tie.Start
-  start = c .before .before .before .before .before
+  start = c .before .before .before .before .before .before
 
   abbrev now : List ℕ
   now = start .args .masks .now
@@ -86,17 +86,20 @@ module _ (c : tie.After-is-none) where
   fails : c .is-none .result ≡ false → cond the-test lost now ≡ now
   fails t = cond-false the-test lost now (sym (tested c) ∙ t)
 
+same-length : tie.Need-same-length
+same-length c = search needs
+
 returns : tie.Need-returns
 unfolding twoTurn
 returns c =
-    let changed = c .before .before .before in
+    let changed = c .before .before .before .before .before in
     let lose = changed .before .before in
     let then = lose .before .before .before in
     let a = start (then .before) .args in
     let x = frameInstance (a .frame) (a .i) (a .j) (a .a) (a .b) in
     let after = lose .lose-two .ensures ∙ sym (holds (then .before) (then .if1 .taken)) in
-    let some = not-true _ (sym (changed .changed .ensures) ∙ c .before .before .if2 .taken) in
-    (after, c .note-two .ensures ∙ sym (log-one (a .givens .now) x (a .masks .now) (a .log .now) (ap (sameMasks (a .masks .now)) (takes (then .before) ∙ sym after) ∙ some)))
+    let some = not-true _ (sym (changed .changed .ensures) ∙ c .before .before .before .before .if2 .taken) in
+    (after, c .before .before .note-two .ensures ∙ sym (log-one (a .givens .now) x (a .masks .now) (a .log .now) (ap (sameMasks (a .masks .now)) (takes (then .before) ∙ sym after) ∙ some)))
 
 returns-2 : tie.Need-returns-2
 unfolding twoTurn
@@ -129,6 +132,7 @@ two-at-spec =
     lose-two-requires
     changed-requires
     note-two-requires
+    same-length
     returns
     returns-2
     returns-3)
