@@ -46,4 +46,12 @@ returns-2 c =
     }
 
 pub of-settling-spec : {M : Type 1} → statement M
-of-settling-spec = tie.close (tie.spec enum-known-settling new-requires enum-known-settling-2 quiet-requires returns returns-2)
+of-settling-spec =
+    tie.close
+    (tie.spec
+    enum-known-settling
+    new-requires
+    enum-known-settling-2
+    quiet-requires
+    returns
+    returns-2)

@@ -51,4 +51,5 @@ returns c =
     )
 
 pub settle-spec : {M : Type 1} → statement M
-settle-spec = tie.close (tie.spec apply-settling-requires of-settling-requires put-steps-requires put-counts-requires returns)
+settle-spec =
+    tie.close (tie.spec apply-settling-requires of-settling-requires put-steps-requires put-counts-requires returns)
