@@ -100,7 +100,7 @@ pub record Small (f : Figure) : Type 0 where
   pub quotient : f .quotient ≤ 4374
   pub remainder : f .remainder ≤ 4374
 
-small-of : (p n : ℕ) → p ≤ 4374 → n ≤ 81 → Small (figureOf p n)
+pub small-of : (p n : ℕ) → p ≤ 4374 → n ≤ 81 → Small (figureOf p n)
 unfolding figureOf
 small-of p n few cells = record { points = few; cells = cells; quotient = omega (arith, div-le-self p n, few); remainder = omega (arith, mod-le p n, few) }
 

@@ -1,1 +1,3 @@
 mod Kept
+mod Cutting
+pub mod Short

@@ -36,7 +36,7 @@ fn score_clues(clues: &[i32; 81], check: Checked, out: &mut Lines, tally: &mut T
     write_score(out, card, rating, check)
 }
 
-fn least(a: usize, b: usize) -> usize
+pub fn least(a: usize, b: usize) -> usize
     ensures { λ r. ⌜ (r ≤ a) × (r ≤ b) × (r ≡ min a b) ⌝ }
 {
     if a < b { a } else { b }
