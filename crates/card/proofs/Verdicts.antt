@@ -25,7 +25,7 @@ module _ (clues : List ℤ) (ok : Clues clues) where
   says : VerdictSays (KeepsClues clues) (cardFor clues .masks)
   says = subst (VerdictSays (KeepsClues clues)) settled (verdict-says (run (settlingCall ∷ []) (opened clues) .masks) (KeepsClues clues) (run-fillings clues ok (settlingCall ∷ []) refl))
 
-  card-says : CardSays clues
+  pub card-says : CardSays clues
   unfolding cardFor
   card-says = record { finished = says .finished; dead = says .dead }
 

@@ -1,3 +1,10 @@
 mod Kept
 mod Cutting
+mod Grids
+mod Held
+mod Outcomes
+mod Feeding
+pub mod Whole
+pub mod RightAnswers
 pub mod Short
+pub mod Used

@@ -3,3 +3,4 @@ pub mod Answers
 pub mod Rounds
 pub mod Summaries
 pub mod code
+pub mod Promises

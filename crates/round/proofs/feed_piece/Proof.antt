@@ -1,0 +1,88 @@
+-- `round::feed_piece` is safe and ends: each turn uses some of the piece, and no more than is left. Assumes nothing.
+use mathlib.Core.Path.{_≡_, ap}
+use Prim.Native.Nat.{_+_, _-_, _≤_, _<_}
+use native.Mathlib.Omega.{arith}
+use borrow.Author.Needs.{needs}
+use lib.ListN.{length, take, drop, length-take, length-drop}
+use Rattle.rounds.specs.declared.cuts.Fed.{Fed}
+use Rattle.rounds.proofs.Used.{used-within, used-some}
+use Rattle.round.proofs.feed_piece.Statement.{statement}
+use Rattle.round.proofs.feed_piece.Tie as tie
+
+abbrev Inv-loop : tie.InvT-loop
+Inv-loop piece now₀ out₀ at₀ now out at = at ≤ length piece
+
+abbrev μ-loop : tie.MeasureT-loop
+μ-loop piece now₀ out₀ at₀ now out at = length piece - at
+
+-- what a call used
+goes : (c : tie.After-feed Inv-loop μ-loop) → let l = c .before .before .before .before in (0 < c .feed .result .used) × (l .loop .at + c .feed .result .used ≤ length (l .before .before .args .piece .now))
+goes c =
+    let i = c .before .before .before in
+    let l = i .before in
+    let piece = l .before .before .args .piece .now in
+    let at = l .loop .at in
+    let rest = take (length piece - at) (drop at piece) in
+    let is = ap (λ (f : Fed). f .used) (c .feed .ensures .0) in
+    let size : length rest ≡ length piece - at = omega (arith, length-take (length piece - at) (drop at piece), length-drop at piece) in
+    let more : 0 < length rest = omega (arith, size, i .loop-test .taken) in
+    (omega (arith, is, used-some (l .loop .now) rest more), omega (arith, is, size, used-within (l .loop .now) rest, l .loop .inv))
+
+loop-holds : tie.Need-loop-holds Inv-loop μ-loop
+loop-holds c = omega arith
+
+sub-feed : tie.Need-sub-feed Inv-loop μ-loop
+sub-feed c = omega arith
+
+part-feed-start : tie.Need-part-feed-start Inv-loop μ-loop
+part-feed-start c = omega arith
+
+part-feed-end : tie.Need-part-feed-end Inv-loop μ-loop
+part-feed-end c = omega arith
+
+feed-requires : tie.Need-feed-requires Inv-loop μ-loop
+feed-requires c κs = search needs
+
+sub-hand-out : tie.Need-sub-hand-out Inv-loop μ-loop
+sub-hand-out c = omega arith
+
+part-hand-out-start : tie.Need-part-hand-out-start Inv-loop μ-loop
+part-hand-out-start c = omega arith
+
+part-hand-out-end : tie.Need-part-hand-out-end Inv-loop μ-loop
+part-hand-out-end c = omega arith
+
+hand-out-requires : tie.Need-hand-out-requires Inv-loop μ-loop
+hand-out-requires c κs = search needs
+
+add-at : tie.Need-add-at Inv-loop μ-loop
+add-at c = omega (arith, goes (c .before .before .before .before .before) .1)
+
+loop-less : tie.Need-loop-less Inv-loop μ-loop
+loop-less c = omega (arith, goes (c .before .before .before .before .before) .0, goes (c .before .before .before .before .before) .1)
+
+loop-again : tie.Need-loop-again Inv-loop μ-loop
+loop-again c = omega (arith, goes (c .before .before .before .before .before) .1)
+
+returns : tie.Need-returns Inv-loop μ-loop
+returns c = search needs
+
+pub feed-piece-spec : {M : Type 1} → statement M
+feed-piece-spec =
+    tie.close
+    (tie.spec
+    Inv-loop
+    μ-loop
+    loop-holds
+    sub-feed
+    part-feed-start
+    part-feed-end
+    feed-requires
+    sub-hand-out
+    part-hand-out-start
+    part-hand-out-end
+    hand-out-requires
+    add-at
+    loop-less
+    loop-again
+    returns)
