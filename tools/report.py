@@ -27,6 +27,7 @@ import xml.etree.ElementTree
 
 import card_check
 import explain
+from round import check, outcome, parts_of
 
 # ---- the page as a tree, read strictly
 
@@ -232,15 +233,6 @@ def lines_of(data):
     return parts if parts[-1] else parts[:-1]
 
 
-def parts_of(line):
-    """The grid and the answer, or nothing where the line is none."""
-    line = line[:-1] if line.endswith(b"\r") else line
-    if not line or line.startswith(b"#"):
-        return None
-    separator = re.search(rb"[ \t,;]", line)
-    return (line, None) if separator is None else (line[: separator.start()], line[separator.end() :])
-
-
 @functools.lru_cache(None)
 def scored(grid):
     """What is known of a grid without its answer; a pair of numbers for one that is refused."""
@@ -255,27 +247,8 @@ def scored(grid):
     return fields
 
 
-def checked(clues, answer):
-    if answer is None:
-        return "none"
-    if not re.fullmatch(rb"[1-9]{81}", answer):
-        return "wrong"
-    digits = [byte - ord("0") for byte in answer]
-    for cell in range(81):
-        if clues[cell] not in (0, digits[cell]):
-            return f"clue {cell}"
-    return "right" if all(len({digits[cell] for cell in unit}) == 9 for unit in explain.UNITS) else "wrong"
-
-
 def round_line(line):
-    parts = parts_of(line)
-    if parts is None:
-        return line
-    known = scored(parts[0])
-    if isinstance(known, tuple):
-        return b"refused %d %d" % known
-    words = [known[name] for name in ("clues", "reported", "sweeps", "removed", "verdict", "difficulty")]
-    return " ".join(words + [checked(known["grid"], parts[1])]).encode()
+    return outcome(line)[0]
 
 
 def shown(data, most=240):
@@ -318,7 +291,7 @@ def check_section(section, line):
     if isinstance(known, tuple):
         assert section.one("span", "bad").text == "refused %d %d" % known and section.all("p")[-1].text == shown(line)
         return
-    said = checked(known["grid"], answer)
+    said = check(grid, answer)
     facts = {dt.text: dd for dt, dd in zip(section.all("dt"), section.all("dd"))}
     wanted = {name.capitalize(): known[name] for name in ("verdict", "difficulty", "clues", "reported", "sweeps", "removed")}
     wanted.update(Answer=answer_words(said), Text=shown(line))
@@ -444,7 +417,7 @@ def check_reasons(page):
 
 
 def output(program, data, *options):
-    return subprocess.run([program, *options], input=data, stdout=subprocess.PIPE, check=True).stdout
+    return subprocess.run([program, *options], input=data, capture_output=True, check=True).stdout
 
 
 def run(program, round_program=None):

@@ -53,13 +53,21 @@ def check(grid, answer):
     return "right" if all(len({answer[cell] for cell in unit}) == 9 for unit in UNITS) else "wrong"
 
 
-def outcome(line):
-    """What is printed of a line, and which numbers of the summary it raises."""
+def parts_of(line):
+    """The grid and the answer; nothing where the line is handed on."""
     text = line[:-1] if line.endswith(b"\r") else line
     if not text or text.startswith(b"#"):
-        return line, []
+        return None
     places = [place for place, byte in enumerate(text) if byte in b" \t,;"]
-    grid, answer = (text[: places[0]], text[places[0] + 1 :]) if places else (text, None)
+    return (text[: places[0]], text[places[0] + 1 :]) if places else (text, None)
+
+
+def outcome(line):
+    """What is printed of a line, and which numbers of the summary it raises."""
+    parts = parts_of(line)
+    if parts is None:
+        return line, []
+    grid, answer = parts
     if len(grid) != 81:
         return b"refused 1 %d" % len(grid), ["grids", "refused"]
     for place, byte in enumerate(grid):
