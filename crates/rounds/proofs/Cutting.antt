@@ -16,9 +16,9 @@ use Rattle.rounds.specs.declared.cuts.State.{State}
 use Rattle.rounds.specs.declared.cuts.Fed.{Fed}
 use Rattle.rounds.specs.Rounds.{outcomeBytes}
 use Rattle.rounds.specs.Summaries.{tallied}
-use Rattle.rounds.specs.code.Cuts.{lineOf, stateOf, fedOf, freshLine, held, heldOutcome, doneBytes, doneState, lineEnd, isPassed, passOn, keepOn, fed, fedBytes, isBegun, lastBytes, lastState}
+use Rattle.rounds.specs.code.Cuts.{lineWith, stateWith, fedWith, freshLine, held, heldOutcome, doneBytes, doneState, lineEnd, isPassed, passOn, keepOn, fed, fedBytes, isBegun, lastBytes, lastState}
 
-pub held-same : {k k′ : List ℕ} {e e′ g g′ : ℕ} {p p′ : Bool} (b : ℕ) (q : Bool) → k ≡ k′ → e ≡ e′ → g ≡ g′ → p ≡ p′ → held k (lineOf e g p b q) ≡ held k′ (lineOf e′ g′ p′ b q)
+pub held-same : {k k′ : List ℕ} {e e′ g g′ : ℕ} {p p′ : Bool} (b : ℕ) (q : Bool) → k ≡ k′ → e ≡ e′ → g ≡ g′ → p ≡ p′ → held k (lineWith e g p b q) ≡ held k′ (lineWith e′ g′ p′ b q)
 held-same b q r s t u = cc
 
 module _ (xs : List ℕ) (i : ℕ) where
@@ -56,18 +56,18 @@ module _ (s : State) where
     unfolding doneBytes
     passed-bytes = sym (cond-true (s .line .passed) (10 ∷ []) bytes e)
 
-    pub passed-state : stateOf (s .kept) freshLine (s .tally) ≡ doneState s
+    pub passed-state : stateWith (s .kept) freshLine (s .tally) ≡ doneState s
     unfolding doneState
-    passed-state = ap (stateOf (s .kept) freshLine) (sym (cond-true (s .line .passed) (s .tally) (tallied (heldOutcome s) (s .tally)) e))
+    passed-state = ap (stateWith (s .kept) freshLine) (sym (cond-true (s .line .passed) (s .tally) (tallied (heldOutcome s) (s .tally)) e))
 
   module _ (e : s .line .passed ≡ false) where
     pub held-bytes : outcomeBytes (take (s .line .end) (s .kept)) (heldOutcome s) ≡ doneBytes s
     unfolding doneBytes
     held-bytes = sym (cond-false (s .line .passed) (10 ∷ []) bytes e)
 
-    pub held-state : stateOf (s .kept) freshLine (tallied (heldOutcome s) (s .tally)) ≡ doneState s
+    pub held-state : stateWith (s .kept) freshLine (tallied (heldOutcome s) (s .tally)) ≡ doneState s
     unfolding doneState
-    held-state = ap (stateOf (s .kept) freshLine) (sym (cond-false (s .line .passed) (s .tally) (tallied (heldOutcome s) (s .tally)) e))
+    held-state = ap (stateWith (s .kept) freshLine) (sym (cond-false (s .line .passed) (s .tally) (tallied (heldOutcome s) (s .tally)) e))
 
   -- ---- the end of the input
 
@@ -99,10 +99,10 @@ module _ (s : State) (piece : List ℕ) where
   k = keepOn s (take n piece)
 
   abbrev whole : Fed
-  whole = fedOf (doneState k) (n + 1) false (length (doneBytes k))
+  whole = fedWith (doneState k) (n + 1) false (length (doneBytes k))
 
   abbrev part : Fed
-  part = fedOf k n false 0
+  part = fedWith k n false 0
 
   module _ (e : isPassed (s .line) (getD piece 0 0) ≡ true) where
     pub passed-fed : passOn s (length piece) n ≡ fed s piece

@@ -17,7 +17,7 @@ use Rattle.output.specs.code.Tapes.{Tape, tape, pushed}
 use Rattle.rounds.specs.declared.cuts.Line.{Line}
 use Rattle.rounds.specs.declared.cuts.State.{State}
 use Rattle.rounds.specs.declared.cuts.Fed.{Fed}
-use Rattle.rounds.specs.code.Cuts.{stateOf, fedOf, freshLine, passedLine, keptOne, doneBytes, doneState, lineEnd, isPassed, passOn, keepOn, fed, fedBytes, handed, Run, run, lineDone, passedOne, keepOne, stepped}
+use Rattle.rounds.specs.code.Cuts.{stateWith, fedWith, freshLine, passedLine, keptOne, doneBytes, doneState, lineEnd, isPassed, passOn, keepOn, fed, fedBytes, handed, Run, run, lineDone, passedOne, keepOne, stepped}
 use Rattle.rounds.proofs.Cutting.{passed-bytes, passed-state, passed-fed, passed-none, whole-fed, whole-bytes, part-fed, part-none}
 use Rattle.rounds.proofs.Used.{end-most}
 
@@ -79,7 +79,7 @@ each-none r = refl
 
 module _ (kept tally : List ℕ) (l : Line) where
   abbrev on : State
-  on = stateOf kept (passedLine l) tally
+  on = stateWith kept (passedLine l) tally
 
   run-passed : (piece o : List ℕ) → each stepped (front piece) (run on o) ≡ run on (o ++ front piece)
   unfolding lineEnd
@@ -106,10 +106,10 @@ passed-alone false false e = e
 
 module _ (s : State) where
   abbrev handing : State
-  handing = stateOf (s .kept) (passedLine (s .line)) (s .tally)
+  handing = stateWith (s .kept) (passedLine (s .line)) (s .tally)
 
   same-passed : s .line .passed ≡ true → s ≡ handing
-  same-passed e = ap (λ (t : Bool). stateOf (s .kept) (record { end = s .line .end; grid = s .line .grid; parted = s .line .parted; last = s .line .last; passed = t }) (s .tally)) e
+  same-passed e = ap (λ (t : Bool). stateWith (s .kept) (record { end = s .line .end; grid = s .line .grid; parted = s .line .parted; last = s .line .last; passed = t }) (s .tally)) e
 
   first-passed : (piece o : List ℕ) → isPassed (s .line) (getD piece 0 0) ≡ true → each stepped (front piece) (run s o) ≡ run handing (o ++ front piece)
   unfolding lineEnd
@@ -188,13 +188,13 @@ module _ (s : State) (piece o : List ℕ) where
   goes-by : {f : Fed} {bytes : List ℕ} → f ≡ fed s piece → bytes ≡ fedBytes s piece → Goes f bytes → Goes (fed s piece) (fedBytes s piece)
   goes-by {f} {bytes} p q g = subst (λ (x : Fed). Goes x (fedBytes s piece)) p (subst (λ (x : List ℕ). Goes f x) q g)
 
-  pass-whole : lineEnd piece < length piece → fedOf (stateOf (s .kept) freshLine (s .tally)) (lineEnd piece + 1) true (lineEnd piece + 1) ≡ passOn s (length piece) (lineEnd piece)
+  pass-whole : lineEnd piece < length piece → fedWith (stateWith (s .kept) freshLine (s .tally)) (lineEnd piece + 1) true (lineEnd piece + 1) ≡ passOn s (length piece) (lineEnd piece)
   unfolding passOn
-  pass-whole h = sym (cond-true (ltb (lineEnd piece) (length piece)) (fedOf (stateOf (s .kept) freshLine (s .tally)) (lineEnd piece + 1) true (lineEnd piece + 1)) (fedOf (handing s) (lineEnd piece) true (lineEnd piece)) (lt-ltb (lineEnd piece) (length piece) h))
+  pass-whole h = sym (cond-true (ltb (lineEnd piece) (length piece)) (fedWith (stateWith (s .kept) freshLine (s .tally)) (lineEnd piece + 1) true (lineEnd piece + 1)) (fedWith (handing s) (lineEnd piece) true (lineEnd piece)) (lt-ltb (lineEnd piece) (length piece) h))
 
-  pass-part : length piece ≤ lineEnd piece → fedOf (handing s) (lineEnd piece) true (lineEnd piece) ≡ passOn s (length piece) (lineEnd piece)
+  pass-part : length piece ≤ lineEnd piece → fedWith (handing s) (lineEnd piece) true (lineEnd piece) ≡ passOn s (length piece) (lineEnd piece)
   unfolding passOn
-  pass-part h = sym (cond-false (ltb (lineEnd piece) (length piece)) (fedOf (stateOf (s .kept) freshLine (s .tally)) (lineEnd piece + 1) true (lineEnd piece + 1)) (fedOf (handing s) (lineEnd piece) true (lineEnd piece)) (le-ltb (lineEnd piece) (length piece) h))
+  pass-part h = sym (cond-false (ltb (lineEnd piece) (length piece)) (fedWith (stateWith (s .kept) freshLine (s .tally)) (lineEnd piece + 1) true (lineEnd piece + 1)) (fedWith (handing s) (lineEnd piece) true (lineEnd piece)) (le-ltb (lineEnd piece) (length piece) h))
 
   -- "the first n bytes, with the byte 10 after them"
   ended-front : lineEnd piece < length piece → (o ++ front piece) ++ (10 ∷ []) ≡ o ++ take (lineEnd piece + 1) piece

@@ -10,7 +10,7 @@ use lib.ListN.{length, getD, take}
 use Rattle.candidates.proofs.Tests.{by-test}
 use Rattle.rounds.specs.declared.cuts.State.{State}
 use Rattle.rounds.specs.declared.cuts.Fed.{Fed}
-use Rattle.rounds.specs.code.Cuts.{stateOf, fedOf, freshLine, passedLine, doneBytes, doneState, lineEnd, isPassed, passOn, keepOn, fed}
+use Rattle.rounds.specs.code.Cuts.{stateWith, fedWith, freshLine, passedLine, doneBytes, doneState, lineEnd, isPassed, passOn, keepOn, fed}
 
 pub end-most : (xs : List ℕ) → lineEnd xs ≤ length xs
 unfolding lineEnd
@@ -28,7 +28,7 @@ module _ (s : State) (piece : List ℕ) where
       k : State
       k = keepOn s (take n piece)
 
-      go : (p q : Bool) → cond p (cond q (fedOf (stateOf (s .kept) freshLine (s .tally)) (n + 1) true (n + 1)) (fedOf (stateOf (s .kept) (passedLine (s .line)) (s .tally)) n true n)) (cond q (fedOf (doneState k) (n + 1) false (length (doneBytes k))) (fedOf k n false 0)) .used ≡ cond q (n + 1) n
+      go : (p q : Bool) → cond p (cond q (fedWith (stateWith (s .kept) freshLine (s .tally)) (n + 1) true (n + 1)) (fedWith (stateWith (s .kept) (passedLine (s .line)) (s .tally)) n true n)) (cond q (fedWith (doneState k) (n + 1) false (length (doneBytes k))) (fedWith k n false 0)) .used ≡ cond q (n + 1) n
       go true true = refl
       go true false = refl
       go false true = refl

@@ -19,7 +19,7 @@ use Rattle.rounds.specs.Lines.{bare}
 use Rattle.rounds.specs.Summaries.{top, tallied, noTally}
 use Rattle.rounds.specs.Promises.{CutAnywhere, CutsSay}
 use Rattle.rounds.specs.code.Kept.{outcomeFrom}
-use Rattle.rounds.specs.code.Cuts.{stateOf, Held, held, freshLine, passedLine, keptOne, wholeOf, heldOutcome, doneBytes, doneState, isPassed, keepOn, fed, handed, isBegun, lastBytes, lastState, Run, run, lineDone, passedOne, keepOne, stepped, finished, fedThrough}
+use Rattle.rounds.specs.code.Cuts.{stateWith, Held, held, freshLine, passedLine, keptOne, wholeOf, heldOutcome, doneBytes, doneState, isPassed, keepOn, fed, handed, isBegun, lastBytes, lastState, Run, run, lineDone, passedOne, keepOne, stepped, finished, fedThrough}
 use Rattle.rounds.proofs.Cutting.{passed-bytes, passed-state, held-bytes, held-state, begun-bytes, begun-state, unbegun-bytes, unbegun-state}
 use Rattle.rounds.proofs.Feeding.{step-end, step-passed, step-kept, kept-plain, keep-none, keep-more, each-first, each-none, fed-goes}
 use Rattle.rounds.proofs.Held.{never-passed, kept-first, kept-size, whole-counted}
@@ -55,7 +55,7 @@ all-through (p ∷ ps) r =
 
 -- the state after the bytes l of a line
 abbrev standing : List ℕ → List ℕ → List ℕ → State
-standing lent tally l = keepOn (stateOf lent freshLine tally) l
+standing lent tally l = keepOn (stateWith lent freshLine tally) l
 
 abbrev isPlain : List ℕ → Bool
 isPlain l = eqb (getD l 0 0) 35
@@ -78,7 +78,7 @@ module _ (lent tally l : List ℕ) (size : length lent ≡ 256) (few : length l 
 
   line-state : doneState s ≡ standing (s .kept) (tallied (outcomeOf l) tally) []
   unfolding keepOn each
-  line-state = sym (held-state s unpassed) ∙ ap (λ t. stateOf (s .kept) freshLine t) (ap (λ o. tallied o tally) outcome-is)
+  line-state = sym (held-state s unpassed) ∙ ap (λ t. stateWith (s .kept) freshLine t) (ap (λ o. tallied o tally) outcome-is)
 
   still : length (s .kept) ≡ 256
   unfolding keepOn
@@ -111,7 +111,7 @@ stays-plain s (b ∷ bs) h c =
 
 module _ (lent tally : List ℕ) where
   abbrev start : State
-  start = stateOf lent freshLine tally
+  start = stateWith lent freshLine tally
 
   plain-on : (b : ℕ) (bs : List ℕ) → eqb b 35 ≡ false → (c : ℕ) → isPassed (standing lent tally (b ∷ bs) .line) c ≡ false
   plain-on b bs e c =
@@ -127,7 +127,7 @@ module _ (lent tally : List ℕ) where
 
   keep-append : (l : List ℕ) (b : ℕ) → keepOn (standing lent tally l) (b ∷ []) ≡ standing lent tally (l ++ (b ∷ []))
   unfolding keepOn
-  keep-append l b = ap (λ (h : Held). stateOf (h .kept) (h .line) tally) (sym (each-append keptOne l (b ∷ []) (held lent freshLine)))
+  keep-append l b = ap (λ (h : Held). stateWith (h .kept) (h .line) tally) (sym (each-append keptOne l (b ∷ []) (held lent freshLine)))
 
 -- ---- from any place of the input on
 
@@ -138,7 +138,7 @@ record Says (r : Run) (o l bs tally : List ℕ) : Type 0 where
 
 record Both (bs : List ℕ) : Type 0 where
   pub keeps : (lent tally l o : List ℕ) → length lent ≡ 256 → length l + length bs < top → isPlain l ≡ false → Says (each stepped bs (run (standing lent tally l) o)) o l bs tally
-  pub hands : (kept tally : List ℕ) (x : Line) (l o : List ℕ) → length kept ≡ 256 → length bs < top → Says (each stepped bs (run (stateOf kept (passedLine x) tally) (o ++ (35 ∷ l)))) o (35 ∷ l) bs tally
+  pub hands : (kept tally : List ℕ) (x : Line) (l o : List ℕ) → length kept ≡ 256 → length bs < top → Says (each stepped bs (run (stateWith kept (passedLine x) tally) (o ++ (35 ∷ l)))) o (35 ∷ l) bs tally
 
 cut-ten : (l : List ℕ) (b : ℕ) (bs : List ℕ) → eqb b 10 ≡ true → cut l (b ∷ bs) ≡ l ∷ cut [] bs
 unfolding cut
@@ -182,7 +182,7 @@ last-says s o l tally e bytes counts one =
 none-says : (lent tally o : List ℕ) → Says (run (standing lent tally []) o) o [] [] tally
 unfolding cut each for keepOn
 none-says lent tally o =
-    let s = stateOf lent freshLine tally in
+    let s = stateWith lent freshLine tally in
     record { output = ap (λ (x : List ℕ). o ++ x) (sym (unbegun-bytes s refl)); counts = ap (λ (x : State). x .tally) (sym (unbegun-state s refl)) }
 
 end-keeps : (lent tally l o : List ℕ) → length lent ≡ 256 → length l < top → isPlain l ≡ false → Says (run (standing lent tally l) o) o l [] tally
@@ -190,18 +190,18 @@ end-keeps lent tally [] o size few plain = none-says lent tally o
 end-keeps lent tally (b ∷ bs) o size few plain =
     let l = b ∷ bs in
     last-says (standing lent tally l) o l tally (begun-on lent tally b bs plain) (line-bytes lent tally l size few plain)
-    (ap (λ (x : State). x .tally) (line-state lent tally l size few plain) ∙ ap (λ (x : State). x .tally) (keep-none (stateOf (standing lent tally l .kept) freshLine (tallied (outcomeOf l) tally)))) refl
+    (ap (λ (x : State). x .tally) (line-state lent tally l size few plain) ∙ ap (λ (x : State). x .tally) (keep-none (stateWith (standing lent tally l .kept) freshLine (tallied (outcomeOf l) tally)))) refl
 
 -- what is handed on has all its bytes out, and its byte 10 comes
-hash-done : (kept tally : List ℕ) (x : Line) (l o : List ℕ) → let s = stateOf kept (passedLine x) tally in (o ++ (35 ∷ l)) ++ doneBytes s ≡ o ++ roundLine (35 ∷ l)
+hash-done : (kept tally : List ℕ) (x : Line) (l o : List ℕ) → let s = stateWith kept (passedLine x) tally in (o ++ (35 ∷ l)) ++ doneBytes s ≡ o ++ roundLine (35 ∷ l)
 hash-done kept tally x l o =
-    let s = stateOf kept (passedLine x) tally in
+    let s = stateWith kept (passedLine x) tally in
     ap (λ (y : List ℕ). (o ++ (35 ∷ l)) ++ y) (sym (passed-bytes s refl)) ∙ append-assoc o (35 ∷ l) (10 ∷ []) ∙ ap (λ (y : List ℕ). o ++ y) (sym (hash-bytes l))
 
-end-hands : (kept tally : List ℕ) (x : Line) (l o : List ℕ) → Says (run (stateOf kept (passedLine x) tally) (o ++ (35 ∷ l))) o (35 ∷ l) [] tally
+end-hands : (kept tally : List ℕ) (x : Line) (l o : List ℕ) → Says (run (stateWith kept (passedLine x) tally) (o ++ (35 ∷ l))) o (35 ∷ l) [] tally
 unfolding cut each for
 end-hands kept tally x l o =
-    let s = stateOf kept (passedLine x) tally in
+    let s = stateWith kept (passedLine x) tally in
     record {
       output = ap (λ (y : List ℕ). (o ++ (35 ∷ l)) ++ y) (sym (begun-bytes s refl)) ∙ hash-done kept tally x l o ∙ ap (λ (y : List ℕ). o ++ y) (sym (append-nil (roundLine (35 ∷ l))));
       counts = ap (λ (y : State). y .tally) (sym (begun-state s refl) ∙ sym (passed-state s refl)) ∙ sym (hash-tally l tally);
@@ -237,12 +237,12 @@ keeps-on b bs ih lent tally l o size few plain = go (eqb b 10) refl l refl
 
     begin : eqb b 10 ≡ false → l ≡ [] → eqb b 35 ≡ true → Says (each stepped bs (stepped b (run s o))) o l (b ∷ bs) tally
     begin e none h =
-        let first : s ≡ stateOf lent freshLine tally = ap (standing lent tally) none ∙ keep-none (stateOf lent freshLine tally) in
+        let first : s ≡ stateWith lent freshLine tally = ap (standing lent tally) none ∙ keep-none (stateWith lent freshLine tally) in
         let hash : b ≡ 35 = eqb-true b 35 h in
         longer-line o l b bs tally e
         (subst (λ (x : List ℕ). Says (each stepped bs (stepped b (run s o))) o (x ++ (b ∷ [])) bs tally) (sym none)
-        (says-at (ap (λ (x : State). each stepped bs (stepped b (run x o))) first ∙ ap (each stepped bs) (step-passed b (run (stateOf lent freshLine tally) o) e h))
-        (subst (λ (c : ℕ). Says (each stepped bs (run (stateOf lent (passedLine freshLine) tally) (o ++ (c ∷ [])))) o (c ∷ []) bs tally) (sym hash) (ih .hands lent tally freshLine [] o size (omega (arith, few))))))
+        (says-at (ap (λ (x : State). each stepped bs (stepped b (run x o))) first ∙ ap (each stepped bs) (step-passed b (run (stateWith lent freshLine tally) o) e h))
+        (subst (λ (c : ℕ). Says (each stepped bs (run (stateWith lent (passedLine freshLine) tally) (o ++ (c ∷ [])))) o (c ∷ []) bs tally) (sym hash) (ih .hands lent tally freshLine [] o size (omega (arith, few))))))
 
     go : (t : Bool) → eqb b 10 ≡ t → (k : List ℕ) → l ≡ k → Says (each stepped bs (stepped b (run s o))) o l (b ∷ bs) tally
     go true e k is = ten e
@@ -250,22 +250,22 @@ keeps-on b bs ih lent tally l o size few plain = go (eqb b 10) refl l refl
       where
         pick : (t : Bool) → eqb b 35 ≡ t → Says (each stepped bs (stepped b (run s o))) o l (b ∷ bs) tally
         pick true h = begin e is h
-        pick false h = more e (ap (λ (x : State). isPassed (x .line) b) (ap (standing lent tally) is ∙ keep-none (stateOf lent freshLine tally)) ∙ h) (λ _. h)
+        pick false h = more e (ap (λ (x : State). isPassed (x .line) b) (ap (standing lent tally) is ∙ keep-none (stateWith lent freshLine tally)) ∙ h) (λ _. h)
     go false e (c ∷ cs) is =
         let plain′ : eqb c 35 ≡ false = sym (ap isPlain is) ∙ plain in
         more e (ap (λ (x : List ℕ). isPassed (standing lent tally x .line) b) is ∙ plain-on lent tally c cs plain′ b) (λ none. absurd (cons-not (sym is ∙ none)))
 
-hands-on : (b : ℕ) (bs : List ℕ) → Both bs → (kept tally : List ℕ) (x : Line) (l o : List ℕ) → length kept ≡ 256 → length (b ∷ bs) < top → Says (each stepped bs (stepped b (run (stateOf kept (passedLine x) tally) (o ++ (35 ∷ l))))) o (35 ∷ l) (b ∷ bs) tally
+hands-on : (b : ℕ) (bs : List ℕ) → Both bs → (kept tally : List ℕ) (x : Line) (l o : List ℕ) → length kept ≡ 256 → length (b ∷ bs) < top → Says (each stepped bs (stepped b (run (stateWith kept (passedLine x) tally) (o ++ (35 ∷ l))))) o (35 ∷ l) (b ∷ bs) tally
 hands-on b bs ih kept tally x l o size few = go (eqb b 10) refl
   where
     s : State
-    s = stateOf kept (passedLine x) tally
+    s = stateWith kept (passedLine x) tally
 
     go : (t : Bool) → eqb b 10 ≡ t → Says (each stepped bs (stepped b (run s (o ++ (35 ∷ l))))) o (35 ∷ l) (b ∷ bs) tally
     go true e =
         after-line o (35 ∷ l) b bs tally e
         (subst (λ (y : List ℕ). Says (each stepped bs (stepped b (run s (o ++ (35 ∷ l))))) (o ++ roundLine (35 ∷ l)) [] bs y) (sym (hash-tally l tally))
-        (says-at (ap (each stepped bs) (step-end b (run s (o ++ (35 ∷ l))) e ∙ ap₂ run (sym (passed-state s refl) ∙ sym (keep-none (stateOf kept freshLine tally))) (hash-done kept tally x l o)))
+        (says-at (ap (each stepped bs) (step-end b (run s (o ++ (35 ∷ l))) e ∙ ap₂ run (sym (passed-state s refl) ∙ sym (keep-none (stateWith kept freshLine tally))) (hash-done kept tally x l o)))
         (ih .keeps kept tally [] (o ++ roundLine (35 ∷ l)) size (omega (arith, few)) refl)))
     go false e =
         longer-line o (35 ∷ l) b bs tally e
@@ -276,13 +276,13 @@ both : (bs : List ℕ) → Both bs
 both [] =
     record {
       keeps = λ lent tally l o size few plain. says-at (each-none (run (standing lent tally l) o)) (end-keeps lent tally l o size (omega (arith, few)) plain);
-      hands = λ kept tally x l o size few. says-at (each-none (run (stateOf kept (passedLine x) tally) (o ++ (35 ∷ l)))) (end-hands kept tally x l o);
+      hands = λ kept tally x l o size few. says-at (each-none (run (stateWith kept (passedLine x) tally) (o ++ (35 ∷ l)))) (end-hands kept tally x l o);
     }
 both (b ∷ bs) =
     let ih = both bs in
     record {
       keeps = λ lent tally l o size few plain. says-at (each-first b bs (run (standing lent tally l) o)) (keeps-on b bs ih lent tally l o size few plain);
-      hands = λ kept tally x l o size few. says-at (each-first b bs (run (stateOf kept (passedLine x) tally) (o ++ (35 ∷ l)))) (hands-on b bs ih kept tally x l o size few);
+      hands = λ kept tally x l o size few. says-at (each-first b bs (run (stateWith kept (passedLine x) tally) (o ++ (35 ∷ l)))) (hands-on b bs ih kept tally x l o size few);
     }
 
 pub cuts-say : CutsSay
@@ -292,7 +292,7 @@ cuts-say = record { cut = λ pieces few. anywhere pieces few }
     anywhere pieces few =
         let input = for pieces (λ piece. piece) in
         let lent : List ℕ = replicate 256 0 in
-        let start = stateOf lent freshLine noTally in
+        let start = stateWith lent freshLine noTally in
         let same = all-through pieces (run start []) ∙ ap (λ (x : State). each stepped input (run x [])) (sym (keep-none start)) in
         let w = both input .keeps lent noTally [] [] refl (omega (arith, few)) refl in
         record { output = ap (λ (r : Run). finished r .out) same ∙ w .output; tally = ap (λ (r : Run). finished r .state .tally) same ∙ w .counts }

@@ -8,7 +8,7 @@ use Rattle.steps.specs.Loops.{each}
 use Rattle.board.specs.declared.Verdict.{Verdict}
 use Rattle.board.specs.declared.Verdict.the-variants as verdict
 use Rattle.output.specs.Decimals.{decimal}
-use Rattle.card.specs.Layout.{lineOf}
+use Rattle.card.specs.Layout.{lineOf, refusedLabel}
 use Rattle.rounds.specs.declared.answers.Checked.{Checked}
 use Rattle.rounds.specs.declared.answers.Checked.the-variants as checked
 use Rattle.rounds.specs.Lines.{linesIn}
@@ -64,10 +64,6 @@ openLabel = 111 ∷ 112 ∷ 101 ∷ 110 ∷ 32 ∷ []
 -- "dead "
 abbrev pub deadLabel : List ℕ
 deadLabel = 100 ∷ 101 ∷ 97 ∷ 100 ∷ 32 ∷ []
-
--- "refused "
-abbrev pub refusedLabel : List ℕ
-refusedLabel = 114 ∷ 101 ∷ 102 ∷ 117 ∷ 115 ∷ 101 ∷ 100 ∷ 32 ∷ []
 
 -- "right "
 abbrev pub rightLabel : List ℕ

@@ -14,20 +14,20 @@ use Rattle.rounds.specs.Rounds.{Outcome, outcomeBytes}
 use Rattle.rounds.specs.Summaries.{top, counted, tallied, noTally}
 use Rattle.rounds.specs.code.Kept.{outcomeFrom}
 
-abbrev pub lineOf : ℕ → ℕ → Bool → ℕ → Bool → Line
-lineOf end grid parted last passed = record { end = end; grid = grid; parted = parted; last = last; passed = passed }
+abbrev pub lineWith : ℕ → ℕ → Bool → ℕ → Bool → Line
+lineWith end grid parted last passed = record { end = end; grid = grid; parted = parted; last = last; passed = passed }
 
-abbrev pub stateOf : List ℕ → Line → List ℕ → State
-stateOf kept line tally = record { kept = kept; line = line; tally = tally }
+abbrev pub stateWith : List ℕ → Line → List ℕ → State
+stateWith kept line tally = record { kept = kept; line = line; tally = tally }
 
-abbrev pub fedOf : State → ℕ → Bool → ℕ → Fed
-fedOf state used raw count = record { state = state; used = used; raw = raw; count = count }
+abbrev pub fedWith : State → ℕ → Bool → ℕ → Fed
+fedWith state used raw count = record { state = state; used = used; raw = raw; count = count }
 
 abbrev pub freshLine : Line
-freshLine = lineOf 0 0 false 0 false
+freshLine = lineWith 0 0 false 0 false
 
 abbrev pub freshState : State
-freshState = stateOf (replicate 256 0) freshLine noTally
+freshState = stateWith (replicate 256 0) freshLine noTally
 
 -- ---- one more byte of a line that is kept
 
@@ -46,7 +46,7 @@ unfoldable pub keptOne : ℕ → Held → Held
 keptOne b h =
     let t = pushed 256 (tape (h .kept) (h .line .end)) b in
     let parted = h .line .parted || isSeparator b in
-    held (t .bytes) (lineOf (t .end) (grown parted (h .line .grid)) parted b (h .line .passed))
+    held (t .bytes) (lineWith (t .end) (grown parted (h .line .grid)) parted b (h .line .passed))
 
 -- ---- the end of a line
 
@@ -65,7 +65,7 @@ unfoldable pub doneBytes : State → List ℕ
 doneBytes s = cond (s .line .passed) (10 ∷ []) (outcomeBytes (take (s .line .end) (s .kept)) (heldOutcome s))
 
 unfoldable pub doneState : State → State
-doneState s = stateOf (s .kept) freshLine (cond (s .line .passed) (s .tally) (tallied (heldOutcome s) (s .tally)))
+doneState s = stateWith (s .kept) freshLine (cond (s .line .passed) (s .tally) (tallied (heldOutcome s) (s .tally)))
 
 -- ---- a call on a piece
 
@@ -79,24 +79,24 @@ abbrev pub isPassed : Line → ℕ → Bool
 isPassed l b = l .passed || (eqb (l .end) 0 && eqb b 35)
 
 abbrev pub passedLine : Line → Line
-passedLine l = lineOf (l .end) (l .grid) (l .parted) (l .last) true
+passedLine l = lineWith (l .end) (l .grid) (l .parted) (l .last) true
 
 -- the bytes of the piece, with the byte 10 where there is one, as they are
 unfoldable pub passOn : State → ℕ → ℕ → Fed
 passOn s length end =
-    cond (ltb end length) (fedOf (stateOf (s .kept) freshLine (s .tally)) (end + 1) true (end + 1)) (fedOf (stateOf (s .kept) (passedLine (s .line)) (s .tally)) end true end)
+    cond (ltb end length) (fedWith (stateWith (s .kept) freshLine (s .tally)) (end + 1) true (end + 1)) (fedWith (stateWith (s .kept) (passedLine (s .line)) (s .tally)) end true end)
 
 unfoldable pub keepOn : State → List ℕ → State
 keepOn s bytes =
     let h = each keptOne bytes (held (s .kept) (s .line)) in
-    stateOf (h .kept) (h .line) (s .tally)
+    stateWith (h .kept) (h .line) (s .tally)
 
 unfoldable pub fed : State → List ℕ → Fed
 fed s piece =
     let n = lineEnd piece in
     let k = keepOn s (take n piece) in
     cond (isPassed (s .line) (getD piece 0 0)) (passOn s (length piece) n)
-    (cond (ltb n (length piece)) (fedOf (doneState k) (n + 1) false (length (doneBytes k))) (fedOf k n false 0))
+    (cond (ltb n (length piece)) (fedWith (doneState k) (n + 1) false (length (doneBytes k))) (fedWith k n false 0))
 
 -- what it makes of its own: nothing where bytes are handed on as they are
 unfoldable pub fedBytes : State → List ℕ → List ℕ
@@ -131,7 +131,7 @@ abbrev pub lineDone : Run → Run
 lineDone r = run (doneState (r .state)) (r .out ++ doneBytes (r .state))
 
 abbrev pub passedOne : ℕ → Run → Run
-passedOne b r = run (stateOf (r .state .kept) (passedLine (r .state .line)) (r .state .tally)) (r .out ++ (b ∷ []))
+passedOne b r = run (stateWith (r .state .kept) (passedLine (r .state .line)) (r .state .tally)) (r .out ++ (b ∷ []))
 
 abbrev pub keepOne : ℕ → Run → Run
 keepOne b r = run (keepOn (r .state) (b ∷ [])) (r .out)

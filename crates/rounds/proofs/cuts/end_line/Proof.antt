@@ -12,7 +12,7 @@ use Rattle.rounds.specs.declared.cuts.Line.{Line}
 use Rattle.rounds.specs.Rounds.{outcomeBytes}
 use Rattle.rounds.specs.Summaries.{top, tallied}
 use Rattle.rounds.specs.code.Kept.{outcomeFrom}
-use Rattle.rounds.specs.code.Cuts.{stateOf, wholeOf, doneBytes}
+use Rattle.rounds.specs.code.Cuts.{stateWith, wholeOf, doneBytes}
 use Rattle.rounds.proofs.Cutting.{passed-bytes, passed-state, held-bytes, held-state}
 use Rattle.rounds.proofs.Short.{done-short}
 use Rattle.rounds.proofs.cuts.end_line.Statement.{statement}
@@ -30,7 +30,7 @@ returns c =
     let a = e .before .before .before .before .args in
     let s = a .state in
     let bytes = passed-bytes s (e .if1 .taken) in (
-      ap (λ (l : Line). stateOf (s .kept) l (s .tally)) (c .fresh-line .ensures) ∙ passed-state s (e .if1 .taken),
+      ap (λ (l : Line). stateWith (s .kept) l (s .tally)) (c .fresh-line .ensures) ∙ passed-state s (e .if1 .taken),
       ap length bytes,
       over-push [] (a .out .now) 10 ∙ ap (λ (b : List ℕ). over b (a .out .now)) bytes,
     )
@@ -59,7 +59,7 @@ returns-2 c =
     let whole : least .least .result ≡ wholeOf (s .line) = unfold wholeOf in least .least .ensures .2 ∙ ap (min top) (grid .bare-grid .ensures) in
     let bytes : outcomeBytes kept (outcomeFrom kept (least .least .result)) ≡ doneBytes s = ap (λ (n : ℕ). outcomeBytes kept (outcomeFrom kept n)) whole ∙ held-bytes s (e .if1 .left) in
     let lines = w .print-kept .ensures .0 ∙ ap (λ (b : List ℕ). append 256 b (tape (a .out .now) 0)) bytes ∙ stands 256 (a .out .now) (doneBytes s) (done-short s) in (
-      ap₂ (stateOf (s .kept)) (c .fresh-line2 .ensures) (w .print-kept .ensures .1 ∙ ap (λ (n : ℕ). tallied (outcomeFrom kept n) (s .tally)) whole) ∙ held-state s (e .if1 .left),
+      ap₂ (stateWith (s .kept)) (c .fresh-line2 .ensures) (w .print-kept .ensures .1 ∙ ap (λ (n : ℕ). tallied (outcomeFrom kept n) (s .tally)) whole) ∙ held-state s (e .if1 .left),
       ap (λ (t : Tape). t .end) lines,
       ap (λ (t : Tape). t .bytes) lines,
     )

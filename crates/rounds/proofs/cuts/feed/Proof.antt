@@ -10,7 +10,7 @@ use lib.Seq.{length-take-le}
 use Rattle.steps.specs.Loops.{each}
 use Rattle.output.specs.Lent.{over}
 use Rattle.rounds.specs.declared.cuts.State.{State}
-use Rattle.rounds.specs.code.Cuts.{stateOf, fedOf, Held, held, keptOne, doneBytes, doneState, lineEnd, isPassed, passOn, keepOn}
+use Rattle.rounds.specs.code.Cuts.{stateWith, fedWith, Held, held, keptOne, doneBytes, doneState, lineEnd, isPassed, passOn, keepOn}
 use Rattle.rounds.proofs.Cutting.{passed-fed, passed-none, whole-fed, whole-bytes, part-fed, part-none}
 use Rattle.rounds.proofs.cuts.feed.Statement.{statement}
 use Rattle.rounds.proofs.cuts.feed.Tie as tie
@@ -22,13 +22,13 @@ tests c =
     c .is-passed .ensures ∙ ap (isPassed (a .state .line)) (c .before .byte-at .ensures)
 
 -- the state with the bytes that are kept
-keeps : (c : tie.After-keep) → let a = c .before .before .before .before .before .before .before .before .before .before .before .args in stateOf (c .keep .last .0) (c .keep .result) (a .state .tally) ≡ keepOn (a .state) (take (lineEnd (a .piece .now)) (a .piece .now))
+keeps : (c : tie.After-keep) → let a = c .before .before .before .before .before .before .before .before .before .before .before .args in stateWith (c .keep .last .0) (c .keep .result) (a .state .tally) ≡ keepOn (a .state) (take (lineEnd (a .piece .now)) (a .piece .now))
 unfolding keepOn
 keeps c =
     let e = c .before .before .before .before .before .before .before .before .before in
     let a = e .before .before .args in
     let s = a .state in
-    ap (λ (h : Held). stateOf (h .kept) (h .line) (s .tally)) (c .keep .ensures ∙ ap (λ (n : ℕ). each keptOne (take n (a .piece .now)) (held (s .kept) (s .line))) (e .line-end .ensures .0))
+    ap (λ (h : Held). stateWith (h .kept) (h .line) (s .tally)) (c .keep .ensures ∙ ap (λ (n : ℕ). each keptOne (take n (a .piece .now)) (held (s .kept) (s .line))) (e .line-end .ensures .0))
 
 line-end-requires : tie.Need-line-end-requires
 line-end-requires c κs = search needs
@@ -83,8 +83,8 @@ returns-2 c =
     let less : lineEnd x < length x = omega (arith, n, t .if2 .taken) in
     let more = keeps k in
     let bytes = ap doneBytes more ∙ whole-bytes s x no less in (
-      ap₂ (λ (q : State) (m : ℕ). fedOf q (e .line-end .result + 1) false m) (d .end-line .ensures .0 ∙ ap doneState more) (d .end-line .ensures .1 ∙ ap (λ (q : State). length (doneBytes q)) more)
-          ∙ ap (λ (m : ℕ). fedOf (doneState (keepOn s (take (lineEnd x) x))) (m + 1) false (length (doneBytes (keepOn s (take (lineEnd x) x))))) n
+      ap₂ (λ (q : State) (m : ℕ). fedWith q (e .line-end .result + 1) false m) (d .end-line .ensures .0 ∙ ap doneState more) (d .end-line .ensures .1 ∙ ap (λ (q : State). length (doneBytes q)) more)
+          ∙ ap (λ (m : ℕ). fedWith (doneState (keepOn s (take (lineEnd x) x))) (m + 1) false (length (doneBytes (keepOn s (take (lineEnd x) x))))) n
           ∙ whole-fed s x no less,
       d .end-line .ensures .2 ∙ ap (λ (b : List ℕ). over b (a .out .now)) bytes,
     )
@@ -101,7 +101,7 @@ returns-3 c =
     let no = sym (tests p) ∙ f .if1 .left in
     let n = e .line-end .ensures .0 in
     let all : length x ≤ lineEnd x = omega (arith, n, c .if2 .left) in
-    (ap₂ (λ (q : State) (m : ℕ). fedOf q m false 0) (keeps k) n ∙ part-fed s x no all, ap (λ (b : List ℕ). over b (a .out .now)) (part-none s x no all))
+    (ap₂ (λ (q : State) (m : ℕ). fedWith q m false 0) (keeps k) n ∙ part-fed s x no all, ap (λ (b : List ℕ). over b (a .out .now)) (part-none s x no all))
 
 pub feed-spec : {M : Type 1} → statement M
 feed-spec =

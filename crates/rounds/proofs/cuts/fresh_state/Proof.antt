@@ -4,7 +4,7 @@ use mathlib.Core.Path.{ap}
 use lib.ListN.{replicate}
 use Rattle.rounds.specs.declared.cuts.Line.{Line}
 use Rattle.rounds.specs.Summaries.{noTally}
-use Rattle.rounds.specs.code.Cuts.{stateOf}
+use Rattle.rounds.specs.code.Cuts.{stateWith}
 use Rattle.rounds.proofs.cuts.fresh_state.Statement.{statement}
 use Rattle.rounds.proofs.cuts.fresh_state.Tie as tie
 
@@ -12,7 +12,7 @@ fresh-line-requires : tie.Need-fresh-line-requires
 fresh-line-requires c κs = search needs
 
 returns : tie.Need-returns
-returns c = ap (λ (l : Line). stateOf (replicate 256 0) l noTally) (c .fresh-line .ensures)
+returns c = ap (λ (l : Line). stateWith (replicate 256 0) l noTally) (c .fresh-line .ensures)
 
 pub fresh-state-spec : {M : Type 1} → statement M
 fresh-state-spec = tie.close (tie.spec fresh-line-requires returns)

@@ -9,13 +9,13 @@ use Rattle.grid.proofs.Lists.{member-done, members-over}
 use Rattle.steps.specs.Loops.{each}
 use Rattle.rounds.specs.Lines.{isSeparator}
 use Rattle.output.specs.code.Tapes.{Tape}
-use Rattle.rounds.specs.code.Cuts.{lineOf, held, grown, keptOne}
+use Rattle.rounds.specs.code.Cuts.{lineWith, held, grown, keptOne}
 use Rattle.rounds.proofs.Cutting.{held-same}
 use Rattle.rounds.proofs.cuts.keep.Statement.{statement}
 use Rattle.rounds.proofs.cuts.keep.Tie as tie
 
 abbrev Inv-loop : tie.InvT-loop
-Inv-loop kept₀ bytes passed end₀ grid₀ parted₀ last₀ i₀ kept end grid parted last i = each keptOne (drop i bytes) (held kept (lineOf end grid parted last passed)) ≡ each keptOne bytes (held kept₀ (lineOf end₀ grid₀ parted₀ last₀ passed))
+Inv-loop kept₀ bytes passed end₀ grid₀ parted₀ last₀ i₀ kept end grid parted last i = each keptOne (drop i bytes) (held kept (lineWith end grid parted last passed)) ≡ each keptOne bytes (held kept₀ (lineWith end₀ grid₀ parted₀ last₀ passed))
 
 abbrev μ-loop : tie.MeasureT-loop
 μ-loop kept₀ bytes passed end₀ grid₀ parted₀ last₀ i₀ kept end grid parted last i = length bytes - i

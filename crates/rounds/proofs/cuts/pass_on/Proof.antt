@@ -7,7 +7,7 @@ use borrow.Author.Tests.{lt-ltb, le-ltb}
 use lib.Dec.{ltb}
 use Rattle.candidates.proofs.Tests.{cond-true, cond-false}
 use Rattle.rounds.specs.declared.cuts.Line.{Line}
-use Rattle.rounds.specs.code.Cuts.{stateOf, fedOf, freshLine, passedLine, passOn}
+use Rattle.rounds.specs.code.Cuts.{stateWith, fedWith, freshLine, passedLine, passOn}
 use Rattle.rounds.proofs.cuts.pass_on.Statement.{statement}
 use Rattle.rounds.proofs.cuts.pass_on.Tie as tie
 
@@ -26,9 +26,9 @@ returns c =
     let e = c .before in
     let a = e .before .before .before .before .args in
     let s = a .state in
-    let on = fedOf (stateOf (s .kept) freshLine (s .tally)) (a .end + 1) true (a .end + 1) in
-    let all = fedOf (stateOf (s .kept) (passedLine (s .line)) (s .tally)) (a .end) true (a .end) in
-    ap (λ (l : Line). fedOf (stateOf (s .kept) l (s .tally)) (a .end + 1) true (a .end + 1)) (c .fresh-line .ensures)
+    let on = fedWith (stateWith (s .kept) freshLine (s .tally)) (a .end + 1) true (a .end + 1) in
+    let all = fedWith (stateWith (s .kept) (passedLine (s .line)) (s .tally)) (a .end) true (a .end) in
+    ap (λ (l : Line). fedWith (stateWith (s .kept) l (s .tally)) (a .end + 1) true (a .end + 1)) (c .fresh-line .ensures)
     ∙ sym (cond-true (ltb (a .end) (a .length)) on all (lt-ltb (a .end) (a .length) (e .if1 .taken)))
 
 returns-2 : tie.Need-returns-2
@@ -36,8 +36,8 @@ unfolding passOn
 returns-2 c =
     let a = c .before .before .before .before .args in
     let s = a .state in
-    let on = fedOf (stateOf (s .kept) freshLine (s .tally)) (a .end + 1) true (a .end + 1) in
-    let all = fedOf (stateOf (s .kept) (passedLine (s .line)) (s .tally)) (a .end) true (a .end) in
+    let on = fedWith (stateWith (s .kept) freshLine (s .tally)) (a .end + 1) true (a .end + 1) in
+    let all = fedWith (stateWith (s .kept) (passedLine (s .line)) (s .tally)) (a .end) true (a .end) in
     sym (cond-false (ltb (a .end) (a .length)) on all (le-ltb (a .end) (a .length) (c .if1 .left)))
 
 pub pass-on-spec : {M : Type 1} → statement M

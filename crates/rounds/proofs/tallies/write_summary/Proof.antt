@@ -5,8 +5,8 @@ use lib.ListN.{getD}
 use Rattle.output.specs.Decimals.{decimal}
 use Rattle.output.specs.code.Tapes.{tape}
 use Rattle.output.proofs.Tapes.{joined}
-use Rattle.card.specs.Layout.{lineOf}
-use Rattle.rounds.specs.Summaries.{gridsLabel, finishedLabel, openLabel, deadLabel, refusedLabel, rightLabel, notLabel, summaryBytes}
+use Rattle.card.specs.Layout.{lineOf, refusedLabel}
+use Rattle.rounds.specs.Summaries.{gridsLabel, finishedLabel, openLabel, deadLabel, rightLabel, notLabel, summaryBytes}
 use Rattle.rounds.proofs.tallies.write_summary.Statement.{statement}
 use Rattle.rounds.proofs.tallies.write_summary.Tie as tie
 
