@@ -47,9 +47,10 @@ OTHERS = {
     "card": "card",
     "settle": "settling with its step list, from the fresh board",
     "steps": "check_steps, that list",
+    "difficulty": "difficulty",
 }
 # what the original has not
-ENGINE_ALONE = {"7", "8", "9", "10", "14", "11", "12", "15", "sheet", "canonical", "record", "card", "settle", "steps"}
+ENGINE_ALONE = {"7", "8", "9", "10", "14", "11", "12", "15", "sheet", "canonical", "record", "card", "settle", "steps", "difficulty"}
 # the wide passes and settling, and what the yardstick calls the last
 WIDE = ["7", "8", "9", "10", "14", "11", "12"]
 YARDSTICK = {"12": "settle6"}

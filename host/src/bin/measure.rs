@@ -4,7 +4,7 @@
 //!
 //! SIDE is original, plain or engine; CALL a step number, 255 for no step, or one of `verify`, `repeat` (the verifier where the second cell
 //! repeats the first), `read`, `open`, `count`, `enter`, `rub_out`, `sheet`, `canonical` (a canonical sheet written), `record`, `card`,
-//! `settle` (settling with its step list), `steps` (that list checked) and `setN` (0 insert, 1 remove, 2 contains, 3 len, 4 single_candidate). A round is 64 boards; for a step of the engine the boards of the file
+//! `settle` (settling with its step list), `difficulty`, `steps` (that list checked) and `setN` (0 insert, 1 remove, 2 contains, 3 len, 4 single_candidate). A round is 64 boards; for a step of the engine the boards of the file
 //! BOARDS in their place, where that is named: a line each, 81 clue characters, a space and 81 masks of three hexadecimal digits. What a call
 //! costs is the difference of two runs, divided by the difference of their calls; for a step also less what making the board costs, which 255
 //! has alone:
@@ -18,7 +18,7 @@ use sudoku_host::random::Random;
 use sudoku_host::sheet_cases::{ruled, BOXED};
 use sudoku_host::sides::{Call, Original, Plain, Side};
 use sudoku_host::records::{self, Form};
-use sudoku_host::{card, check_steps, clue_count, enter, grids, open, plain, read, read_record, read_sheet, rub_out, set, settle, step, step_lists, verify};
+use sudoku_host::{card, check_steps, clue_count, difficulty, enter, grids, open, plain, read, read_record, read_sheet, rub_out, set, settle, step, step_lists, verify};
 use sudoku_host::{write_record, write_sheet, Board, Clues, SetCall, NO_ENTRIES};
 
 const BOARDS: usize = 64;
@@ -45,6 +45,7 @@ fn main() {
         ("plain" | "engine", "record") => recording(side, &mut random, rounds),
         ("plain" | "engine", "card") => carding(side, &mut random, rounds),
         ("plain" | "engine", "settle") => settling(side, &mut random, rounds),
+        ("plain" | "engine", "difficulty") => rating(side, &mut random, rounds),
         ("plain" | "engine", "steps") => checking(side, &mut random, rounds),
         (_, call) if call.starts_with("set") => setting(side, call[3..].parse().unwrap_or_else(|_| usage()), rounds),
         ("original", step) => stepping::<Original>(&mut random, number(step), rounds),
@@ -55,7 +56,7 @@ fn main() {
 }
 
 fn usage() -> ! {
-    eprintln!("measure original|plain|engine STEP|verify|repeat|read|open|count|enter|rub_out|sheet|canonical|record|card|settle|steps|setN ROUNDS [BOARDS]");
+    eprintln!("measure original|plain|engine STEP|verify|repeat|read|open|count|enter|rub_out|sheet|canonical|record|card|settle|difficulty|steps|setN ROUNDS [BOARDS]");
     std::process::exit(2)
 }
 
@@ -213,6 +214,18 @@ fn rubbing_out(side: &str, random: &mut Random, rounds: usize) {
 fn first_entry(board: &Board) -> (usize, i32) {
     let cell = board.clues.iter().position(|&clue| clue == 0).expect("an open cell");
     (cell, board.masks[cell].trailing_zeros() as i32 % 9 + 1)
+}
+
+/// The difficulty figure, which settles the fresh board.
+fn rating(side: &str, random: &mut Random, rounds: usize) {
+    for board in boards(random) {
+        for _ in 0..rounds {
+            match side {
+                "engine" => drop(black_box(difficulty(black_box(&board)))),
+                _ => drop(black_box(plain::difficulty(black_box(&board)))),
+            }
+        }
+    }
 }
 
 /// A sheet as a program prints it, with rulings; the original has none.
