@@ -1,20 +1,21 @@
 -- Which numbers are steps, and which of them are not of a sort of calls. Assumes nothing.
 use mathlib.Core.Path.{_≡_, refl, sym, ap, _∙_}
 use mathlib.Core.Logic.{_≢_}
-use mathlib.Core.Bool.{Bool, true, false, not, _&&_}
+use mathlib.Core.Bool.{Bool, true, false, cond, not, _&&_, false≢true}
 use mathlib.Core.List.{List, [], _∷_, map}
 use mathlib.Core.Option.{Option, none, some}
-use Prim.Native.Nat.{ℕ, zero, suc, _<_, zero-le}
+use Prim.Native.Nat.{ℕ, zero, suc, _<_, _≤_, zero-le}
 use native.Mathlib.Omega.{arith}
 use borrow.Author.Tests.{lt-ltb, le-ltb, ltb-true, ltb-false, ne-eqb}
 use lib.Dec.{ltb, eqb}
-use lib.ListN.{length, getD}
+use lib.ListN.{length, getD, List·getD-eq-default}
 use Rattle.candidates.proofs.Tests.{below, both, implies, implied, T-true}
 use Rattle.steps.specs.Calls.{Call, isPorted, isChain, without}
 use Rattle.steps.specs.Loops.{upTo}
 use Rattle.steps.proofs.Loops.{none-first, in-upTo}
 use Rattle.calls.specs.Replays.{firstNoStep, consCall, callsOf}
 use Rattle.calls.specs.StepNumbers.{stepCalls, stepCall, isCall, isStep}
+use Rattle.calls.specs.code.QuietSteps.{isReporting, unreporting}
 
 -- a list's members have the numbers below its length
 numbers : (ks : List Call) (n : ℕ) → isCall (getD (map some ks) n none) ≡ ltb n (length ks)
@@ -81,3 +82,55 @@ all-steps ns h = none-first (λ i. not (isStep (getD ns i 0))) (upTo (length ns)
   where
     step : (n : ℕ) → n < 16 → not (isStep n) ≡ false
     step n low = ap not (sym (steps-below n) ∙ lt-ltb n 16 low)
+
+-- ---- the steps that report nothing
+
+-- past all of them there is no call
+no-call : {n : ℕ} → 16 ≤ n → stepCall n ≡ none
+unfolding stepCall
+no-call far = List·getD-eq-default (map some stepCalls) none far
+
+clear-same : (o : Option Call) → clear isReporting o ≡ true → unreporting o ≡ o
+unfolding clear
+clear-same none e = refl
+clear-same (some k) e = go (isReporting k) e
+  where
+    go : (t : Bool) → not t ≡ true → cond t none (some k) ≡ some k
+    go true e = absurd (false≢true e)
+    go false e = refl
+
+-- 4, 5 and 6 report
+pub quiet-same : {n : ℕ} → n ≢ 4 → n ≢ 5 → n ≢ 6 → unreporting (stepCall n) ≡ stepCall n
+unfolding clear stepCall
+quiet-same {n} four five six = go (ltb n 16) refl
+  where
+    other : ℕ → Bool
+    other n = not (eqb n 4) && not (eqb n 5) && not (eqb n 6)
+
+    is-other : other n ≡ true
+    is-other = both (both (ap not (ne-eqb n 4 four)) (ap not (ne-eqb n 5 five))) (ap not (ne-eqb n 6 six))
+
+    go : (t : Bool) → ltb n 16 ≡ t → unreporting (stepCall n) ≡ stepCall n
+    go true e =
+        clear-same (stepCall n)
+        (T-true (clear isReporting (stepCall n))
+        (implied (other n) (clear isReporting (stepCall n)) (below 16 (λ n. implies (other n) (clear isReporting (stepCall n))) tt n (ltb-true n 16 e)) is-other))
+    go false e = ap unreporting (no-call (ltb-false n 16 e)) ∙ sym (no-call (ltb-false n 16 e))
+
+-- a number of none of the others
+pub none-quiet : {n : ℕ} → 4 ≤ n → (7 ≤ n → 16 ≤ n) → none ≡ unreporting (stepCall n)
+unfolding stepCall
+none-quiet {n} low far = go (ltb n 7) refl
+  where
+    no-quiet : ℕ → Bool
+    no-quiet n = not (isCall (unreporting (stepCall n)))
+
+    empty : (o : Option Call) → not (isCall o) ≡ true → none ≡ o
+    empty none e = refl
+    empty (some k) e = absurd (false≢true e)
+
+    go : (t : Bool) → ltb n 7 ≡ t → none ≡ unreporting (stepCall n)
+    go true e =
+        empty (unreporting (stepCall n))
+        (T-true (no-quiet n) (implied (not (ltb n 4)) (no-quiet n) (below 7 (λ n. implies (not (ltb n 4)) (no-quiet n)) tt n (ltb-true n 7 e)) (ap not (le-ltb n 4 low))))
+    go false e = sym (ap unreporting (no-call (far (ltb-false n 7 e))))

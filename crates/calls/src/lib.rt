@@ -10,6 +10,7 @@ use techniques::singles::Reports;
 
 mod answers;
 mod lists;
+pub mod quiet;
 
 // What a step answers: whether there was progress, or that its number is no step's.
 pub enum Stepping {
@@ -32,23 +33,10 @@ pub fn step(number: u8, board: Board) -> Stepped
     ensures { λ r. ⌜ HandsBack r (boardOf board) (stepAnswer number (boardOf board)) ⌝ }
 {
     match number {
-        0 => answers::of_update(board.update_candidates()),
-        1 => answers::of_elimination(eliminations::apply_naked_pairs(board)),
-        2 => answers::of_elimination(eliminations::apply_box_line_reduction(board)),
-        3 => answers::of_elimination(eliminations::apply_x_wing(board)),
         4 => answers::of_reports(techniques::apply_naked_singles(board)),
         5 => answers::of_reports(techniques::apply_hidden_singles(board)),
         6 => answers::of_reports(techniques::apply_advanced_techniques(board)),
-        7 => answers::of_elimination(eliminations::apply_lone(board)),
-        8 => answers::of_elimination(eliminations::apply_place(board)),
-        9 => answers::of_elimination(eliminations::apply_pair(board)),
-        10 => answers::of_elimination(eliminations::apply_pointing(board)),
-        11 => answers::of_elimination(eliminations::apply_cross(board)),
-        12 => answers::settling(board),
-        13 => answers::of_elimination(eliminations::apply_alternating_inference_chains(board)),
-        14 => answers::of_elimination(eliminations::apply_claiming(board)),
-        15 => answers::of_elimination(eliminations::apply_x_chains(board)),
-        _ => answers::quiet(Stepping::NoStep, board),
+        _ => answers::of_quiet(number, board),
     }
 }
 

@@ -1,9 +1,10 @@
 // The calls that remove candidates: the ported eliminations with the original's names, the wide passes and the two chain passes. Each checks its board
 // first; what it removes is worked out over lent givens and masks by the crates below.
 ghost use mathlib.Core.Path.{_≡_};
-ghost use Rattle.steps.specs.Calls.{boxLineCall, chainCall, nakedPairsCall, outcome, wide, xChainCall, xWingCall};
+ghost use Rattle.stops.specs.Answer.{map, progressAnswer};
+ghost use Rattle.steps.specs.Calls.{answer, boxLineCall, chainCall, left, nakedPairsCall, outcome, wide, xChainCall, xWingCall};
 ghost use Rattle.steps.specs.Passes.{Claiming, Cross, Lone, Pair, Place, Pointing};
-ghost use Rattle.board.specs.Boards.{boardOf};
+ghost use Rattle.board.specs.Boards.{boardOf, handed};
 ghost use Rattle.eliminations.specs.Eliminations.{Eliminates};
 ghost use Rattle.eliminations.specs.code.Calls.{callOf};
 use board::Board;
@@ -64,34 +65,41 @@ pub fn eliminate(elimination: Elimination, givens: &[u8; 81], masks: &mut [u16; 
     }
 }
 
+// Such a call over a lent board, which is checked first; beside a refusal the masks stay as they were.
+pub fn eliminate_handed(
+    elimination: Elimination,
+    clues: &[i32; 81],
+    entries: &[i32; 81],
+    masks: &mut [u16; 81],
+) -> Progress
+    ensures { λ r. ⌜ progressAnswer r ≡ map (λ o. o .flag) (answer (callOf elimination) (handed (now (clues .entry)) (now (entries .entry)) (now (masks .entry)))) ⌝ }
+    ensures { λ _. ⌜ now (masks .exit) ≡ left (handed (now (clues .entry)) (now (entries .entry)) (now (masks .entry))) (answer (callOf elimination) (handed (now (clues .entry)) (now (entries .entry)) (now (masks .entry)))) .masks ⌝ }
+{
+    let givens = givens_of(clues, entries);
+    match check_given(clues, entries, &givens, masks) {
+        Check::Refused(stop) => Progress::Refused(stop),
+        Check::Passed => {
+            let before = *masks;
+            eliminate(elimination, &givens, masks);
+            Progress::Made(changed(before, *masks))
+        }
+    }
+}
+
 fn apply(elimination: Elimination, board: Board) -> Eliminated
     ensures { λ r. ⌜ Eliminates (callOf elimination) (boardOf board) r ⌝ }
 {
     let clues = board.clues;
     let entries = board.entries;
-    let before = board.masks;
     let mut masks = board.masks;
-    let givens = givens_of(&clues, &entries);
-    match check_given(&clues, &entries, &givens, &before) {
-        Check::Refused(stop) => Eliminated {
-            answer: Progress::Refused(stop),
-            board: Board {
-                clues,
-                entries,
-                masks,
-            },
+    let answer = eliminate_handed(elimination, &clues, &entries, &mut masks);
+    Eliminated {
+        answer,
+        board: Board {
+            clues,
+            entries,
+            masks,
         },
-        Check::Passed => {
-            eliminate(elimination, &givens, &mut masks);
-            Eliminated {
-                answer: Progress::Made(changed(before, masks)),
-                board: Board {
-                    clues,
-                    entries,
-                    masks,
-                },
-            }
-        }
     }
 }
 

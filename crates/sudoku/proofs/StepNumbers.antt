@@ -1,14 +1,17 @@
 -- The numbers of a step's answer, and what is made of its parts.
-use mathlib.Core.Path.{_≡_, refl}
+use mathlib.Core.Path.{_≡_, refl, sym, ap, _∙_}
+use mathlib.Core.Logic.{_≢_}
 use mathlib.Core.Bool.{Bool}
 use mathlib.Core.List.{List, []}
 use mathlib.Core.Option.{Option, none, some, Option·map}
 use Prim.Native.Nat.{ℕ, _<_, _≤_}
 use native.Mathlib.Omega.{arith}
+use borrow.Author.Tests.{ne-eqb}
 use lib.IntN.{pos}
 use lib.ListN.{length}
 use mir.Syntax.{w64}
 use mir.Val.{SFits}
+use Rattle.candidates.proofs.Tests.{cond-false}
 use Rattle.stops.specs.Answer.{Answer, gives, stop, map, passing}
 use Rattle.steps.specs.Boards.{Board, Givens, Admissible, givens, together}
 use Rattle.steps.specs.Calls.{Call, updateCandidates, nakedPairsCall, boxLineCall, xWingCall, nakedSinglesCall, hiddenSinglesCall, advancedCall, wide, settlingCall, chainCall, xChainCall, Outcome, outcome, checkOf, Admitted, answer}
@@ -19,6 +22,8 @@ use Rattle.steps.proofs.Lists.{settles}
 use Rattle.techniques.specs.Reports.{reportsOf}
 use Rattle.techniques.proofs.ReportLists.{naked-few, hidden-few, singles-few}
 use Rattle.calls.specs.StepNumbers.{stepCall, stepAnswer, outcomeOr}
+use Rattle.calls.specs.code.QuietSteps.{quietAnswer}
+use Rattle.calls.proofs.Arms.{quiet-reports}
 use Rattle.sudoku.specs.Steps.{answerCode, outcomeBytes, reportBytes}
 use Rattle.sudoku.specs.code.Parts.{partsCode, partsKept}
 use Rattle.sudoku.proofs.Fitting.{place-fits}
@@ -47,6 +52,22 @@ pub parts-bytes : (o : Option (Answer Outcome)) (lent : List ℕ) → partsKept 
 parts-bytes none lent = refl
 parts-bytes (some (gives o)) lent = refl
 parts-bytes (some (stop s)) lent = refl
+
+-- a quiet step that is not settling: what it counts is not told
+pub quiet-code : (n : ℕ) (b : Board) → n ≢ 12 → partsCode n (flagOf (quietAnswer n b)) 0 0 0 ≡ answerCode n (quietAnswer n b)
+unfolding reportsOf
+quiet-code n b other =
+    uncounted (flagOf o)
+    ∙ ap (λ (rs : List Report). partsCode n (flagOf o) (length rs) (sweepsIn o) (removedIn o)) (quiet-reports n b)
+    ∙ parts-code n o
+  where
+    o : Option (Answer Outcome)
+    o = quietAnswer n b
+
+    uncounted : (f : Option (Answer Bool)) → partsCode n f 0 0 0 ≡ partsCode n f 0 (sweepsIn o) (removedIn o)
+    uncounted none = refl
+    uncounted (some (gives x)) = cond-false _ _ _ (ne-eqb n 12 other) ∙ sym (cond-false _ _ _ (ne-eqb n 12 other))
+    uncounted (some (stop s)) = refl
 
 -- ---- its numbers are small
 

@@ -190,7 +190,7 @@ pub extern "C" fn sudoku_step(
 )
     ensures { λ _. ⌜ (now (answer .exit) ≡ stepCode step (handed (now (clues .entry)) (now (entries .entry)) (now (masks .entry)))) × (now (masks .exit) ≡ stepMasks step (handed (now (clues .entry)) (now (entries .entry)) (now (masks .entry)))) × (now (reports .exit) ≡ stepReports step (handed (now (clues .entry)) (now (entries .entry)) (now (masks .entry))) (now (reports .entry))) ⌝ }
 {
-    *masks = step_calls::step(step, *clues, *entries, *masks, reports, answer);
+    step_calls::step(step, clues, entries, masks, reports, answer);
 }
 
 // A digit entered in a cell of a board.

@@ -1,17 +1,22 @@
 // The board calls by their step numbers, one and lists of them: the four numbers, the masks, and the reports as bytes.
 ghost use mathlib.Core.Path.{_≡_};
+ghost use mathlib.Core.Option.{Option·map};
 ghost use lib.IntN.{pos};
+ghost use lib.ListN.{replicate};
 ghost use mir.Syntax.{w64};
 ghost use mir.Val.{SFits};
+ghost use Rattle.stops.specs.Answer.{map};
 ghost use Rattle.board.specs.Boards.{boardOf, handed};
 ghost use Rattle.calls.specs.Replays.{replayingAnswer};
-ghost use Rattle.calls.specs.StepNumbers.{steppingAnswer};
-ghost use Rattle.sudoku.specs.Steps.{ranCode, ranMasks, reportBytes, stepCode, stepMasks, stepReports, used, valuesCode};
+ghost use Rattle.calls.specs.StepNumbers.{outcomeOr, stepLeft, steppingAnswer};
+ghost use Rattle.calls.specs.code.QuietSteps.{quietAnswer};
+ghost use Rattle.sudoku.specs.Steps.{outcomeBytes, ranCode, ranMasks, reportBytes, stepCode, stepMasks, stepReports, used, valuesCode};
 ghost use Rattle.sudoku.specs.code.Parts.{RunFits, partsCode, partsKept};
 use crate::codes;
 use board::Board;
 use calls::Replaying;
 use calls::Stepping;
+use calls::quiet::quiet_step;
 use techniques::singles::Reports;
 
 // The number of settling, whose values are what it counts.
@@ -104,8 +109,36 @@ fn put_reports(stepping: Stepping, found: Reports, lent: &mut [u8; 648])
     }
 }
 
-// A board call on arrays: the masks that it leaves.
-pub fn step(
+// A step that was made and reports nothing leaves zeros.
+fn clear_reports(stepping: Stepping, lent: &mut [u8; 648])
+    ensures { λ _. ⌜ now (lent .exit) ≡ partsKept (steppingAnswer stepping) (replicate 648 0) (now (lent .entry)) ⌝ }
+{
+    match stepping {
+        Stepping::Refused(_) => {}
+        Stepping::Made(_) => *lent = [0u8; 648],
+        Stepping::NoStep => {}
+    }
+}
+
+// A step that reports and counts nothing, on arrays.
+fn quiet(
+    number: u8,
+    clues: &[i32; 81],
+    entries: &[i32; 81],
+    masks: &mut [u16; 81],
+    reports: &mut [u8; 648],
+    answer: &mut [i64; 4],
+)
+    ensures { λ _. ⌜ (now (answer .exit) ≡ partsCode number (Option·map (map (λ x. x .flag)) (quietAnswer number (handed (now (clues .entry)) (now (entries .entry)) (now (masks .entry))))) 0 0 0) × (now (masks .exit) ≡ stepLeft (handed (now (clues .entry)) (now (entries .entry)) (now (masks .entry))) (quietAnswer number (handed (now (clues .entry)) (now (entries .entry)) (now (masks .entry)))) .masks) × (now (reports .exit) ≡ outcomeOr (now (reports .entry)) outcomeBytes (quietAnswer number (handed (now (clues .entry)) (now (entries .entry)) (now (masks .entry))))) ⌝ }
+{
+    let done = quiet_step(number, clues, entries, masks);
+    let stepping = done.answer;
+    *answer = of_stepping(number, stepping, 0, 0, 0);
+    clear_reports(stepping, reports);
+}
+
+// Any step, on arrays that are copied: the masks that it leaves.
+fn reporting(
     number: u8,
     clues: [i32; 81],
     entries: [i32; 81],
@@ -127,4 +160,21 @@ pub fn step(
     *answer = of_stepping(number, stepping, found.count, done.sweeps, done.removed);
     put_reports(stepping, found, reports);
     board.masks
+}
+
+// A board call on arrays.
+pub fn step(
+    number: u8,
+    clues: &[i32; 81],
+    entries: &[i32; 81],
+    masks: &mut [u16; 81],
+    reports: &mut [u8; 648],
+    answer: &mut [i64; 4],
+)
+    ensures { λ _. ⌜ (now (answer .exit) ≡ stepCode number (handed (now (clues .entry)) (now (entries .entry)) (now (masks .entry)))) × (now (masks .exit) ≡ stepMasks number (handed (now (clues .entry)) (now (entries .entry)) (now (masks .entry)))) × (now (reports .exit) ≡ stepReports number (handed (now (clues .entry)) (now (entries .entry)) (now (masks .entry))) (now (reports .entry))) ⌝ }
+{
+    match number {
+        4..=6 | 12 => *masks = reporting(number, *clues, *entries, *masks, reports, answer),
+        _ => quiet(number, clues, entries, masks, reports, answer),
+    }
 }

@@ -1,34 +1,29 @@
--- `calls::answers::of_settling` meets its contract. Assumes nothing.
-use borrow.Author.Needs.{needs}
-use Rattle.passes.specs.Settlings.{settlingAnswer}
+-- Each arm says which case it is.
+use mathlib.Core.Path.{sym, ap, _∙_}
 use mathlib.Core.Bool.{false}
 use mathlib.Core.Option.{some}
+use borrow.Author.Needs.{needs}
 use Rattle.stops.specs.Answer.{map, valueOr}
+use Rattle.passes.specs.Settlings.{settlingAnswer}
 use Rattle.passes.specs.declared.Counts.{Counts}
 use Rattle.passes.specs.declared.Settling.{Settling}
-use mathlib.Core.Path.{refl, sym, ap, _∙_}
-use Rattle.calls.proofs.answers.of_settling.Statement.{statement}
-use Rattle.calls.proofs.answers.of_settling.Tie as tie
+use Rattle.calls.proofs.quiet.of_settling.Statement.{statement}
+use Rattle.calls.proofs.quiet.of_settling.Tie as tie
 
 enum-known-settling : tie.Need-enum-known-settling
 enum-known-settling c = search needs
 
-new-requires : tie.Need-new-requires
-new-requires c κs = search needs
-
 enum-known-settling-2 : tie.Need-enum-known-settling-2
 enum-known-settling-2 c = search needs
 
-quiet-requires : tie.Need-quiet-requires
-quiet-requires c κs = search needs
+uncounted-requires : tie.Need-uncounted-requires
+uncounted-requires c κs = search needs
 
 returns : tie.Need-returns
 returns c =
-    let is = sym (c .before .before .settling .given .1) in
+    let is = sym (c .before .settling .given .1) in
     record {
       flag = ap (λ (s : Settling). some (map (λ (k : Counts). false) (settlingAnswer s))) is;
-      board = refl;
-      reports = c .new .ensures;
       sweeps = ap (λ (s : Settling). valueOr 0 (map (λ (k : Counts). k .sweeps) (settlingAnswer s))) is;
       removed = ap (λ (s : Settling). valueOr 0 (map (λ (k : Counts). k .removed) (settlingAnswer s))) is;
     }
@@ -36,11 +31,9 @@ returns c =
 returns-2 : tie.Need-returns-2
 returns-2 c =
     let is = sym (c .before .before .settling2 .given .1) in
-    let h = c .quiet .ensures in
+    let h = c .uncounted .ensures in
     record {
       flag = h .flag ∙ ap (λ (s : Settling). some (map (λ (k : Counts). false) (settlingAnswer s))) is;
-      board = h .board;
-      reports = h .reports;
       sweeps = h .sweeps ∙ ap (λ (s : Settling). valueOr 0 (map (λ (k : Counts). k .sweeps) (settlingAnswer s))) is;
       removed = h .removed ∙ ap (λ (s : Settling). valueOr 0 (map (λ (k : Counts). k .removed) (settlingAnswer s))) is;
     }
@@ -48,10 +41,4 @@ returns-2 c =
 pub of-settling-spec : {M : Type 1} → statement M
 of-settling-spec =
     tie.close
-    (tie.spec
-    enum-known-settling
-    new-requires
-    enum-known-settling-2
-    quiet-requires
-    returns
-    returns-2)
+    (tie.spec enum-known-settling enum-known-settling-2 uncounted-requires returns returns-2)
