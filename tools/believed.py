@@ -2,8 +2,9 @@
 """The files that a reader must believe, in reading order, with their lines of definitions: the table of docs/PROOFS.md.
 
     python3 tools/believed.py          prints the table
-    python3 tools/believed.py --check  fails where docs/PROOFS.md has another one, or a file of specs/ is not in the list
+    python3 tools/believed.py --check  fails where docs/PROOFS.md has another one
 
+Both fail where a file of specs/ is not in the list, or imports from specs/code/ or from proofs/: a reader who believes the files of the table needs no others.
 A line of definitions is no import, no comment and not blank. Files of specs/code/ need no belief and are left out.
 """
 import os
@@ -94,11 +95,19 @@ ORDER = [
     ("sudoku/specs/Ratings", "the export of the difficulty figure"),
 ]
 PASSED_OVER = re.compile(r"\s*($|--|use |pub use |unfoldable pub use |pub mod |mod )")
+UNBELIEVED = re.compile(r"\s*(unfoldable )?(pub )?use Rattle·\S*\.(specs\.code|proofs)\b")
 
 
 def lines(path):
     with open(path, encoding="utf8") as spec:
         return sum(1 for line in spec if not PASSED_OVER.match(line))
+
+
+def check_imports(path):
+    with open(path, encoding="utf8") as spec:
+        for number, line in enumerate(spec, 1):
+            if UNBELIEVED.match(line):
+                sys.exit(f"{path}:{number}: a file that a reader must believe imports what needs no belief: {line.strip()}")
 
 
 def main():
@@ -112,7 +121,9 @@ def main():
             if name.endswith(".antt") and len(parts) > 3 and parts[2] == "specs":
                 if parts[3] in ("code", "code.antt"):
                     code += lines(path)
-                elif lines(path):
+                    continue
+                check_imports(path)
+                if lines(path):
                     believed.add("/".join(parts[1:])[: -len(".antt")])
     listed = [file for file, _ in ORDER]
     for file in sorted(believed.symmetric_difference(listed)):

@@ -1,25 +1,28 @@
 -- A call on a piece does what its bytes do, one after the other. Assumes nothing.
 use mathlib.Core.Path.{_≡_, refl, sym, ap, ap₂, subst, _∙_}
-use mathlib.Core.Bool.{Bool, true, false, cond, _&&_, _||_, true≢false, false≢true}
+use mathlib.Core.Bool.{Bool, true, false, cond, _&&_, _||_}
 use mathlib.Core.List.{List, [], _∷_, _++_, append-nil, append-assoc}
-use Prim.Native.Nat.{ℕ, zero, suc, _+_, _≤_, _<_}
+use Prim.Native.Nat.{ℕ, suc, _+_, _≤_, _<_}
 use native.Mathlib.Numerals.{add-one}
 use native.Mathlib.Decide.{decLt}
 use native.Mathlib.Omega.{arith}
 use borrow.Author.Tests.{eqb-true, eq-eqb, ne-eqb, ltb-false, lt-ltb, le-ltb}
 use lib.Dec.{eqb, ltb}
-use lib.ListN.{length, getD, take, drop, set}
-use lib.Seq.{take-suc, take-all}
+use lib.ListN.{length, getD, take, set}
+use lib.Seq.{take-suc}
 use Rattle.candidates.proofs.Tests.{by-test, cond-true, cond-false, neither}
 use Rattle.steps.specs.Loops.{each}
 use Rattle.steps.proofs.Loops.{each-append}
+use Rattle.output.specs.Lent.{over}
 use Rattle.output.specs.code.Tapes.{Tape, tape, pushed}
 use Rattle.rounds.specs.declared.cuts.Line.{Line}
 use Rattle.rounds.specs.declared.cuts.State.{State}
 use Rattle.rounds.specs.declared.cuts.Fed.{Fed}
-use Rattle.rounds.specs.code.Cuts.{stateWith, fedWith, freshLine, passedLine, keptOne, doneBytes, doneState, lineEnd, isPassed, passOn, keepOn, fed, fedBytes, handed, Run, run, lineDone, passedOne, keepOne, stepped}
+use Rattle.rounds.specs.Promises.{handedOut}
+use Rattle.rounds.specs.code.Cuts.{stateWith, fedWith, freshLine, passedLine, keptOne, doneBytes, doneState, lineEnd, isPassed, passOn, keepOn, fed, fedBytes, Run, run, lineDone, passedOne, keepOne, stepped}
 use Rattle.rounds.proofs.Cutting.{passed-bytes, passed-state, passed-fed, passed-none, whole-fed, whole-bytes, part-fed, part-none}
-use Rattle.rounds.proofs.Used.{end-most}
+use Rattle.rounds.proofs.Held.{take-over}
+use Rattle.rounds.proofs.Short.{done-short}
 
 -- ---- one byte
 
@@ -181,9 +184,9 @@ module _ (piece : List ℕ) (h : lineEnd piece < length piece) (r : Run) {t : Ru
 
 -- ---- a call
 
-module _ (s : State) (piece o : List ℕ) where
+module _ (s : State) (piece lent o : List ℕ) where
   abbrev Goes : Fed → List ℕ → Type 0
-  Goes f bytes = run (f .state) (o ++ cond (f .raw) (take (f .count) piece) bytes) ≡ each stepped (take (f .used) piece) (run s o)
+  Goes f bytes = run (f .state) (o ++ handedOut f piece (over bytes lent)) ≡ each stepped (take (f .used) piece) (run s o)
 
   goes-by : {f : Fed} {bytes : List ℕ} → f ≡ fed s piece → bytes ≡ fedBytes s piece → Goes f bytes → Goes (fed s piece) (fedBytes s piece)
   goes-by {f} {bytes} p q g = subst (λ (x : Fed). Goes x (fedBytes s piece)) p (subst (λ (x : List ℕ). Goes f x) q g)
@@ -202,8 +205,8 @@ module _ (s : State) (piece o : List ℕ) where
       append-assoc o (front piece) (10 ∷ [])
       ∙ ap (λ (x : List ℕ). o ++ x) (sym (ap (λ (n : ℕ). take n piece) (add-one (lineEnd piece)) ∙ take-suc piece (lineEnd piece) 0 h ∙ ap (λ (b : ℕ). front piece ++ (b ∷ [])) (ten-at piece h)))
 
-  pub fed-goes : run (fed s piece .state) (o ++ handed s piece) ≡ each stepped (take (fed s piece .used) piece) (run s o)
-  fed-goes = go (isPassed (s .line) (getD piece 0 0)) refl (decLt (lineEnd piece) (length piece))
+  pub fed-goes : length lent ≡ 256 → Goes (fed s piece) (fedBytes s piece)
+  fed-goes room = go (isPassed (s .line) (getD piece 0 0)) refl (decLt (lineEnd piece) (length piece))
     where
       go : (t : Bool) → isPassed (s .line) (getD piece 0 0) ≡ t → Dec (lineEnd piece < length piece) → Goes (fed s piece) (fedBytes s piece)
       go true p (yes h) =
@@ -211,7 +214,10 @@ module _ (s : State) (piece o : List ℕ) where
           (ap₂ run (passed-state (handing s) refl) (sym (ended-front h) ∙ ap (λ (x : List ℕ). (o ++ front piece) ++ x) (passed-bytes (handing s) refl))
           ∙ sym (with-ten piece h (run s o) (first-passed s piece o p)))
       go true p (no h) = goes-by (pass-part (omega arith) ∙ passed-fed s piece p) (passed-none s piece p) (sym (first-passed s piece o p))
-      go false p (yes h) = goes-by (whole-fed s piece p h) (whole-bytes s piece p h) (sym (with-ten piece h (run s o) (run-kept s piece o p)))
+      go false p (yes h) =
+          let k = keepOn s (front piece) in
+          let made = take-over (doneBytes k) lent (omega (arith, room, done-short k)) in
+          goes-by (whole-fed s piece p h) (whole-bytes s piece p h) (ap (λ (x : List ℕ). run (doneState k) (o ++ x)) made ∙ sym (with-ten piece h (run s o) (run-kept s piece o p)))
       go false p (no h) =
           let all : length piece ≤ lineEnd piece = omega arith in
           goes-by (part-fed s piece p all) (part-none s piece p all) (ap (run (keepOn s (front piece))) (append-nil o) ∙ sym (run-kept s piece o p))

@@ -1,15 +1,15 @@
 -- What is held of a line after its bytes, one after the other: its first 256 bytes and the length of its grid. Assumes nothing.
-use mathlib.Core.Path.{_≡_, refl, sym, ap, ap₂, subst, _∙_}
+use mathlib.Core.Path.{_≡_, refl, sym, ap, ap₂, _∙_}
 use mathlib.Core.Bool.{Bool, true, false, cond, _||_}
-use mathlib.Core.List.{List, [], _∷_, _++_}
-use Prim.Native.Nat.{ℕ, zero, suc, _+_, _-_, _≤_, _<_, min}
+use mathlib.Core.List.{List, [], _∷_}
+use Prim.Native.Nat.{ℕ, _+_, _-_, _≤_, _<_, min}
 use native.Mathlib.Decide.{decLe}
 use native.Mathlib.Omega.{arith}
 use borrow.Author.Tests.{lt-ltb, le-ltb}
 use lib.Dec.{eqb, ltb}
-use lib.ListN.{length, getD, set, take, drop, length-drop, length-set, take-append-drop}
+use lib.ListN.{length, getD, set, take, drop, take-append-drop}
 use lib.Seq.{take-all, take-length, length-take-le}
-use Rattle.candidates.proofs.Tests.{cond-true, cond-false, by-test}
+use Rattle.candidates.proofs.Tests.{cond-true, cond-false}
 use Rattle.steps.specs.Loops.{each, any}
 use Rattle.output.specs.Lent.{over}
 use Rattle.output.specs.code.Tapes.{Tape, tape, pushed, append}

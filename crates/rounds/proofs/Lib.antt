@@ -7,4 +7,4 @@ mod Feeding
 pub mod Whole
 pub mod RightAnswers
 pub mod Short
-pub mod Used
+mod Used

@@ -3,7 +3,7 @@ use mathlib.Core.Path.{_≡_}
 use mathlib.Core.Bool.{Bool, true, false, cond}
 use mathlib.Core.List.{List, [], _∷_, _++_}
 use mathlib.Core.Option.{Option, none, some}
-use Prim.Native.Nat.{ℕ, _+_, _-_, _≤_, _<_}
+use Prim.Native.Nat.{ℕ, _+_, _-_, _≤_}
 use native.Mathlib.Nat.{min-le-left}
 use native.Mathlib.Omega.{arith}
 use borrow.Author.Tests.{eqb-true}
@@ -17,7 +17,6 @@ use Rattle.grid.specs.Cells.{cells}
 use Rattle.grid.specs.Fillings.{verified}
 use Rattle.steps.specs.Boards.{Givens, givensOf, fresh}
 use Rattle.steps.specs.Difficulty.{Figure, openCells, pointsOf, passCounts, figureOf}
-use Rattle.steps.specs.Loops.{first}
 use Rattle.steps.proofs.Check.{clues-givens}
 use Rattle.steps.proofs.Loops.{first-by, in-upTo}
 use Rattle.text.specs.Texts.{isOther, firstOther, cluesOf, parseOf}
@@ -25,7 +24,7 @@ use Rattle.difficulty.specs.code.Rates.{rateOf}
 use Rattle.difficulty.proofs.Figures.{Small, small-of, points-few, cells-few}
 use Rattle.output.specs.Decimals.{decimal}
 use Rattle.output.proofs.Decimals.{decimal-few}
-use Rattle.card.specs.Cards.{cardFor, verdictWord, lengthWithout}
+use Rattle.card.specs.Cards.{cardFor, verdictWord}
 use Rattle.card.proofs.Cards.{read-few, word-few, refusal-short}
 use Rattle.rounds.specs.declared.answers.Checked.{Checked}
 use Rattle.rounds.specs.declared.answers.Checked.the-variants.{Wrong}
@@ -35,7 +34,7 @@ use Rattle.rounds.specs.Rounds.{Outcome, handedOn, refused, field, figur
 use Rattle.rounds.specs.Summaries.{top}
 use Rattle.rounds.specs.code.Kept.{answerAfter, readOutcome, scoredFrom, outcomeFrom}
 use Rattle.rounds.specs.declared.cuts.State.{State}
-use Rattle.rounds.specs.code.Cuts.{bareGrid, wholeOf, doneBytes}
+use Rattle.rounds.specs.code.Cuts.{bareGrid, wholeOf, doneBytes, isBegun, lastBytes}
 
 field-length : (xs : List ℕ) → length (field xs) ≡ length xs + 1
 unfolding field
@@ -125,3 +124,7 @@ done-short s =
     let kept = take (s .line .end) (s .kept) in
     let whole = wholeOf (s .line) in
     by-test (λ (bytes : List ℕ). length bytes ≤ 256) (s .line .passed) (10 ∷ []) (outcomeBytes kept (outcomeFrom kept whole)) (λ t. omega arith) (λ t. from-short kept whole (min-le-left top (bareGrid (s .line))))
+
+pub last-short : (s : State) → length (lastBytes s) ≤ 256
+unfolding lastBytes
+last-short s = by-test (λ (bytes : List ℕ). length bytes ≤ 256) (isBegun (s .line)) (doneBytes s) [] (λ _. done-short s) (λ _. omega arith)

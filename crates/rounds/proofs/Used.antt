@@ -9,7 +9,6 @@ use lib.Dec.{eqb, ltb}
 use lib.ListN.{length, getD, take}
 use Rattle.candidates.proofs.Tests.{by-test}
 use Rattle.rounds.specs.declared.cuts.State.{State}
-use Rattle.rounds.specs.declared.cuts.Fed.{Fed}
 use Rattle.rounds.specs.code.Cuts.{stateWith, fedWith, freshLine, passedLine, doneBytes, doneState, lineEnd, isPassed, passOn, keepOn, fed}
 
 pub end-most : (xs : List ℕ) → lineEnd xs ≤ length xs

@@ -1,55 +1,40 @@
 -- The pieces of an input, wherever they end, give the lines of the whole input and its tally. Assumes nothing.
 use mathlib.Core.Path.{_≡_, refl, sym, ap, ap₂, subst, _∙_}
-use mathlib.Core.Bool.{Bool, true, false, cond, not, _&&_, _||_, true≢false, false≢true}
+use mathlib.Core.Bool.{Bool, true, false, not, _&&_, _||_, true≢false}
 use mathlib.Core.List.{List, [], _∷_, _++_, append-nil, append-assoc}
-use Prim.Native.Nat.{ℕ, zero, suc, _+_, _≤_, _<_}
+use Prim.Native.Nat.{ℕ, _+_, _<_}
 use native.Mathlib.Omega.{arith}
-use borrow.Author.Tests.{eqb-true, eq-eqb, ne-eqb, ltb-false}
-use lib.Dec.{eqb, ltb}
-use lib.ListN.{length, getD, take, drop, set, replicate, length-append, length-drop, take-append-drop}
-use Rattle.candidates.proofs.Tests.{by-test, cond-true, cond-false}
+use borrow.Author.Tests.{eqb-true}
+use lib.Dec.{eqb}
+use lib.ListN.{length, getD, take, replicate, length-append}
+use Rattle.candidates.proofs.Tests.{cond-true, cond-false}
 use Rattle.steps.specs.Loops.{each, for}
 use Rattle.steps.proofs.Loops.{each-append}
-use Rattle.output.specs.code.Tapes.{Tape, tape, pushed}
+use Rattle.output.specs.Lent.{over}
 use Rattle.rounds.specs.declared.cuts.Line.{Line}
 use Rattle.rounds.specs.declared.cuts.State.{State}
-use Rattle.rounds.specs.Lines.{lastLine, cut, bareLength, isHandedOn}
+use Rattle.rounds.specs.Lines.{lastLine, cut, bareLength, bare, isHandedOn}
 use Rattle.rounds.specs.Rounds.{handedOn, outcomeOf, outcomeBytes, textOutcome, roundLine}
-use Rattle.rounds.specs.Lines.{bare}
 use Rattle.rounds.specs.Summaries.{top, tallied, noTally}
-use Rattle.rounds.specs.Promises.{CutAnywhere, CutsSay}
+use Rattle.rounds.specs.Promises.{Calls, fresh, next, Whole, CutsSay}
 use Rattle.rounds.specs.code.Kept.{outcomeFrom}
-use Rattle.rounds.specs.code.Cuts.{stateWith, Held, held, freshLine, passedLine, keptOne, wholeOf, heldOutcome, doneBytes, doneState, isPassed, keepOn, fed, handed, isBegun, lastBytes, lastState, Run, run, lineDone, passedOne, keepOne, stepped, finished, fedThrough}
+use Rattle.rounds.specs.code.Cuts.{stateWith, Held, held, freshLine, freshState, passedLine, keptOne, heldOutcome, doneBytes, doneState, isPassed, keepOn, fed, fedBytes, isBegun, lastBytes, lastState, Run, run, stepped, finished}
 use Rattle.rounds.proofs.Cutting.{passed-bytes, passed-state, held-bytes, held-state, begun-bytes, begun-state, unbegun-bytes, unbegun-state}
 use Rattle.rounds.proofs.Feeding.{step-end, step-passed, step-kept, kept-plain, keep-none, keep-more, each-first, each-none, fed-goes}
-use Rattle.rounds.proofs.Held.{never-passed, kept-first, kept-size, whole-counted}
+use Rattle.rounds.proofs.Held.{take-over, never-passed, kept-first, kept-size, whole-counted}
 use Rattle.rounds.proofs.Outcomes.{from-is, bytes-is}
-use Rattle.rounds.proofs.Used.{used-some}
+use Rattle.rounds.proofs.Short.{last-short}
+use Rattle.rounds.proofs.Used.{used-within, used-some}
 
--- ---- the calls on a piece are its bytes
+-- ---- calls are the bytes that they used, one after the other
 
-through : (k : ℕ) (piece : List ℕ) (r : Run) → length piece ≤ k → fedThrough k piece r ≡ each stepped piece r
-unfolding fedThrough each
-through zero [] r h = refl
-through zero (b ∷ bs) r h = absurd (omega arith)
-through (suc k) [] r h = cond-true (eqb 0 0) r (fedThrough k (drop (fed (r .state) [] .used) []) (run (fed (r .state) [] .state) (r .out ++ handed (r .state) []))) (eq-eqb 0 0 refl)
-through (suc k) (b ∷ bs) r h =
-    let piece = b ∷ bs in
-    let n = fed (r .state) piece .used in
-    let next = run (fed (r .state) piece .state) (r .out ++ handed (r .state) piece) in
-    cond-false (eqb (length piece) 0) r (fedThrough k (drop n piece) next) (ne-eqb (length piece) 0 (λ e. omega (arith, e)))
-    ∙ through k (drop n piece) next (omega (arith, length-drop n piece, used-some (r .state) piece (omega arith)))
-    ∙ ap (each stepped (drop n piece)) (fed-goes (r .state) piece (r .out))
-    ∙ sym (each-append stepped (take n piece) (drop n piece) r)
-    ∙ ap (λ (x : List ℕ). each stepped x r) (take-append-drop n piece)
-
-all-through : (pieces : List (List ℕ)) (r : Run) → each (λ piece. fedThrough (length piece) piece) pieces r ≡ each stepped (for pieces (λ piece. piece)) r
-unfolding each for
-all-through [] r = refl
-all-through (p ∷ ps) r =
-    ap (each (λ piece. fedThrough (length piece) piece) ps) (through (length p) p r (omega arith))
-    ∙ all-through ps (each stepped p r)
-    ∙ sym (each-append stepped p (for ps (λ piece. piece)) r)
+calls-step : {s : State} {input out : List ℕ} → Calls freshState fed fedBytes lastState lastBytes s input out → run s out ≡ each stepped input (run freshState [])
+calls-step fresh = sym (each-none (run freshState []))
+calls-step (next {s} {input} {out} piece lent room calls) =
+    let n = fed s piece .used in
+    fed-goes s piece lent out room
+    ∙ ap (each stepped (take n piece)) (calls-step calls)
+    ∙ sym (each-append stepped input (take n piece) (run freshState []))
 
 -- ---- a line that is kept
 
@@ -285,14 +270,20 @@ both (b ∷ bs) =
       hands = λ kept tally x l o size few. says-at (each-first b bs (run (stateWith kept (passedLine x) tally) (o ++ (35 ∷ l)))) (hands-on b bs ih kept tally x l o size few);
     }
 
-pub cuts-say : CutsSay
-cuts-say = record { cut = λ pieces few. anywhere pieces few }
+-- what `finish` writes over lent bytes
+last-over : (s : State) (lent : List ℕ) → length lent ≡ 256 → take (length (lastBytes s)) (over (lastBytes s) lent) ≡ lastBytes s
+last-over s lent room = take-over (lastBytes s) lent (omega (arith, room, last-short s))
+
+pub cuts-say : CutsSay freshState fed fedBytes lastState lastBytes
+cuts-say = record { used = λ s piece some. (used-some s piece some, used-within s piece); cut = λ calls few. whole calls few }
   where
-    anywhere : (pieces : List (List ℕ)) → length (for pieces (λ piece. piece)) < top → CutAnywhere pieces
-    anywhere pieces few =
-        let input = for pieces (λ piece. piece) in
+    whole : {s : State} {input out : List ℕ} → Calls freshState fed fedBytes lastState lastBytes s input out → length input < top → Whole freshState fed fedBytes lastState lastBytes s input out
+    whole {s} {input} {out} calls few =
         let lent : List ℕ = replicate 256 0 in
         let start = stateWith lent freshLine noTally in
-        let same = all-through pieces (run start []) ∙ ap (λ (x : State). each stepped input (run x [])) (sym (keep-none start)) in
+        let same = calls-step calls ∙ ap (λ (x : State). each stepped input (run x [])) (sym (keep-none start)) in
         let w = both input .keeps lent noTally [] [] refl (omega (arith, few)) refl in
-        record { output = ap (λ (r : Run). finished r .out) same ∙ w .output; tally = ap (λ (r : Run). finished r .state .tally) same ∙ w .counts }
+        record {
+          output = λ lent room. ap (λ (x : List ℕ). out ++ x) (last-over s lent room) ∙ ap (λ (r : Run). finished r .out) same ∙ w .output;
+          tally = ap (λ (r : Run). finished r .state .tally) same ∙ w .counts;
+        }

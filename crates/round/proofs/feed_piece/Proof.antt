@@ -5,7 +5,7 @@ use native.Mathlib.Omega.{arith}
 use borrow.Author.Needs.{needs}
 use lib.ListN.{length, take, drop, length-take, length-drop}
 use Rattle.rounds.specs.declared.cuts.Fed.{Fed}
-use Rattle.rounds.proofs.Used.{used-within, used-some}
+use Rattle.rounds.proofs.Whole.{cuts-say}
 use Rattle.round.proofs.feed_piece.Statement.{statement}
 use Rattle.round.proofs.feed_piece.Tie as tie
 
@@ -26,7 +26,8 @@ goes c =
     let is = ap (λ (f : Fed). f .used) (c .feed .ensures .0) in
     let size : length rest ≡ length piece - at = omega (arith, length-take (length piece - at) (drop at piece), length-drop at piece) in
     let more : 0 < length rest = omega (arith, size, i .loop-test .taken) in
-    (omega (arith, is, used-some (l .loop .now) rest more), omega (arith, is, size, used-within (l .loop .now) rest, l .loop .inv))
+    let used = cuts-say .used (l .loop .now) rest more in
+    (omega (arith, is, used .0), omega (arith, is, size, used .1, l .loop .inv))
 
 loop-holds : tie.Need-loop-holds Inv-loop μ-loop
 loop-holds c = omega arith

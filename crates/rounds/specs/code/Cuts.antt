@@ -1,9 +1,9 @@
 -- Cutting bytes into lines: what a call does with a piece of the input, and the same byte by byte.
 use mathlib.Core.Bool.{Bool, true, false, cond, not, _&&_, _||_}
 use mathlib.Core.List.{List, [], _∷_, _++_}
-use Prim.Native.Nat.{ℕ, zero, suc, _+_, _-_, min}
+use Prim.Native.Nat.{ℕ, suc, _+_, _-_, min}
 use lib.Dec.{eqb, ltb}
-use lib.ListN.{length, getD, take, drop, replicate}
+use lib.ListN.{length, getD, take, replicate}
 use Rattle.steps.specs.Loops.{each}
 use Rattle.output.specs.code.Tapes.{tape, pushed}
 use Rattle.rounds.specs.declared.cuts.Line.{Line}
@@ -104,10 +104,6 @@ fedBytes s piece =
     let n = lineEnd piece in
     cond (isPassed (s .line) (getD piece 0 0)) [] (cond (ltb n (length piece)) (doneBytes (keepOn s (take n piece))) [])
 
--- what is handed out after it
-abbrev pub handed : State → List ℕ → List ℕ
-handed s piece = cond (fed s piece .raw) (take (fed s piece .count) piece) (fedBytes s piece)
-
 -- a last line that no byte 10 ends
 abbrev pub isBegun : Line → Bool
 isBegun l = l .passed || not (eqb (l .end) 0)
@@ -141,14 +137,3 @@ stepped b r = cond (eqb b 10) (lineDone r) (cond (isPassed (r .state .line) b) (
 
 abbrev pub finished : Run → Run
 finished r = run (lastState (r .state)) (r .out ++ lastBytes (r .state))
-
--- the calls on a piece and on what each leaves of it; there are no more calls than bytes
-unfoldable pub fedThrough : ℕ → List ℕ → Run → Run
-fedThrough zero piece r = r
-fedThrough (suc k) piece r =
-    let next = fedThrough k (drop (fed (r .state) piece .used) piece) (run (fed (r .state) piece .state) (r .out ++ handed (r .state) piece)) in
-    cond (eqb (length piece) 0) r next
-
--- any pieces, one after the other, and the end of the input
-abbrev pub fedAll : List (List ℕ) → Run
-fedAll pieces = finished (each (λ piece. fedThrough (length piece) piece) pieces (run freshState []))
