@@ -13,7 +13,6 @@ use Rattle.steps.specs.Boards as S
 use Rattle.steps.specs.Boards.{givens, withMasks}
 use Rattle.steps.specs.Calls.{Call, updateCandidates, nakedPairsCall, boxLineCall, xWingCall, nakedSinglesCall, hiddenSinglesCall, advancedCall, wide, settlingCall, chainCall, xChainCall, Outcome, checkOf, outcome, answer}
 use Rattle.board.specs.Boards.{boardOf}
-use Rattle.techniques.specs.Reports.{reportsOf}
 use Rattle.techniques.specs.Techniques.{Finds}
 use Rattle.techniques.specs.declared.Reported.{Reported}
 use Rattle.passes.specs.Settlings.{countsOf}
@@ -21,7 +20,7 @@ use Rattle.passes.specs.declared.Counts.{Counts}
 use Rattle.eliminations.specs.code.Calls.{callOf}
 use Rattle.eliminations.specs.declared.Elimination.{Elimination}
 use Rattle.eliminations.specs.declared.Elimination.the-variants as by
-use Rattle.eliminations.proofs.Left.{masks-left}
+use Rattle.techniques.proofs.Left.{masks-left}
 use Rattle.calls.specs.StepNumbers.{stepCalls, stepCall, stepAnswer, stepLeft, outcomeOr, Hands, HandsBack}
 use Rattle.calls.specs.code.QuietSteps.{Tells, TellsBack, quietAnswer, unreporting}
 use Rattle.calls.specs.declared.Stepped.{Stepped}

@@ -16,19 +16,20 @@ use Rattle.passes.specs.Settlings.{Settles, countsOf, settlingAnswer, stepsDone
 use Rattle.passes.specs.declared.Counts.{Counts}
 use Rattle.passes.specs.declared.SettledBoard.{SettledBoard}
 use Rattle.passes.proofs.StepValues.{few-steps}
-use Rattle.calls.specs.StepNumbers.{stepCall, stepAnswer}
+use Rattle.calls.specs.StepNumbers.{stepCall}
+use Rattle.calls.specs.code.QuietSteps.{quietAnswer}
 use Rattle.sudoku.specs.Settlings.{settledCode, settleCode, settleSteps, settleCounts}
 use Rattle.sudoku.specs.code.Fitting.{CountsFit}
 use Rattle.sudoku.proofs.Fitting.{place-fits}
-use Rattle.sudoku.proofs.StepNumbers.{StepFits, step-fits}
+use Rattle.sudoku.proofs.StepNumbers.{OutcomeFits, quiet-fits}
 
 module _ (b : Board) (clues : length (b .clues) ≡ 81) (entries : length (b .entries) ≡ 81) (masks : length (b .masks) ≡ 81) where
   pub counts-fit : CountsFit (map countsOf (answer settlingCall b))
-  unfolding stepAnswer stepCall
-  counts-fit = go (answer settlingCall b) (step-fits b clues entries masks 12)
+  unfolding quietAnswer stepCall
+  counts-fit = go (answer settlingCall b) (quiet-fits b clues entries masks 12)
     where
-      go : (a : Answer Outcome) → StepFits (some a) → CountsFit (map countsOf a)
-      go (gives o) f = (f .sweeps, f .removed)
+      go : (a : Answer Outcome) → OutcomeFits (some a) → CountsFit (map countsOf a)
+      go (gives o) f = f
       go (stop s) f = tt
 
   pub steps-fit : SFits w64 (pos (length (stepsDone b)))

@@ -1,50 +1,48 @@
 // The board calls by their step numbers, one and lists of them: the four numbers, the masks, and the reports as bytes.
 ghost use mathlib.Core.Path.{_≡_};
-ghost use mathlib.Core.Option.{Option·map};
 ghost use lib.IntN.{pos};
-ghost use lib.ListN.{replicate};
+ghost use lib.ListN.{length, replicate};
 ghost use mir.Syntax.{w64};
 ghost use mir.Val.{SFits};
-ghost use Rattle.stops.specs.Answer.{map};
+ghost use Rattle.stops.specs.Answer.{map, valueOr};
+ghost use Rattle.steps.specs.Calls as steps;
 ghost use Rattle.board.specs.Boards.{boardOf, handed};
+ghost use Rattle.techniques.specs.code.Pushes.{stored};
+ghost use Rattle.techniques.specs.code.Searches.{searchCall};
 ghost use Rattle.calls.specs.Replays.{replayingAnswer};
 ghost use Rattle.calls.specs.StepNumbers.{outcomeOr, stepLeft, steppingAnswer};
 ghost use Rattle.calls.specs.code.QuietSteps.{quietAnswer};
-ghost use Rattle.sudoku.specs.Steps.{outcomeBytes, ranCode, ranMasks, reportBytes, stepCode, stepMasks, stepReports, used, valuesCode};
-ghost use Rattle.sudoku.specs.code.Parts.{RunFits, partsCode, partsKept};
+ghost use Rattle.sudoku.specs.Steps.{answerCode, outcomeBytes, ranCode, ranMasks, reportBytes, stepCode, stepMasks, stepReports, used, valuesCode};
+ghost use Rattle.sudoku.specs.code.Parts.{RunFits, partsCode, partsKept, reportedCode};
 use crate::codes;
 use board::Board;
 use calls::Replaying;
 use calls::Stepping;
 use calls::quiet::quiet_step;
-use techniques::singles::Reports;
+use stops::Progress;
+use techniques::Search;
+use techniques::report_handed;
 
 // The number of settling, whose values are what it counts.
 const SETTLING: u8 = 12;
 
-fn of_values(number: u8, made: bool, reports: usize, sweeps: usize, removed: usize) -> [i64; 4]
-    requires { ⌜ SFits w64 (pos reports) × SFits w64 (pos sweeps) × SFits w64 (pos removed) ⌝ }
-    ensures { λ r. ⌜ r ≡ valuesCode number made reports sweeps removed ⌝ }
+fn of_values(number: u8, made: bool, sweeps: usize, removed: usize) -> [i64; 4]
+    requires { ⌜ SFits w64 (pos sweeps) × SFits w64 (pos removed) ⌝ }
+    ensures { λ r. ⌜ r ≡ valuesCode number made 0 sweeps removed ⌝ }
 {
     if number == SETTLING {
         return [0, 0, sweeps as i64, removed as i64];
     }
-    [0, 0, codes::of_test(made), reports as i64]
+    [0, 0, codes::of_test(made), 0]
 }
 
-fn of_stepping(
-    number: u8,
-    stepping: Stepping,
-    reports: usize,
-    sweeps: usize,
-    removed: usize,
-) -> [i64; 4]
-    requires { ⌜ SFits w64 (pos reports) × SFits w64 (pos sweeps) × SFits w64 (pos removed) ⌝ }
-    ensures { λ r. ⌜ r ≡ partsCode number (steppingAnswer stepping) reports sweeps removed ⌝ }
+fn of_stepping(number: u8, stepping: Stepping, sweeps: usize, removed: usize) -> [i64; 4]
+    requires { ⌜ SFits w64 (pos sweeps) × SFits w64 (pos removed) ⌝ }
+    ensures { λ r. ⌜ r ≡ partsCode number (steppingAnswer stepping) sweeps removed ⌝ }
 {
     match stepping {
         Stepping::Refused(stop) => codes::of_stop(stop, 0),
-        Stepping::Made(made) => of_values(number, made, reports, sweeps, removed),
+        Stepping::Made(made) => of_values(number, made, sweeps, removed),
         Stepping::NoStep => codes::of_unknown(number),
     }
 }
@@ -86,26 +84,16 @@ fn used(count: usize) -> usize
 }
 
 // Two bytes a report, and zeros after the last.
-fn put_bytes(reports: Reports, bytes: &mut [u8; 648])
-    ensures { λ _. ⌜ now (bytes .exit) ≡ reportBytes reports ⌝ }
+fn put_bytes(cells: &[u8; 324], digits: &[u8; 324], reports: usize, bytes: &mut [u8; 648])
+    ensures { λ _. ⌜ now (bytes .exit) ≡ reportBytes (stored (now (cells .entry)) (now (digits .entry)) reports) ⌝ }
 {
-    let count = used(reports.count);
+    let count = used(reports);
     *bytes = [0u8; 648];
     let mut report: usize = 0;
     while report < count {
-        bytes[2 * report] = reports.cells[report];
-        bytes[2 * report + 1] = reports.digits[report];
+        bytes[2 * report] = cells[report];
+        bytes[2 * report + 1] = digits[report];
         report += 1;
-    }
-}
-
-fn put_reports(stepping: Stepping, found: Reports, lent: &mut [u8; 648])
-    ensures { λ _. ⌜ now (lent .exit) ≡ partsKept (steppingAnswer stepping) (reportBytes found) (now (lent .entry)) ⌝ }
-{
-    match stepping {
-        Stepping::Refused(_) => {}
-        Stepping::Made(_) => put_bytes(found, lent),
-        Stepping::NoStep => {}
     }
 }
 
@@ -120,7 +108,12 @@ fn clear_reports(stepping: Stepping, lent: &mut [u8; 648])
     }
 }
 
-// A step that reports and counts nothing, on arrays.
+// Lent arrays are as long as their types say. A proof knows it of values alone; the compiler makes no copy for it.
+fn whole(clues: [i32; 81], entries: [i32; 81], masks: [u16; 81])
+    ensures { λ _. ⌜ (length clues ≡ 81) × (length entries ≡ 81) × (length masks ≡ 81) ⌝ }
+{}
+
+// A step that reports nothing, on arrays.
 fn quiet(
     number: u8,
     clues: &[i32; 81],
@@ -129,37 +122,38 @@ fn quiet(
     reports: &mut [u8; 648],
     answer: &mut [i64; 4],
 )
-    ensures { λ _. ⌜ (now (answer .exit) ≡ partsCode number (Option·map (map (λ x. x .flag)) (quietAnswer number (handed (now (clues .entry)) (now (entries .entry)) (now (masks .entry))))) 0 0 0) × (now (masks .exit) ≡ stepLeft (handed (now (clues .entry)) (now (entries .entry)) (now (masks .entry))) (quietAnswer number (handed (now (clues .entry)) (now (entries .entry)) (now (masks .entry)))) .masks) × (now (reports .exit) ≡ outcomeOr (now (reports .entry)) outcomeBytes (quietAnswer number (handed (now (clues .entry)) (now (entries .entry)) (now (masks .entry))))) ⌝ }
+    ensures { λ _. ⌜ (now (answer .exit) ≡ answerCode number (quietAnswer number (handed (now (clues .entry)) (now (entries .entry)) (now (masks .entry))))) × (now (masks .exit) ≡ stepLeft (handed (now (clues .entry)) (now (entries .entry)) (now (masks .entry))) (quietAnswer number (handed (now (clues .entry)) (now (entries .entry)) (now (masks .entry)))) .masks) × (now (reports .exit) ≡ outcomeOr (now (reports .entry)) outcomeBytes (quietAnswer number (handed (now (clues .entry)) (now (entries .entry)) (now (masks .entry))))) ⌝ }
 {
+    whole(*clues, *entries, *masks);
     let done = quiet_step(number, clues, entries, masks);
     let stepping = done.answer;
-    *answer = of_stepping(number, stepping, 0, 0, 0);
+    *answer = of_stepping(number, stepping, done.sweeps, done.removed);
     clear_reports(stepping, reports);
 }
 
-// Any step, on arrays that are copied: the masks that it leaves.
+// A step that reports, on arrays.
 fn reporting(
-    number: u8,
-    clues: [i32; 81],
-    entries: [i32; 81],
-    masks: [u16; 81],
+    search: Search,
+    clues: &[i32; 81],
+    entries: &[i32; 81],
+    masks: &mut [u16; 81],
     reports: &mut [u8; 648],
     answer: &mut [i64; 4],
-) -> [u16; 81]
-    ensures { λ r. ⌜ (r ≡ stepMasks number (handed clues entries masks)) × (now (reports .exit) ≡ stepReports number (handed clues entries masks) (now (reports .entry))) × (now (answer .exit) ≡ stepCode number (handed clues entries masks)) ⌝ }
+)
+    ensures { λ _. ⌜ (now (answer .exit) ≡ reportedCode (steps.answer (searchCall search) (handed (now (clues .entry)) (now (entries .entry)) (now (masks .entry))))) × (now (masks .exit) ≡ steps.left (handed (now (clues .entry)) (now (entries .entry)) (now (masks .entry))) (steps.answer (searchCall search) (handed (now (clues .entry)) (now (entries .entry)) (now (masks .entry)))) .masks) × (now (reports .exit) ≡ valueOr (now (reports .entry)) (map outcomeBytes (steps.answer (searchCall search) (handed (now (clues .entry)) (now (entries .entry)) (now (masks .entry)))))) ⌝ }
 {
-    let handed = Board {
-        clues,
-        entries,
-        masks,
-    };
-    let done = calls::step(number, handed);
-    let stepping = done.answer;
-    let found = done.reports;
-    let board = done.board;
-    *answer = of_stepping(number, stepping, found.count, done.sweeps, done.removed);
-    put_reports(stepping, found, reports);
-    board.masks
+    let mut cells = [0u8; 324];
+    let mut digits = [0u8; 324];
+    let done = report_handed(search, clues, entries, masks, &mut cells, &mut digits);
+    let progress = done.answer;
+    let count = done.count;
+    match progress {
+        Progress::Refused(stop) => *answer = codes::of_stop(stop, 0),
+        Progress::Made(made) => {
+            *answer = [0, 0, codes::of_test(made), count as i64];
+            put_bytes(&cells, &digits, count, reports);
+        }
+    }
 }
 
 // A board call on arrays.
@@ -174,7 +168,9 @@ pub fn step(
     ensures { λ _. ⌜ (now (answer .exit) ≡ stepCode number (handed (now (clues .entry)) (now (entries .entry)) (now (masks .entry)))) × (now (masks .exit) ≡ stepMasks number (handed (now (clues .entry)) (now (entries .entry)) (now (masks .entry)))) × (now (reports .exit) ≡ stepReports number (handed (now (clues .entry)) (now (entries .entry)) (now (masks .entry))) (now (reports .entry))) ⌝ }
 {
     match number {
-        4..=6 | 12 => *masks = reporting(number, *clues, *entries, *masks, reports, answer),
+        4 => reporting(Search::Naked, clues, entries, masks, reports, answer),
+        5 => reporting(Search::Hidden, clues, entries, masks, reports, answer),
+        6 => reporting(Search::Advanced, clues, entries, masks, reports, answer),
         _ => quiet(number, clues, entries, masks, reports, answer),
     }
 }

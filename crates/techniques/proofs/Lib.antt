@@ -6,3 +6,4 @@ pub mod WingsDue
 pub mod ReportLists
 pub mod HeldOnce
 pub mod SinglesFound
+pub mod Left

@@ -9,14 +9,16 @@ use borrow.Author.Tests.{lt-ltb}
 use lib.Dec.{eqb, ltb, lit≤}
 use lib.IntN.{ℤ}
 use lib.ListN.{length, set, replicate, length-append, length-map}
+use Rattle.stops.specs.Answer as answers
+use Rattle.stops.specs.Answer.{Answer, gives, stop, passing, valueOr}
 use Rattle.candidates.specs.Masks.{count, lowest}
 use Rattle.candidates.specs.Sets.{onlyOf}
 use Rattle.candidates.proofs.Tests.{cond-true}
 use Rattle.grid.specs.Cells.{cells}
 use Rattle.grid.specs.Units.{unitCell}
 use Rattle.grid.proofs.Fills.{fill-next}
-use Rattle.steps.specs.Boards.{at, isOpen}
-use Rattle.steps.specs.Calls.{isSome}
+use Rattle.steps.specs.Boards.{Board, at, givens, isOpen}
+use Rattle.steps.specs.Calls.{answer, checkOf, isSome, outcome}
 use Rattle.steps.specs.Loops.{each, for, upTo}
 use Rattle.steps.specs.Ported.{spots}
 use Rattle.steps.specs.Singles.{Report, reportIf, reportOnly, nakedAt, nakedSingles, hiddenSingles}
@@ -25,7 +27,7 @@ use Rattle.techniques.specs.declared.Search.{Search}
 use Rattle.techniques.specs.declared.Search.the-variants as search
 use Rattle.techniques.specs.Reports.{filled, reportsOf}
 use Rattle.techniques.specs.code.Pushes.{pushed, append, stored}
-use Rattle.techniques.specs.code.Searches.{reportsFound}
+use Rattle.techniques.specs.code.Searches.{searchCall}
 
 -- ---- one report
 
@@ -36,7 +38,7 @@ append-one false c d q = refl
 
 -- ---- reports in two arrays
 
-pub none-stored : stored (replicate 324 0) (replicate 324 0) 0 ≡ reportsOf []
+none-stored : stored (replicate 324 0) (replicate 324 0) 0 ≡ reportsOf []
 unfolding reportsOf filled
 none-stored = refl
 
@@ -55,7 +57,7 @@ push-on rs r h =
     field : (f : Report → ℕ) → set (filled (map f rs)) (length rs) (f r) ≡ filled (map f (rs ++ (r ∷ [])))
     field f = fill-next 0 324 (map f rs) (length rs) (f r) (length-map rs f) h ∙ ap filled (sym (map-append f rs (r ∷ [])))
 
-pub append-on : (rs ns : List Report) → length rs + length ns ≤ 324 → append ns (reportsOf rs) ≡ reportsOf (rs ++ ns)
+append-on : (rs ns : List Report) → length rs + length ns ≤ 324 → append ns (reportsOf rs) ≡ reportsOf (rs ++ ns)
 unfolding append each
 append-on rs [] h = ap reportsOf (sym (append-nil rs))
 append-on rs (n ∷ ns) h =
@@ -93,22 +95,37 @@ module _ (g m : List ℕ) where
   pub singles-few : length (nakedSingles g m ++ hiddenSingles g m) ≤ 324
   singles-few = omega (arith, length-append (nakedSingles g m) (hiddenSingles g m), naked-few, hidden-few)
 
-  -- the lists alone, and one after the other
-  pub naked-stand : append (nakedSingles g m) (reportsOf []) ≡ reportsOf (nakedSingles g m)
-  naked-stand = append-on [] (nakedSingles g m) (omega (arith, naked-few))
+found-few : (s : Search) (g m : List ℕ) → length (outcome (searchCall s) g m .reports) ≤ 324
+unfolding outcome
+found-few search.Naked g m = omega (arith, naked-few g m)
+found-few search.Hidden g m = omega (arith, hidden-few g m)
+found-few search.Advanced g m = singles-few g m
 
-  pub hidden-stand : append (hiddenSingles g m) (reportsOf []) ≡ reportsOf (hiddenSingles g m)
-  hidden-stand = append-on [] (hiddenSingles g m) (omega (arith, hidden-few))
+pub answered-few : (s : Search) (b : Board) → length (valueOr [] (answers.map (λ o. o .reports) (answer (searchCall s) b))) ≤ 324
+unfolding answer
+answered-few s b = go (checkOf b)
+  where
+    go : (a : Answer (Unit {0})) → length (valueOr [] (answers.map (λ o. o .reports) (passing a (outcome (searchCall s) (givens b) (b .masks))))) ≤ 324
+    go (gives u) = found-few s (givens b) (b .masks)
+    go (stop t) = omega arith
 
-  pub both-stand : append (hiddenSingles g m) (reportsOf (nakedSingles g m)) ≡ reportsOf (nakedSingles g m ++ hiddenSingles g m)
-  both-stand = append-on (nakedSingles g m) (hiddenSingles g m) (omega (arith, naked-few, hidden-few))
+-- ---- a list in arrays that held none
 
-pub found-stand : (s : Search) (g m : List ℕ) → append (reportsFound s g m) (reportsOf []) ≡ reportsOf (reportsFound s g m)
-found-stand search.Naked g m = naked-stand g m
-found-stand search.Hidden g m = hidden-stand g m
+pub stands : (rs : List Report) → length rs ≤ 324 → append rs (stored (replicate 324 0) (replicate 324 0) 0) ≡ reportsOf rs
+stands rs few = ap (append rs) none-stored ∙ append-on [] rs (omega (arith, few))
+
+append-count : (rs : List Report) (q : Reports) → q .count + length rs ≤ 324 → append rs q .count ≡ q .count + length rs
+unfolding append each pushed
+append-count [] q h = omega arith
+append-count (r ∷ rs) q h =
+    let one = cond-true (ltb (q .count) 324) (record { cells = set (q .cells) (q .count) (r .cell); digits = set (q .digits) (q .count) (r .digit); count = q .count + 1 }) q (lt-ltb (q .count) 324 (omega arith)) in
+    let more : pushed q (r .cell) (r .digit) .count ≡ q .count + 1 = ap (λ (q : Reports). q .count) one in
+    append-count rs (pushed q (r .cell) (r .digit)) (omega arith) ∙ omega arith
 
 -- "A report is progress."
-pub some-count : (rs : List Report) → ltb 0 (reportsOf rs .count) ≡ isSome rs
-unfolding reportsOf
-some-count [] = refl
-some-count (r ∷ rs) = lt-ltb 0 (length (r ∷ rs)) (omega arith)
+pub some-found : (rs : List Report) → length rs ≤ 324 → (cs ds : List ℕ) {xs ys : List ℕ} {n : ℕ} → stored xs ys n ≡ append rs (stored cs ds 0) → ltb 0 n ≡ isSome rs
+some-found rs few cs ds e = ap (λ (q : Reports). ltb 0 (q .count)) e ∙ ap (ltb 0) (append-count rs (stored cs ds 0) (omega (arith, few))) ∙ some rs
+  where
+    some : (rs : List Report) → ltb 0 (0 + length rs) ≡ isSome rs
+    some [] = refl
+    some (r ∷ rs) = lt-ltb 0 (0 + length (r ∷ rs)) (omega arith)

@@ -136,14 +136,26 @@ pub fn hidden_singles(
     count
 }
 
-// Naked singles and then hidden ones.
+// Naked singles and then hidden ones, in lent arrays that hold no report.
+pub fn singles_into(
+    givens: &[u8; 81],
+    masks: &[u16; 81],
+    cells: &mut [u8; 324],
+    digits: &mut [u8; 324],
+) -> usize
+    ensures { λ r. ⌜ stored (now (cells .exit)) (now (digits .exit)) r ≡ append (nakedSingles (now (givens .entry)) (now (masks .entry)) ++ hiddenSingles (now (givens .entry)) (now (masks .entry))) (stored (now (cells .entry)) (now (digits .entry)) 0) ⌝ }
+{
+    let naked = naked_singles(givens, masks, cells, digits, 0);
+    hidden_singles(givens, masks, cells, digits, naked)
+}
+
+// The same as a value.
 pub fn singles(givens: &[u8; 81], masks: &[u16; 81]) -> Reports
     ensures { λ r. ⌜ r ≡ reportsOf (nakedSingles (now (givens .entry)) (now (masks .entry)) ++ hiddenSingles (now (givens .entry)) (now (masks .entry))) ⌝ }
 {
     let mut cells = [0u8; 324];
     let mut digits = [0u8; 324];
-    let naked = naked_singles(givens, masks, &mut cells, &mut digits, 0);
-    let count = hidden_singles(givens, masks, &mut cells, &mut digits, naked);
+    let count = singles_into(givens, masks, &mut cells, &mut digits);
     Reports {
         cells,
         digits,

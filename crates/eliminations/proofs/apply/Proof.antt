@@ -5,7 +5,7 @@ use Rattle.steps.specs.Boards.{withMasks}
 use Rattle.steps.specs.Calls.{answer}
 use Rattle.board.specs.Boards.{boardOf}
 use Rattle.eliminations.specs.code.Calls.{callOf}
-use Rattle.eliminations.proofs.Left.{masks-left}
+use Rattle.techniques.proofs.Left.{masks-left}
 use Rattle.eliminations.proofs.apply.Statement.{statement}
 use Rattle.eliminations.proofs.apply.Tie as tie
 

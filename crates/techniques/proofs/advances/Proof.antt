@@ -11,7 +11,7 @@ use Rattle.techniques.proofs.advances.Tie as tie
 returns : tie.Need-returns
 returns c =
     let a = c .before .args in
-    sym (ap (λ (t : Bool). t || changed (a .masks) (nakedPairs (a .givens .now) (a .masks))) (lt-ltb 0 (a .count) (c .if1 .taken)))
+    sym (ap (λ (t : Bool). t || changed (a .masks .now) (nakedPairs (a .givens .now) (a .masks .now))) (lt-ltb 0 (a .count) (c .if1 .taken)))
 
 naked-pairs-requires : tie.Need-naked-pairs-requires
 naked-pairs-requires c κs = search needs
@@ -21,9 +21,9 @@ changed-requires c κs = search needs
 
 returns-2 : tie.Need-returns-2
 returns-2 c =
-    let a = c .before .before .before .before .args in
-    c .changed .ensures ∙ ap (changed (a .masks)) (c .before .naked-pairs .ensures)
-    ∙ sym (ap (λ (t : Bool). t || changed (a .masks) (nakedPairs (a .givens .now) (a .masks))) (le-ltb 0 (a .count) (c .before .before .before .if1 .left)))
+    let a = c .before .before .before .before .before .args in
+    c .changed .ensures ∙ ap (changed (a .masks .now)) (c .before .naked-pairs .ensures)
+    ∙ sym (ap (λ (t : Bool). t || changed (a .masks .now) (nakedPairs (a .givens .now) (a .masks .now))) (le-ltb 0 (a .count) (c .before .before .before .before .if1 .left)))
 
 pub advances-spec : {M : Type 1} → statement M
 advances-spec =

@@ -1,5 +1,5 @@
 -- Each arm says which case it is.
-use mathlib.Core.Path.{_≡_, sym, ap, _∙_}
+use mathlib.Core.Path.{sym, ap, _∙_}
 use borrow.Author.Needs.{needs}
 use Rattle.calls.specs.StepNumbers.{steppingAnswer}
 use Rattle.calls.specs.declared.Stepping.{Stepping}
@@ -28,17 +28,17 @@ of-unknown-requires c κs = search needs
 returns : tie.Need-returns
 returns c =
     let a = c .before .before .before .before .args in
-    c .of-stop .ensures ∙ ap (λ (x : Stepping). partsCode (a .number) (steppingAnswer x) (a .reports) (a .sweeps) (a .removed)) (sym (c .before .before .stepping .given .1))
+    c .of-stop .ensures ∙ ap (λ (x : Stepping). partsCode (a .number) (steppingAnswer x) (a .sweeps) (a .removed)) (sym (c .before .before .stepping .given .1))
 
 returns-2 : tie.Need-returns-2
 returns-2 c =
     let a = c .before .before .before .before .args in
-    c .of-values .ensures ∙ ap (λ (x : Stepping). partsCode (a .number) (steppingAnswer x) (a .reports) (a .sweeps) (a .removed)) (sym (c .before .before .stepping2 .given .1))
+    c .of-values .ensures ∙ ap (λ (x : Stepping). partsCode (a .number) (steppingAnswer x) (a .sweeps) (a .removed)) (sym (c .before .before .stepping2 .given .1))
 
 returns-3 : tie.Need-returns-3
 returns-3 c =
     let a = c .before .before .before .args in
-    c .of-unknown .ensures ∙ ap (λ (x : Stepping). partsCode (a .number) (steppingAnswer x) (a .reports) (a .sweeps) (a .removed)) (sym (c .before .enum-told .given .1))
+    c .of-unknown .ensures ∙ ap (λ (x : Stepping). partsCode (a .number) (steppingAnswer x) (a .sweeps) (a .removed)) (sym (c .before .enum-told .given .1))
 
 pub of-stepping-spec : {M : Type 1} → statement M
 of-stepping-spec =

@@ -14,12 +14,12 @@ use Rattle.sudoku.proofs.step_calls.put_bytes.Statement.{statement}
 use Rattle.sudoku.proofs.step_calls.put_bytes.Tie as tie
 
 abbrev Inv-loop : tie.InvT-loop
-Inv-loop bytes₀ reports count report₀ bytes report =
+Inv-loop cells digits reports bytes₀ count report₀ bytes report =
     (report ≤ count) × (count ≤ 324)
-    × (each (putReport (reports .cells) (reports .digits)) (range (count - report) report) bytes ≡ each (putReport (reports .cells) (reports .digits)) (range count 0) (replicate 648 0))
+    × (each (putReport cells digits) (range (count - report) report) bytes ≡ each (putReport cells digits) (range count 0) (replicate 648 0))
 
 abbrev μ-loop : tie.MeasureT-loop
-μ-loop bytes₀ reports count report₀ bytes report = count - report
+μ-loop cells digits reports bytes₀ count report₀ bytes report = count - report
 
 room : (n : ℕ) → used n ≤ 324
 room n = go (ltb n 324) refl
@@ -34,12 +34,12 @@ used-requires c κs = search needs
 loop-holds : tie.Need-loop-holds Inv-loop μ-loop
 loop-holds c =
     let u = c .before in
-    let q = u .before .args .t1 in
+    let a = u .before .args in
     let n = u .used .result in
     let all : n - 0 ≡ n = omega arith in (
       omega arith,
-      omega (arith, u .used .ensures, room (q .count)),
-      ap (λ (k : ℕ). each (putReport (q .cells) (q .digits)) (range k 0) (replicate 648 0)) all,
+      omega (arith, u .used .ensures, room (a .reports)),
+      ap (λ (k : ℕ). each (putReport (a .cells .now) (a .digits .now)) (range k 0) (replicate 648 0)) all,
     )
 
 element-copy-out-bytes : tie.Need-element-copy-out-bytes Inv-loop μ-loop
@@ -73,10 +73,10 @@ loop-again : tie.Need-loop-again Inv-loop μ-loop
 loop-again c =
     let l = c .before .before .before in
     let u = l .before .before in
-    let q = u .before .args .t1 in (
+    let a = u .before .args in (
       omega arith,
       omega arith,
-      turn-done (putReport (q .cells) (q .digits)) (u .used .result) (l .loop .report) (omega arith) refl (l .loop .inv .2),
+      turn-done (putReport (a .cells .now) (a .digits .now)) (u .used .result) (l .loop .report) (omega arith) refl (l .loop .inv .2),
     )
 
 returns : tie.Need-returns Inv-loop μ-loop
@@ -84,9 +84,9 @@ unfolding reportBytes
 returns c =
     let l = c .before in
     let u = l .before .before in
-    let q = u .before .args .t1 in
-    turns-over (putReport (q .cells) (q .digits)) (u .used .result) (l .loop .report) (c .loop-test .left) (l .loop .inv .2)
-    ∙ ap (λ (k : ℕ). each (putReport (q .cells) (q .digits)) (range k 0) (replicate 648 0)) (u .used .ensures)
+    let a = u .before .args in
+    turns-over (putReport (a .cells .now) (a .digits .now)) (u .used .result) (l .loop .report) (c .loop-test .left) (l .loop .inv .2)
+    ∙ ap (λ (k : ℕ). each (putReport (a .cells .now) (a .digits .now)) (range k 0) (replicate 648 0)) (u .used .ensures)
 
 pub put-bytes-spec : {M : Type 1} → statement M
 put-bytes-spec =

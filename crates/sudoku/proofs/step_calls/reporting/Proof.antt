@@ -1,81 +1,130 @@
--- The parts that the step hands back, coded, and its reports in what was lent.
-use mathlib.Core.Path.{_≡_, sym, ap, ap₂, subst, _∙_}
+-- The call's answer, coded, and its reports in what was lent.
+use mathlib.Core.Path.{_≡_, refl, sym, ap, ap₂, _∙_}
 use mathlib.Core.Bool.{Bool}
-use mathlib.Core.List.{List}
-use Prim.Native.Nat.{ℕ, _<_}
+use mathlib.Core.List.{List, []}
+use mathlib.Core.Option.{some}
+use Prim.Native.Nat.{ℕ}
 use native.Mathlib.Omega.{arith}
 use borrow.Author.Needs.{needs}
-use lib.IntN.{pos}
-use lib.ListN.{length}
+use lib.IntN.{ℤ, pos}
+use lib.ListN.{length, replicate}
+use mir.Facts.{toZ-ofZ, toZ-pos}
 use mir.Syntax.{w64}
 use mir.Val.{SFits}
+use Rattle.stops.specs.Answer.{Answer, gives, stop, map, valueOr, progressAnswer}
 use Rattle.steps.specs.Boards as S
-use Rattle.steps.specs.Calls.{Outcome}
-use Rattle.techniques.specs.Reports.{reportsOf}
-use Rattle.techniques.specs.declared.singles.Reports.{Reports}
+use Rattle.steps.specs.Calls.{Outcome, answer}
+use Rattle.steps.specs.Singles.{Report}
 use Rattle.board.specs.Boards.{handed}
-use Rattle.calls.specs.declared.Stepped.{Stepped}
-use mathlib.Core.Option.{Option}
-use Rattle.stops.specs.Answer.{Answer}
-use Rattle.calls.specs.StepNumbers.{HandsBack, outcomeOr, stepAnswer, steppingAnswer}
-use Rattle.sudoku.specs.Steps.{answerCode, outcomeBytes, reportBytes}
-use Rattle.sudoku.specs.code.Parts.{partsCode, partsKept}
-use Rattle.sudoku.proofs.StepNumbers.{flagOf, reportsIn, sweepsIn, removedIn, parts-code, parts-bytes, step-fits}
+use Rattle.techniques.specs.Reports.{reportsOf}
+use Rattle.techniques.specs.code.Pushes.{append, stored}
+use Rattle.techniques.specs.code.Searches.{searchCall}
+use Rattle.techniques.specs.declared.Search.{Search}
+use Rattle.techniques.specs.declared.singles.Reports.{Reports}
+use Rattle.techniques.proofs.ReportLists.{answered-few, stands}
+use Rattle.sudoku.specs.Codes.{four, refused, testNumber}
+use Rattle.sudoku.specs.Steps.{outcomeBytes, reportBytes}
+use Rattle.sudoku.specs.code.Parts.{partsKept, reportedCode}
+use Rattle.sudoku.proofs.Fitting.{place-fits}
+use Rattle.sudoku.proofs.Numbers.{four-same}
+use Rattle.sudoku.proofs.StepNumbers.{parts-bytes}
 use Rattle.sudoku.proofs.step_calls.reporting.Statement.{statement}
 use Rattle.sudoku.proofs.step_calls.reporting.Tie as tie
 
--- what a step hands back, over its board and its number
-module _ (n : ℕ) (b : S.Board) (r : Stepped) (hands : HandsBack r b (stepAnswer n b)) where
-  o : Option (Answer Outcome)
-  o = stepAnswer n b
+-- the four numbers from the flag or stop and the number of reports
+abbrev progressCode : Answer Bool → ℕ → List ℤ
+progressCode (gives flag) n = four (pos 0) (pos 0) (testNumber flag) (pos n)
+progressCode (stop s) n = refused s 0
 
-  coded : partsCode n (steppingAnswer (r .answer)) (r .reports .count) (r .sweeps) (r .removed) ≡ answerCode n (stepAnswer n b)
-  unfolding o
-  coded =
-      _∙_ {b = partsCode n (flagOf o) (reportsOf (reportsIn o) .count) (sweepsIn o) (removedIn o)}
-      (λ i. partsCode n (hands .flag i) (hands .reports i .count) (hands .sweeps i) (hands .removed i))
-      (parts-code n o)
+coded : (a : Answer Outcome) → progressCode (map (λ o. o .flag) a) (length (valueOr [] (map (λ o. o .reports) a))) ≡ reportedCode a
+coded (gives o) = refl
+coded (stop t) = refl
 
-  bytes : (lent : List ℕ) → partsKept (steppingAnswer (r .answer)) (reportBytes (r .reports)) lent ≡ outcomeOr lent outcomeBytes (stepAnswer n b)
-  bytes lent =
-      ap₂ (λ (q : Reports) (f : Option (Answer Bool)). partsKept f (reportBytes q) lent) (hands .reports) (hands .flag)
-      ∙ parts-bytes (stepAnswer n b) lent
+-- what a call answers over its board, and its reports
+module _ (s : Search) (b : S.Board) where
+  abbrev said : Answer Outcome
+  said = answer (searchCall s) b
 
-  fit : length (b .clues) ≡ 81 → length (b .entries) ≡ 81 → length (b .masks) ≡ 81 → SFits w64 (pos (r .reports .count)) × SFits w64 (pos (r .sweeps)) × SFits w64 (pos (r .removed))
-  unfolding reportsOf o
-  fit clues entries masks =
-      let f = step-fits b clues entries masks n in (
-        subst (λ (q : Reports). SFits w64 (pos (q .count))) (sym (hands .reports)) (f .reports),
-        subst (λ (k : ℕ). SFits w64 (pos k)) (sym (hands .sweeps)) (f .sweeps),
-        subst (λ (k : ℕ). SFits w64 (pos k)) (sym (hands .removed)) (f .removed),
-      )
+  abbrev reports : List Report
+  reports = valueOr [] (map (λ o. o .reports) said)
 
-step-requires : tie.Need-step-requires
-step-requires c κs = search needs
+  module _ {xs ys : List ℕ} {n : ℕ} (found : stored xs ys n ≡ append reports (stored (replicate 324 0) (replicate 324 0) 0)) where
+    list : stored xs ys n ≡ reportsOf reports
+    list = found ∙ stands reports (answered-few s b)
 
-of-stepping-requires : tie.Need-of-stepping-requires
-of-stepping-requires c κs =
-    let d = c .before .before in
-    let a = d .before .args in
-    fit (a .number) (handed (a .clues) (a .entries) (a .masks)) (d .step .result) (d .step .ensures) (omega arith) (omega arith) (omega arith)
+    count : n ≡ length reports
+    unfolding reportsOf
+    count = ap (λ (q : Reports). q .count) list
 
-put-reports-requires : tie.Need-put-reports-requires
-put-reports-requires c κs = search needs
+    fits : SFits w64 (pos n)
+    fits = place-fits (omega (arith, count, answered-few s b))
+
+    module _ {f : Answer Bool} (flag : f ≡ map (λ o. o .flag) said) where
+      code : progressCode f n ≡ reportedCode said
+      code = ap₂ progressCode flag count ∙ coded said
+
+      bytes : (lent : List ℕ) → partsKept (some f) (reportBytes (stored xs ys n)) lent ≡ valueOr lent (map outcomeBytes said)
+      bytes lent = ap₂ (λ (q : Reports) (f : Answer Bool). partsKept (some f) (reportBytes q) lent) list flag ∙ parts-bytes (some said) lent
+
+report-handed-requires : tie.Need-report-handed-requires
+report-handed-requires c κs = search needs
+
+enum-known-progress : tie.Need-enum-known-progress
+enum-known-progress c = search needs
+
+of-stop-requires : tie.Need-of-stop-requires
+of-stop-requires c κs = search needs
+
+enum-known-progress-2 : tie.Need-enum-known-progress-2
+enum-known-progress-2 c = search needs
+
+of-test-requires : tie.Need-of-test-requires
+of-test-requires c κs = search needs
+
+cast-t19 : tie.Need-cast-t19
+cast-t19 c =
+    let r = c .before .before .before .before in
+    let a = r .before .before .before .before .args in
+    fits (a .search) (handed (a .clues .now) (a .entries .now) (a .masks .now)) (r .report-handed .ensures .1 .0)
+
+put-bytes-requires : tie.Need-put-bytes-requires
+put-bytes-requires c κs = search needs
 
 returns : tie.Need-returns
 returns c =
-    let w = c .before in
-    let o = w .before .before in
-    let d = o .before .before .before in
-    let a = d .before .args in
-    let b = handed (a .clues) (a .entries) (a .masks) in
-    let r = d .step .result in
-    let hands = d .step .ensures in (
-      ap (λ (b : S.Board). b .masks) (hands .board),
-      w .put-reports .ensures ∙ bytes (a .number) b r hands (a .reports .now),
-      o .of-stepping .ensures ∙ coded (a .number) b r hands,
+    let p = c .before .before in
+    let r = p .before .before in
+    let a = r .before .before .before .before .args in
+    let b = handed (a .clues .now) (a .entries .now) (a .masks .now) in
+    let e = r .report-handed .ensures in
+    let flag = ap progressAnswer (sym (p .progress .given .1)) ∙ e .0 in
+    (c .of-stop .ensures ∙ code (a .search) b (e .1 .0) flag, e .1 .1, bytes (a .search) b (e .1 .0) flag (a .reports .now))
+
+returns-2 : tie.Need-returns-2
+returns-2 c =
+    let t = c .before .before .before .before .before in
+    let p = t .before .before in
+    let r = p .before .before in
+    let a = r .before .before .before .before .args in
+    let b = handed (a .clues .now) (a .entries .now) (a .masks .now) in
+    let e = r .report-handed .ensures in
+    let flag = ap progressAnswer (sym (p .progress2 .given .1)) ∙ e .0 in (
+      four-same refl refl (toZ-ofZ (record { sfits = t .of-test .ok }) ∙ t .of-test .ensures) (toZ-pos w64 (fits (a .search) b (e .1 .0) .sfits))
+          ∙ code (a .search) b (e .1 .0) flag,
+      e .1 .1,
+      c .put-bytes .ensures ∙ bytes (a .search) b (e .1 .0) flag (a .reports .now),
     )
 
 pub reporting-spec : {M : Type 1} → statement M
 reporting-spec =
-    tie.close (tie.spec step-requires of-stepping-requires put-reports-requires returns)
+    tie.close
+    (tie.spec
+    report-handed-requires
+    enum-known-progress
+    of-stop-requires
+    enum-known-progress-2
+    of-test-requires
+    cast-t19
+    put-bytes-requires
+    returns
+    returns-2)

@@ -1,26 +1,24 @@
--- The steps 4 to 6 report, and 12, settling, counts; the others do neither.
-use mathlib.Core.Path.{_≡_, subst, _∙_}
+-- The steps 4 to 6 report; the others do not.
+use mathlib.Core.Path.{_≡_, refl, sym, subst, _∙_}
 use mathlib.Core.List.{List}
-use mathlib.Core.Logic.{_⊎_, _≢_, inl, inr, ⊎-elim}
-use mathlib.Core.Option.{Option}
-use Prim.Native.Nat.{ℕ, _<_, _≤_}
+use mathlib.Core.Logic.{_≢_}
+use mathlib.Core.Option.{Option, some}
+use Prim.Native.Nat.{ℕ}
 use native.Mathlib.Omega.{arith}
 use borrow.Author.Needs.{needs}
+use borrow.Author.Tests.{ne-eqb}
 use lib.IntN.{ℤ}
-use Rattle.stops.specs.Answer.{Answer}
+use Rattle.candidates.proofs.Tests.{cond-false}
+use Rattle.stops.specs.Answer.{Answer, gives, stop, map, valueOr}
 use Rattle.steps.specs.Boards as S
-use Rattle.steps.specs.Calls.{Outcome}
+use Rattle.steps.specs.Calls.{Call, Outcome, answer, left, nakedSinglesCall, hiddenSinglesCall, advancedCall}
 use Rattle.board.specs.Boards.{handed}
-use Rattle.calls.specs.StepNumbers.{outcomeOr, stepLeft}
-use Rattle.calls.proofs.Arms.{quiet-step-is}
+use Rattle.calls.specs.StepNumbers.{outcomeOr, stepAnswer, stepLeft}
+use Rattle.calls.proofs.Arms.{quiet-step-is, step-is}
 use Rattle.sudoku.specs.Steps.{answerCode, outcomeBytes}
-use Rattle.sudoku.proofs.StepNumbers.{quiet-code}
+use Rattle.sudoku.specs.code.Parts.{reportedCode}
 use Rattle.sudoku.proofs.step_calls.step.Statement.{statement}
 use Rattle.sudoku.proofs.step_calls.step.Tie as tie
-
-apart : {n : ℕ} → (n < 4) ⊎ (7 ≤ n) → (k : ℕ) → 4 ≤ k → k ≤ 6 → n ≢ k
-apart (inl low) k from to e = omega arith
-apart (inr high) k from to e = omega arith
 
 -- one answer for another that is the same
 told : (n : ℕ) (b : S.Board) {o p : Option (Answer Outcome)} {code : List ℤ} {masks bytes : List ℕ} (lent : List ℕ) → o ≡ p
@@ -28,27 +26,66 @@ told : (n : ℕ) (b : S.Board) {o p : Option (Answer Outcome)} {code : List ℤ}
 told n b {code = code} {masks = masks} {bytes = bytes} lent e h =
     subst (λ (o : Option (Answer Outcome)). (code ≡ answerCode n o) × (masks ≡ stepLeft b o .masks) × (bytes ≡ outcomeOr lent outcomeBytes o)) e h
 
-outside : (c : tie.Joined1) → (c .before .before .args .number < 4) ⊎ (7 ≤ c .before .before .args .number)
-outside c = ⊎-elim (λ t. inl (t .taken)) (λ e. inr (e .1 .left)) (c .if1 .came)
+-- a call that reports, by a number that is not settling's
+reported : (n : ℕ) → n ≢ 12 → (a : Answer Outcome) → reportedCode a ≡ answerCode n (some a)
+reported n other (gives o) = sym (cond-false _ _ _ (ne-eqb n 12 other))
+reported n other (stop s) = refl
 
-quiet-requires : tie.Need-quiet-requires
-quiet-requires c κs = search needs
+by-report : (k : Call) (n : ℕ) (b : S.Board) {code : List ℤ} {masks bytes : List ℕ} (lent : List ℕ) → n ≢ 12 → some (answer k b) ≡ stepAnswer n b
+    → (code ≡ reportedCode (answer k b)) × (masks ≡ left b (answer k b) .masks) × (bytes ≡ valueOr lent (map outcomeBytes (answer k b)))
+    → (code ≡ answerCode n (stepAnswer n b)) × (masks ≡ stepLeft b (stepAnswer n b) .masks) × (bytes ≡ outcomeOr lent outcomeBytes (stepAnswer n b))
+by-report k n b lent other is e = told n b lent is (e .0 ∙ reported n other (answer k b), e .1, e .2)
 
 reporting-requires : tie.Need-reporting-requires
 reporting-requires c κs = search needs
 
+reporting-requires-2 : tie.Need-reporting-requires-2
+reporting-requires-2 c κs = search needs
+
+reporting-requires-3 : tie.Need-reporting-requires-3
+reporting-requires-3 c κs = search needs
+
+quiet-requires : tie.Need-quiet-requires
+quiet-requires c κs = search needs
+
 returns : tie.Need-returns
 returns c =
-    let j = c .before .before .before .before in
-    let a = j .before .before .args in
+    let m = c .before .before .before .before in
+    let a = m .before .args in
     let b = handed (a .clues .now) (a .entries .now) (a .masks .now) in
-    let other = apart (outside j) in
-    let is = quiet-step-is b (other 4 (omega arith) (omega arith)) (other 5 (omega arith) (omega arith)) (other 6 (omega arith) (omega arith)) in
-    let e = c .quiet .ensures in
-    told (a .number) b (a .reports .now) is (e .0 ∙ quiet-code (a .number) b (j .before .match .rest .1), e .1, e .2)
+    by-report nakedSinglesCall (a .number) b (a .reports .now) (λ e. omega (arith, m .match .keys1)) (step-is b nakedSinglesCall 4 (m .match .keys1) refl) (c .reporting .ensures)
 
 returns-2 : tie.Need-returns-2
-returns-2 c = let e = c .reporting .ensures in (e .2, e .0, e .1)
+returns-2 c =
+    let m = c .before .before .before .before in
+    let a = m .before .args in
+    let b = handed (a .clues .now) (a .entries .now) (a .masks .now) in
+    by-report hiddenSinglesCall (a .number) b (a .reports .now) (λ e. omega (arith, m .match .keys2)) (step-is b hiddenSinglesCall 5 (m .match .keys2) refl) (c .reporting2 .ensures)
+
+returns-3 : tie.Need-returns-3
+returns-3 c =
+    let m = c .before .before .before .before in
+    let a = m .before .args in
+    let b = handed (a .clues .now) (a .entries .now) (a .masks .now) in
+    by-report advancedCall (a .number) b (a .reports .now) (λ e. omega (arith, m .match .keys3)) (step-is b advancedCall 6 (m .match .keys3) refl) (c .reporting3 .ensures)
+
+returns-4 : tie.Need-returns-4
+returns-4 c =
+    let m = c .before .before .before .before in
+    let a = m .before .args in
+    let b = handed (a .clues .now) (a .entries .now) (a .masks .now) in
+    let r = m .match .rest in
+    told (a .number) b (a .reports .now) (quiet-step-is b (r .0 .0 .1) (r .0 .1) (r .1)) (c .quiet .ensures)
 
 pub step-spec : {M : Type 1} → statement M
-step-spec = tie.close (tie.spec quiet-requires reporting-requires returns returns-2)
+step-spec =
+    tie.close
+    (tie.spec
+    reporting-requires
+    reporting-requires-2
+    reporting-requires-3
+    quiet-requires
+    returns
+    returns-2
+    returns-3
+    returns-4)

@@ -1,10 +1,10 @@
--- `techniques::renewed` meets its contract. Assumes nothing.
+-- Each arm's test says which of the two it is.
 use mathlib.Core.Path.{sym, _∙_}
 use borrow.Author.Needs.{needs}
 use Rattle.candidates.proofs.Tests.{cond-true, cond-false}
 use Rattle.steps.specs.Boards.{fresh}
-use Rattle.techniques.proofs.renewed.Statement.{statement}
-use Rattle.techniques.proofs.renewed.Tie as tie
+use Rattle.techniques.proofs.renew.Statement.{statement}
+use Rattle.techniques.proofs.renew.Tie as tie
 
 fresh-masks-requires : tie.Need-fresh-masks-requires
 fresh-masks-requires c κs = search needs
@@ -12,15 +12,15 @@ fresh-masks-requires c κs = search needs
 returns : tie.Need-returns
 returns c =
     let a = c .before .before .args in
-    c .fresh-masks .ensures ∙ sym (cond-true (a .made) (fresh (a .givens .now)) (a .masks) (c .before .if1 .taken))
+    c .fresh-masks .ensures ∙ sym (cond-true (a .made) (fresh (a .givens .now)) (a .masks .now) (c .before .if1 .taken))
 
 returns-2 : tie.Need-returns-2
 returns-2 c =
     let a = c .before .args in
-    sym (cond-false (a .made) (fresh (a .givens .now)) (a .masks) (c .if1 .left))
+    sym (cond-false (a .made) (fresh (a .givens .now)) (a .masks .now) (c .if1 .left))
 
-pub renewed-spec : {M : Type 1} → statement M
-renewed-spec =
+pub renew-spec : {M : Type 1} → statement M
+renew-spec =
     tie.close
     (tie.spec
     fresh-masks-requires
