@@ -1,6 +1,6 @@
 -- How many digits a mask holds, and its lowest one. Assumes nothing.
 use mathlib.Core.Path.{_≡_, refl, sym, ap, _∙_, subst}
-use mathlib.Core.Bool.{true, false, cond}
+use mathlib.Core.Bool.{Bool, true, false, cond}
 use mathlib.Core.Logic.{_≢_}
 use Prim.Native.Nat.{ℕ, zero, suc, _+_, _-_, _*_, _/_, _%_, _^_, _≤_, _<_}
 use native.Mathlib.Nat.{le-refl, pow-suc, not-suc-le-zero, add-zero, zero-add}
@@ -130,6 +130,29 @@ pub lowest-zeros : (x : ℕ) → trailingZeros 16 x ≡ lowest x
 lowest-zeros x =
     let e : x ≡ x / 2 ^ 0 = omega arith in
     ap (trailingZeros 16) e ∙ sym (zero-add (trailingZeros 16 (x / 2 ^ 0))) ∙ sym (first-zeros 16 0 x)
+
+-- a search over n of m places: what is found among the n, or their end
+first-cut : (n m d x : ℕ) → n ≤ m → (firstPlace m d x < d + n → firstPlace m d x ≡ firstPlace n d x) × (d + n ≤ firstPlace m d x → d + n ≡ firstPlace n d x)
+unfolding firstPlace
+first-cut zero m d x h = (λ l. absurd (omega (arith, first-ge m d x)), λ l. add-zero d)
+first-cut (suc n) zero d x h = absurd (omega arith)
+first-cut (suc n) (suc m) d x h = go (has x d) refl (first-cut n m (suc d) x (omega arith))
+  where
+    go : (t : Bool) → has x d ≡ t → (firstPlace m (suc d) x < suc d + n → firstPlace m (suc d) x ≡ firstPlace n (suc d) x) × (suc d + n ≤ firstPlace m (suc d) x → suc d + n ≡ firstPlace n (suc d) x)
+        → (cond (has x d) d (firstPlace m (suc d) x) < d + suc n → cond (has x d) d (firstPlace m (suc d) x) ≡ cond (has x d) d (firstPlace n (suc d) x))
+        × (d + suc n ≤ cond (has x d) d (firstPlace m (suc d) x) → d + suc n ≡ cond (has x d) d (firstPlace n (suc d) x))
+    go true e w = rw e (λ l. refl, λ l. absurd (omega arith))
+    go false e w =
+        let same : d + suc n ≡ suc d + n = omega arith in
+        rw e (λ l. w .0 (omega arith), λ l. same ∙ w .1 (omega arith))
+
+-- the first of the nine places from d on, by the lowest of the mask from there
+pub first-shifted : (x d : ℕ) {p : ℕ} → d < 9 → p ≡ d + lowest (x / 2 ^ d) → (p < 9 → p ≡ firstPlace (9 - d) d x) × (9 ≤ p → 9 ≡ firstPlace (9 - d) d x)
+first-shifted x d {p} h e =
+    let found : p ≡ firstPlace 16 d x = e ∙ ap (λ (k : ℕ). d + k) (sym (lowest-zeros (x / 2 ^ d))) ∙ sym (first-zeros 16 d x) in
+    let end : d + (9 - d) ≡ 9 = omega arith in
+    let w = first-cut (9 - d) 16 d x (omega arith) in
+    (λ l. found ∙ w .0 (omega (arith, found)), λ l. sym end ∙ w .1 (omega (arith, found)))
 
 pub lowest-le : (x : ℕ) → lowest x ≤ 16
 lowest-le x = omega (arith, lowest-zeros x, trailing-le 16 x)

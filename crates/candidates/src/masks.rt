@@ -60,14 +60,14 @@ pub fn digit_count(mask: u16) -> usize
 pub fn first_digit(mask: u16, from: usize) -> usize
     ensures { λ r. ⌜ r ≡ firstPlace (9 - from) from mask ⌝ }
 {
-    let mut place = from;
-    while place < 9 {
-        if has_digit(mask, place) {
-            return place;
-        }
-        place += 1;
+    if 9 <= from {
+        return from;
     }
-    place
+    let place = from + lowest_digit(mask >> from);
+    if place < 9 {
+        return place;
+    }
+    9
 }
 
 // The place of the lowest digit, 16 for the empty set.

@@ -1,6 +1,7 @@
 pub mod Places
 pub mod Whole
 pub mod NineBits
+pub mod Rising
 pub mod UnitPlaces
 pub mod HeldPlaces
 pub mod Shared

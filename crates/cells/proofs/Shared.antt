@@ -10,14 +10,15 @@ use borrow.Author.Tests.{eqb-true}
 use lib.Bits.{bitAnd}
 use lib.Dec.{eqb}
 use Rattle.candidates.specs.Masks.{has, union, count, Sub}
-use Rattle.candidates.proofs.Held.{Held, none-held, held-sub, sub-held, held-union}
-use Rattle.candidates.proofs.Order.{sub-refl, sub-trans, union-left, union-right}
+use Rattle.candidates.proofs.Held.{Held, none-held, held-all, held-sub, sub-held, held-union}
+use Rattle.candidates.proofs.Order.{sub-refl, sub-trans, sub-antisym, sub-none, union-left, union-right}
 use Rattle.candidates.proofs.Tests.{cond-true, cond-false}
 use Rattle.grid.proofs.Lists.{range-on, range-end}
 use Rattle.grid.proofs.Unions.{held-gathered}
-use Rattle.steps.specs.Boards.{at}
+use Rattle.steps.specs.Boards.{at, isOpen}
 use Rattle.steps.specs.Loops.{each, range, upTo}
 use Rattle.steps.proofs.Loops.{in-upTo, upTo-in}
+use Rattle.cells.specs.code.Places.{doorAt, looseDigits}
 use Rattle.cells.specs.code.Unions.{joined, joinedAt, sharedFrom, sharedOf, severalIn, severalOf}
 use Rattle.cells.proofs.NineBits.{held-meet}
 
@@ -29,6 +30,18 @@ module _ (f : ℕ → ℕ) (n : ℕ) where
 
   pub union-held : (d : ℕ) → Held (each (λ i x. union x (f i)) (upTo n) 0) d → (i : ℕ) × (i < n) × Held (f i) d
   union-held d t = ⊎-elim (λ p. absurd (none-held d p)) (λ w. (w .0, in-upTo n (w .0) (w .1), w .2)) (held-gathered f (upTo n) 0 d .0 t)
+
+  -- a union that holds nothing is of parts that hold nothing
+  pub union-none : each (λ i x. union x (f i)) (upTo n) 0 ≡ 0 → (l : ℕ) → l < n → f l ≡ 0
+  union-none e l h = sub-antisym (subst (Sub (f l)) e (union-at l h)) (sub-none (f l))
+
+-- where the open cells hold nothing together, none of them holds anything
+pub loose-none : (g m : List ℕ) → looseDigits g m ≡ 0 → (c d : ℕ) → c < 81 → d < 9 → isOpen g c ≡ true → Held (at m c) d → ⊥
+unfolding looseDigits
+loose-none g m e c d h l free t =
+    none-held d
+    (subst (λ (k : ℕ). Held k d) (union-none (λ c. bitAnd (at m c) (doorAt g c)) 81 e c h)
+    (held-meet (at m c) (doorAt g c) d .1 (t, subst (λ (k : ℕ). Held k d) (sym (cond-true (isOpen g c) 511 0 free)) (held-all d l))))
 
 module _ (nine : List ℕ) (d : ℕ) where
   pub joined-held : Held (joined nine) d → (i : ℕ) × (i < 9) × Held (at nine i) d

@@ -1,11 +1,11 @@
 // The givens and masks of a board as lent arrays: reading cells, and losing digits in place. The passes are loops over these.
 // Every function is total: a number above 80 is no cell, has no candidate and is not open.
 ghost use mathlib.Core.Path.{_≡_};
-ghost use mathlib.Core.Bool.{not};
+ghost use mathlib.Core.Bool.{cond, not};
 ghost use lib.Dec.{eqb};
 ghost use Rattle.steps.specs.Boards.{isOpen, total};
 ghost use Rattle.steps.specs.Passes.{changed};
-ghost use Rattle.cells.specs.code.Places.{maskAt, openAt, loseIn, losePlaces, openMask, unitMasks, allMasks, spotsIn, heldPlaces, lineSpots, allBut};
+ghost use Rattle.cells.specs.code.Places.{maskAt, openAt, loseIn, losePlaces, openMask, unitMasks, allMasks, spotsIn, heldPlaces, lineSpots, allBut, looseDigits};
 use candidates::masks;
 use grid::unit_cell;
 
@@ -63,6 +63,29 @@ pub fn open_mask(givens: &[u8; 81], masks: &[u16; 81], cell: usize) -> u16
         return mask_at(masks, cell);
     }
     0
+}
+
+// All digits for an open cell, none for one that is given a digit.
+pub fn door(given: u8) -> u16
+    ensures { λ r. ⌜ r ≡ cond (eqb given 0) 511 0 ⌝ }
+{
+    if given == 0 {
+        return 511;
+    }
+    0
+}
+
+// What the open cells hold.
+pub fn loose_digits(givens: &[u8; 81], masks: &[u16; 81]) -> u16
+    ensures { λ r. ⌜ r ≡ looseDigits (now (givens .entry)) (now (masks .entry)) ⌝ }
+{
+    let mut held: u16 = 0;
+    let mut cell: usize = 0;
+    while cell < 81 {
+        held = masks::join(held, masks::meet(masks[cell], door(givens[cell])));
+        cell += 1;
+    }
+    held
 }
 
 // The masks of the unit's open cells, by place; 0 for the others.

@@ -55,11 +55,11 @@ pub fn shared(nine: &[u16; 9]) -> u16
     both
 }
 
-// A mask, or none if it has one digit.
+// A mask, or none if it has one digit. An empty one is none either way, so that one test of the rest is enough.
 fn unless_one(mask: u16) -> u16
     ensures { λ r. ⌜ r ≡ severalIn mask ⌝ }
 {
-    if masks::is_one(mask) {
+    if masks::lose_lowest(mask) == 0 {
         return 0;
     }
     mask

@@ -1,14 +1,13 @@
 -- The lanes of units: lane 16 f + k of family f, the rows, the columns or the boxes, is unit 9 f + k, and holds the nine digits of its masks. Assumes nothing.
-use mathlib.Core.Path.{_≡_, refl, sym, ap, _∙_, subst}
-use mathlib.Core.Bool.{Bool, true, cond}
-use mathlib.Core.List.{List, map}
+use mathlib.Core.Path.{_≡_, sym, ap, _∙_, subst}
+use mathlib.Core.Bool.{true, cond}
+use mathlib.Core.List.{List}
 use Prim.Native.Nat.{ℕ, _+_, _*_, _/_, _%_, _<_}
 use native.Mathlib.Omega.{arith}
 use borrow.Author.Tests.{lt-ltb}
 use lib.Bits.{bitAnd, and-le-r}
 use lib.Dec.{ltb}
 use Rattle.candidates.specs.Masks.{Sub}
-use Rattle.candidates.proofs.Order.{sub-antisym, sub-none}
 use Rattle.candidates.proofs.Tests.{cond-true}
 use Rattle.grid.specs.Units.{unitCell}
 use Rattle.grid.proofs.Lists.{at-upTo, map-same}
@@ -19,8 +18,8 @@ use Rattle.steps.proofs.Loops.{in-upTo}
 use Rattle.cells.specs.code.Places.{allMasks}
 use Rattle.cells.proofs.NineBits.{nine-small}
 use Rattle.cells.proofs.Places.{all-mask}
-use Rattle.cells.proofs.Shared.{union-at}
-use Rattle.lanes.specs.code.Lanes.{unitOn, cellAt, laid, doorsOf, laneAt, looseOf, looseSets, joinedSets, laneMasks, nines}
+use Rattle.cells.proofs.Shared.{union-at, union-none}
+use Rattle.lanes.specs.code.Lanes.{unitOn, cellAt, laid, doorsOf, laneAt, looseOf, looseSets, joinedSets, laneMasks, nines, laneOf}
 use Rattle.lanes.proofs.Spots.{Spot, spot-at}
 
 module _ (f k : ℕ) (hf : f < 3) (hk : k < 9) where
@@ -77,6 +76,18 @@ module _ (f k : ℕ) (hf : f < 3) (hk : k < 9) where
       map-same (laneAt (laid m) (16 * f + k)) (λ i. bitAnd (at (allMasks m (9 * f + k)) i) 511) (upTo 9)
       (λ i h. let l = in-upTo 9 i h in lane-at i l m ∙ ap (λ (x : ℕ). bitAnd x 511) (sym (all-mask m (9 * f + k) i (omega arith) l)))
 
+-- ---- the lane of any unit
+
+pub lane-holds : (u i : ℕ) → u < 27 → i < 9 → (m : List ℕ) → laneAt (laid m) (laneOf u) i ≡ bitAnd (at m (unitCell u i)) 511
+lane-holds u i hu hi m =
+    let e : 9 * (u / 9) + u % 9 ≡ u = omega arith in
+    lane-at (u / 9) (u % 9) (omega arith) (omega arith) i hi m ∙ ap (λ (v : ℕ). bitAnd (at m (unitCell v i)) 511) e
+
+pub unit-lane : (m : List ℕ) (u : ℕ) → u < 27 → laneMasks (laid m) (laneOf u) ≡ nines (allMasks m u)
+unit-lane m u h =
+    let e : 9 * (u / 9) + u % 9 ≡ u = omega arith in
+    lane-masks (u / 9) (u % 9) (omega arith) (omega arith) m ∙ ap (λ (v : ℕ). nines (allMasks m v)) e
+
 pub lane-reads : (p : List ℕ) (l i : ℕ) → i < 9 → at (laneMasks p l) i ≡ laneAt p l i
 unfolding laneMasks
 lane-reads p l i h = at-upTo (laneAt p l) 0 9 i h
@@ -84,4 +95,4 @@ lane-reads p l i h = at-upTo (laneAt p l) 0 9 i h
 -- sets that hold nothing together hold nothing each
 pub none-joined : (sets : List ℕ) → joinedSets sets ≡ 0 → (k : ℕ) → k < 16 → at sets k ≡ 0
 unfolding joinedSets
-none-joined sets e k h = sub-antisym (subst (Sub (at sets k)) e (union-at (at sets) 16 k h)) (sub-none (at sets k))
+none-joined sets e k h = union-none (at sets) 16 e k h

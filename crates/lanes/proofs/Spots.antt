@@ -157,6 +157,26 @@ module _ (m : List ℕ) (c x : ℕ) (h : c < 81) (n : length m ≡ 81) where
   unfolding y
   laid-set = ext-getD 0 (putAt c y (laid m)) (laid (set m c x)) (three-length ∙ sym (laid-length (set m c x))) (λ j l. stored j (omega (arith, three-length)))
 
+-- masks of which one cell is another's
+pub laid-one : (m n : List ℕ) (c : ℕ) → c < 81 → ((e : ℕ) → e ≢ c → at n e ≡ at m e) → putAt c (bitAnd (at n c) 511) (laid m) ≡ laid n
+laid-one m n c h other =
+    ap (putAt c (bitAnd (at n c) 511)) (laid-same m cells (λ e k. sym (reads e k)))
+    ∙ laid-set cells c (at n c) h size
+    ∙ laid-same (set cells c (at n c)) n (λ e k. go e k (ℕ-discrete e c))
+  where
+    cells : List ℕ
+    cells = map (at m) (upTo 81)
+
+    size : length (map (at m) (upTo 81)) ≡ 81
+    size = length-map (upTo 81) (at m) ∙ range-length 81 0
+
+    reads : (e : ℕ) → e < 81 → at (map (at m) (upTo 81)) e ≡ at m e
+    reads e k = at-upTo (at m) 0 81 e k
+
+    go : (e : ℕ) → e < 81 → Dec (e ≡ c) → at (set (map (at m) (upTo 81)) c (at n c)) e ≡ at n e
+    go e k (yes r) = subst (λ (d : ℕ). at (set (map (at m) (upTo 81)) c (at n c)) d ≡ at n d) (sym r) (getD-set-same (map (at m) (upTo 81)) c (at n c) 0 (omega (arith, size)))
+    go e k (no r) = getD-set-other (map (at m) (upTo 81)) c e (at n c) 0 r ∙ reads e k ∙ sym (other e r)
+
 -- ---- cell by cell
 
 pub partly-start : (m : List ℕ) {p : List ℕ} → Laid p → Partly m 0 p

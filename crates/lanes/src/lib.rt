@@ -3,10 +3,12 @@
 ghost use mathlib.Core.Path.{_≡_};
 ghost use Prim.Native.Nat.{_+_, _*_, _<_, _≤_};
 ghost use lib.Bits.{bitAnd};
-ghost use lib.Dec.{eqb};
-ghost use mathlib.Core.Bool.{cond};
+ghost use Rattle.steps.specs.Boards.{at};
 ghost use Rattle.lanes.specs.code.Lanes.{Laid, laid, Partly, putAt, doorsOf, looseOf, looseSets, joinedSets, laneMasks};
 use candidates::masks;
+use cells::door;
+use grid::col_of;
+use grid::row_of;
 
 // The mask of a cell, at its three places.
 fn put(lanes: &mut [u16; 432], row: usize, col: usize, mask: u16)
@@ -17,6 +19,14 @@ fn put(lanes: &mut [u16; 432], row: usize, col: usize, mask: u16)
     lanes[48 * col + row] = nine;
     lanes[48 * row + 16 + col] = nine;
     lanes[48 * (3 * (row % 3) + col % 3) + 32 + 3 * (row / 3) + col / 3] = nine;
+}
+
+// The mask of one cell takes the place of the one that stood there.
+pub fn lay_cell(masks: &[u16; 81], lanes: &mut [u16; 432], cell: usize)
+    requires { ⌜ cell < 81 ⌝ }
+    ensures { λ _. ⌜ now (lanes .exit) ≡ putAt cell (bitAnd (at (now (masks .entry)) cell) 511) (now (lanes .entry)) ⌝ }
+{
+    put(lanes, row_of(cell), col_of(cell), masks[cell]);
 }
 
 fn put_row(masks: &[u16; 81], lanes: &mut [u16; 432], row: usize)
@@ -63,15 +73,6 @@ pub fn lane_masks(lanes: &[u16; 432], lane: usize) -> [u16; 9]
         place += 1;
     }
     nine
-}
-
-fn door(given: u8) -> u16
-    ensures { λ r. ⌜ r ≡ cond (eqb given 0) 511 0 ⌝ }
-{
-    if given == 0 {
-        return 511;
-    }
-    0
 }
 
 // All digits where the cell is open, none where it is not.

@@ -3,3 +3,4 @@ pub mod LockedDue
 pub mod LockedLosses
 pub mod RestTable
 pub mod RestDue
+pub mod FirstDue

@@ -1,5 +1,5 @@
 -- Pointing and Claiming by the digits of a unit: the instances of a digit change no other, and places whose open cells lack the digit lose nothing. Assumes nothing.
-use mathlib.Core.Path.{_≡_, refl, ap, _∙_}
+use mathlib.Core.Path.{_≡_, refl, sym, ap, _∙_}
 use mathlib.Core.Logic.{_≢_}
 use mathlib.Core.Bool.{true, cond}
 use mathlib.Core.List.{List}
@@ -18,9 +18,10 @@ use Rattle.steps.proofs.Loops.{in-upTo, each-idle, each-keeps}
 use Rattle.steps.proofs.Losses.{held-unless}
 use Rattle.steps.proofs.Masks.{under-refl, under-trans}
 use Rattle.steps.proofs.Steps.{lose-none, take-under}
-use Rattle.cells.specs.code.Places.{loseIn, losePlaces}
+use Rattle.cells.specs.code.Places.{loseIn, losePlaces, allMasks, spotsIn, heldPlaces}
 use Rattle.cells.specs.code.Meets.{meetings, metUnit}
 use Rattle.cells.proofs.Places.{lose-cell}
+use Rattle.cells.proofs.HeldPlaces.{held-same}
 use Rattle.lanes.specs.code.Lanes.{Alike}
 use Rattle.lanes.proofs.Families.{take-alike, digit-parted}
 use Rattle.lanes.proofs.Turns.{Parted}
@@ -34,6 +35,11 @@ places-idle g u ps k m h none =
     (λ i o. let l = in-upTo 9 i o in
     by-test (λ (n : List ℕ). n ≡ m) (has ps i) (loseIn (isOpen g) (unitCell u i) k m) m
     (λ t. lose-cell (isOpen g) (unitCell u i) k m (cell-below u i h l) ∙ lose-none (isOpen g) (unitCell u i) k m (none i l t)) (λ t. refl))
+
+-- the places of a unit that hold a digit, as found in its masks before: nothing has changed of that digit
+pub held-still : (u d : ℕ) → u < 27 → {m n nine : List ℕ} {held : ℕ} → held ≡ spotsIn nine d → nine ≡ allMasks m u → Alike d n m → held ≡ heldPlaces n u d
+unfolding heldPlaces
+held-still u d h {m} {n} found is same = found ∙ ap (λ (x : List ℕ). spotsIn x d) is ∙ sym (held-same n m u d h (λ i l. same .at (unitCell u i)))
 
 -- the instances of digit i leave digit j
 module _ (g : List ℕ) (u : ℕ) where

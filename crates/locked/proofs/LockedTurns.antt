@@ -2,7 +2,7 @@
 use mathlib.Core.Path.{_≡_, refl, sym, ap, _∙_, subst}
 use mathlib.Core.Bool.{Bool, cond}
 use mathlib.Core.List.{List, [], _∷_}
-use Prim.Native.Nat.{ℕ, _+_, _-_, _≤_, _<_}
+use Prim.Native.Nat.{ℕ, zero, suc, _+_, _-_, _≤_, _<_}
 use native.Mathlib.Decide.{decLt}
 use native.Mathlib.Omega.{arith}
 use borrow.Author.Tests.{lt-ltb, le-ltb}
@@ -10,7 +10,7 @@ use lib.Dec.{eqb, ltb}
 use Rattle.candidates.specs.Masks.{has, minus, single, placeMask}
 use Rattle.candidates.proofs.Tests.{by-test}
 use Rattle.grid.specs.Units.{unit, unitCell, inUnit}
-use Rattle.grid.proofs.Lists.{mem-range, each-same}
+use Rattle.grid.proofs.Lists.{mem-range, range-end, turn-done, each-same}
 use Rattle.grid.proofs.Units.{cell-in}
 use Rattle.steps.specs.Boards.{isOpen}
 use Rattle.steps.specs.Instances.{Instance, lineOf, boxOf, lockedStep, pointing, claiming, stepOf, pointings, claimings}
@@ -18,7 +18,9 @@ use Rattle.steps.specs.Loops.{each, for, range, upTo}
 use Rattle.steps.specs.Passes.{Pointing, Claiming, instances, instanceTaken, pass}
 use Rattle.steps.specs.StepLists.{stepBytes}
 use Rattle.steps.specs.Steps.{Step, loseAll, stepTaken}
+use Rattle.steps.specs.code.Logs.{logAfter}
 use Rattle.steps.proofs.Loops.{in-upTo, each-for}
+use Rattle.steps.proofs.StepLogs.{log-idle, log-done}
 use Rattle.steps.proofs.Turns.{each-alike, each-one, each-in}
 use Rattle.cells.specs.code.Places.{losePlaces, heldPlaces}
 use Rattle.cells.specs.code.Meets.{meetings, metPlaces, outside, metUnit, meetTurn, meetTurns}
@@ -109,6 +111,38 @@ module _ (g : List ℕ) where
   pub unit-each : (u : ℕ) → u < 27 → (m : List ℕ) → each (instanceTaken g) (unitInstances u) m ≡ lockedUnit g u m
   unfolding unitInstances lockedUnit
   unit-each u h = each-in (instanceTaken g) (upTo 9) (digitInstances u) (lockedDigit g u) (λ d. digit-each u d h)
+
+  -- ---- units that lose nothing, passed over: those that are left still make the whole, of the masks and of the log
+
+  module _ (first end : ℕ) (most : end ≤ 27) (m l : List ℕ) where
+    abbrev pub Left : ℕ → Type 0
+    Left s = (each (lockedUnit g) (range (end - s) s) m ≡ each (lockedUnit g) (range (end - first) first) m)
+        × (logAfter g (for (range (end - s) s) unitInstances) m l ≡ logAfter g (for (range (end - first) first) unitInstances) m l)
+
+    past : (n : ℕ) → ((u : ℕ) → first ≤ u → u < first + n → u < end → lockedUnit g u m ≡ m) → Left (first + n)
+    past zero idle =
+        let e : first + 0 ≡ first = omega arith in
+        rw e (refl, refl)
+    past (suc n) idle =
+        let e : first + suc n ≡ first + n + 1 = omega arith in
+        rw e (go (decLt (first + n) end) (past n (λ u a b. idle u a (omega arith))))
+      where
+        same : first + n < end → each (instanceTaken g) (unitInstances (first + n)) m ≡ m
+        same h = unit-each (first + n) (omega arith) m ∙ idle (first + n) (omega arith) (omega arith) h
+
+        go : Dec (first + n < end) → Left (first + n) → Left (first + n + 1)
+        go (yes h) w = (
+          turn-done (lockedUnit g) end (first + n) h (sym (idle (first + n) (omega arith) (omega arith) h)) (w .0),
+          log-done g unitInstances end (first + n) m l h (sym (same h)) (sym (log-idle g (unitInstances (first + n)) m l (same h))) (w .1),
+        )
+        go (no h) w =
+            let none = range-end end (first + n + 1) (omega arith) ∙ sym (range-end end (first + n) (omega arith)) in
+            (ap (λ (is : List ℕ). each (lockedUnit g) is m) none ∙ w .0, ap (λ (is : List ℕ). logAfter g (for is unitInstances) m l) none ∙ w .1)
+
+    pub units-past : (s : ℕ) → first ≤ s → ((u : ℕ) → first ≤ u → u < s → u < end → lockedUnit g u m ≡ m) → Left s
+    units-past s h idle =
+        let e : first + (s - first) ≡ s = omega arith in
+        subst Left e (past (s - first) (λ u a b. idle u a (omega arith)))
 
   -- ---- the passes
 

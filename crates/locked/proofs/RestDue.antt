@@ -9,7 +9,7 @@ use native.Mathlib.Omega.{arith}
 use borrow.Author.Tests.{lt-ltb, le-ltb, ltb-true, ltb-false, eqb-true}
 use lib.Bits.{bitAnd}
 use lib.Dec.{eqb, ltb, eqb→eq, ltb→lt}
-use lib.ListN.{length}
+use lib.ListN.{length, replicate}
 use Rattle.candidates.specs.Masks.{has, minus, union, placeMask, Sub}
 use Rattle.candidates.proofs.Held.{Held, held-minus, held-sub, held-all}
 use Rattle.candidates.proofs.Order.{sub-trans, sub-of-minus, union-left, union-right}
@@ -27,20 +27,15 @@ use Rattle.cells.proofs.Meetings.{three-boxes, six-lines, met-below}
 use Rattle.cells.proofs.Places.{all-mask}
 use Rattle.cells.proofs.NineBits.{place-is, not-held, held-meet}
 use Rattle.cells.proofs.Shared.{joined-at, at-joined}
-use Rattle.lanes.specs.code.Lanes.{laid, doorsOf, laneAt, laneMasks, Alike}
-use Rattle.lanes.proofs.LaneUnits.{lane-at, lane-reads}
-use Rattle.locked.specs.code.Locked.{DigitSkips, BoxesOrLines}
-use Rattle.locked.specs.code.Rests.{looseMasks, restOf, Rests, laneOf, renewed, dueOn, dueThree, rowDue, colDue, boxDue, unitDue}
-use Rattle.locked.proofs.LockedTurns.{locked-digit}
-use Rattle.locked.proofs.LockedDue.{places-idle}
-use Rattle.locked.proofs.RestTable.{renewed-size, renewed-own, renewed-other}
+use Rattle.lanes.specs.code.Lanes.{laid, doorsOf, laneAt, laneMasks, InLanes, Alike, laneOf}
+use Rattle.lanes.proofs.LaneUnits.{lane-reads, lane-holds}
+use Rattle.locked.specs.code.Locked.{lockedUnit, DigitSkips, BoxesOrLines}
+use Rattle.locked.specs.code.Rests.{looseMasks, restOf, putRests, Rests, renewed, dueOn, dueThree, rowDue, colDue, boxDue, unitDue, NoneDue}
+use Rattle.locked.proofs.LockedTurns.{locked-digit, Left, units-past}
+use Rattle.locked.proofs.LockedDue.{places-idle, none-due}
+use Rattle.locked.proofs.RestTable.{rests-read, renewed-size, renewed-own, renewed-other}
 
 -- ---- the lane of a unit
-
-lane-holds : (u i : ℕ) → u < 27 → i < 9 → (m : List ℕ) → laneAt (laid m) (laneOf u) i ≡ bitAnd (at m (unitCell u i)) 511
-lane-holds u i hu hi m =
-    let e : 9 * (u / 9) + u % 9 ≡ u = omega arith in
-    lane-at (u / 9) (u % 9) (omega arith) (omega arith) i hi m ∙ ap (λ (v : ℕ). bitAnd (at m (unitCell v i)) 511) e
 
 -- an open cell's digit stands in its lane with the doors
 in-lane : (g m : List ℕ) (u i d : ℕ) → u < 27 → i < 9 → d < 9 → isOpen g (unitCell u i) ≡ true → Held (at m (unitCell u i)) d → Held (at (looseMasks (laid m) (laid (doorsOf g)) (laneOf u)) i) d
@@ -204,16 +199,13 @@ pub record Owns (m : List ℕ) (u : ℕ) (r : List ℕ) : Type 0 where
 pub outs-less : {g m n o : List ℕ} {boxes : Bool} {r : List ℕ} → o ≡ n → Under n m → Outs g m boxes r → Outs g o boxes r
 outs-less e p w = rw e (record { size = w .size; there = λ u k i d hu kind hk hi hd out free t. w .there u k i d hu kind hk hi hd out free (held-sub d (p .at (unitCell (metUnit u k) i)) t) })
 
--- the table as it was written, and as it stays until anything is lost
-pub rests-laid : (g m : List ℕ) {q p r : List ℕ} {boxes : Bool} → q ≡ laid (doorsOf g) → p ≡ laid m → Rests p q boxes r → Rests (laid m) (laid (doorsOf g)) boxes r
+-- the table as it was written
+rests-laid : (g m : List ℕ) {q p r : List ℕ} {boxes : Bool} → q ≡ laid (doorsOf g) → p ≡ laid m → Rests p q boxes r → Rests (laid m) (laid (doorsOf g)) boxes r
 rests-laid g m {q} {p} {r} {boxes} doors lanes w = subst (λ (z : List ℕ). Rests (laid m) z boxes r) doors (subst (λ (z : List ℕ). Rests z q boxes r) lanes w)
-
-pub rests-stay : {m n q r s : List ℕ} {boxes : Bool} → n ≡ m → s ≡ r → Rests (laid m) q boxes r → Rests (laid n) q boxes s
-rests-stay e is w = rw (e, is) w
 
 module _ (g m r : List ℕ) (boxes : Bool) where
   module _ (w : Rests (laid m) (laid (doorsOf g)) boxes r) where
-    pub outs-laid : Outs g m boxes r
+    outs-laid : Outs g m boxes r
     unfolding outside
     outs-laid = record {
       size = w .size;
@@ -235,16 +227,16 @@ module _ (g m r : List ℕ) (boxes : Bool) where
     apart true e v k hv f hk q = absurd (omega (arith, lines-meet v k hv hk (ltb-false v 18 f) .0, ltb-false u 18 e))
     apart false e v k hv f hk q = absurd (omega (arith, boxes-meet v k hv hk (ltb-true v 18 f) .0, ltb-true u 18 e))
 
-    outs-renewed : Outs g m boxes (renewed m u r)
+    outs-renewed : Outs g m boxes (renewed (allMasks m u) u r)
     outs-renewed = record {
-      size = renewed-size m u hu r (w .size);
-      there = λ v k i d hv f hk hi hd o free t. subst (λ (x : ℕ). Held x d) (sym (renewed-other m u hu r (w .size) (metBack v k) (laneOf (metUnit v k)) (omega (arith, met-below v k hv hk)) (apart boxes kind v k hv f hk))) (w .there v k i d hv f hk hi hd o free t);
+      size = renewed-size (allMasks m u) u hu r (w .size);
+      there = λ v k i d hv f hk hi hd o free t. subst (λ (x : ℕ). Held x d) (sym (renewed-other (allMasks m u) u hu r (w .size) (metBack v k) (laneOf (metUnit v k)) (omega (arith, met-below v k hv hk)) (apart boxes kind v k hv f hk))) (w .there v k i d hv f hk hi hd o free t);
     }
 
-    owns-renewed : Owns m u (renewed m u r)
+    owns-renewed : Owns m u (renewed (allMasks m u) u r)
     owns-renewed = record {
       from = λ k d hk t.
-          let v = at-joined (allMasks m u) (minus 511 (metPlaces k)) d (subst (λ (x : ℕ). Held x d) (renewed-own m u hu r (w .size) k hk) t) in
+          let v = at-joined (allMasks m u) (minus 511 (metPlaces k)) d (subst (λ (x : ℕ). Held x d) (renewed-own (allMasks m u) u hu r (w .size) k hk) t) in
           (v .0, v .1, v .2, subst (λ (x : ℕ). Held x d) (all-mask m u (v .0) hu (v .1)) (v .3));
     }
 
@@ -277,17 +269,28 @@ module _ (g m r : List ℕ) (boxes : Bool) (u : ℕ) (hu : u < 27) (outs : Outs 
     idle = λ d l free n same. locked-digit g u d hu l n ∙ each-idle (meetTurn g u d (heldPlaces n u d)) (upTo (meetings u)) n (λ k o. turn-idle d l n same free k (in-upTo (meetings u) k o));
   }
 
--- as code finds it: the unit's own rests taken anew, or not
-pub now-skips : (g m : List ℕ) {r s : List ℕ} {boxes : Bool} {first end due : ℕ} (u : ℕ) (lost : Bool) → BoxesOrLines first end boxes → first ≤ u → u < end → Outs g m boxes r → (lost ≡ false → Rests (laid m) (laid (doorsOf g)) boxes r)
-    → s ≡ cond lost (renewed m u r) r → due ≡ unitDue s u → Outs g m boxes s × DigitSkips g m u due
-now-skips g m {r} {s} {boxes} u lost kinds from to outs rests is due-is = rw (due-is, is) (go lost rests)
+-- as code finds it: the unit's own rests taken anew
+pub now-skips : (g m : List ℕ) {r s nine : List ℕ} {boxes : Bool} {first end due : ℕ} (u : ℕ) → BoxesOrLines first end boxes → first ≤ u → u < end → Outs g m boxes r → nine ≡ allMasks m u → s ≡ renewed nine u r → due ≡ unitDue s u → Outs g m boxes s × DigitSkips g m u due
+now-skips g m {r} {s} {nine} {boxes} u kinds from to outs read is due-is =
+    let hu : u < 27 = omega (arith, kinds .most) in
+    let kind = kinds .each u from to in
+    let o = outs-renewed g m r boxes u hu kind outs in
+    rw (due-is, is, read) (o, rest-skips g m (renewed (allMasks m u) u r) boxes u hu o (owns-renewed g m r boxes u hu kind outs) kind)
+
+-- and before that: the units before the first of which anything is due lose nothing
+none-before : (g m : List ℕ) {r : List ℕ} {boxes : Bool} {first end s : ℕ} → BoxesOrLines first end boxes → Rests (laid m) (laid (doorsOf g)) boxes r → NoneDue r (cond boxes 18 0) s → (u : ℕ) → first ≤ u → u < s → u < end → lockedUnit g u m ≡ m
+none-before g m {r} {boxes} kinds w none u from before to =
+    let hu : u < 27 = omega (arith, kinds .most) in
+    let kind = kinds .each u from to in
+    none-due g m u (rest-skips g m r boxes u hu (outs-laid g m r boxes w) (owns-laid g m r boxes w u hu kind) kind) (none .none u (low boxes kind) before)
   where
-    hu : u < 27
-    hu = omega (arith, kinds .most)
+    low : (b : Bool) → ltb u 18 ≡ not b → cond b 18 0 ≤ u
+    low true e = ltb-false u 18 e
+    low false e = omega arith
 
-    kind : ltb u 18 ≡ not boxes
-    kind = kinds .each u from to
-
-    go : (b : Bool) → (b ≡ false → Rests (laid m) (laid (doorsOf g)) boxes r) → Outs g m boxes (cond b (renewed m u r) r) × DigitSkips g m u (unitDue (cond b (renewed m u r) r) u)
-    go true w = let o = outs-renewed g m r boxes u hu kind outs in (o, rest-skips g m (renewed m u r) boxes u hu o (owns-renewed g m r boxes u hu kind outs) kind)
-    go false w = (outs, rest-skips g m r boxes u hu outs (owns-laid g m r boxes (w refl) u hu kind) kind)
+pub first-skips : (g m l : List ℕ) {q p r : List ℕ} {boxes : Bool} {first end s : ℕ} (kinds : BoxesOrLines first end boxes) → InLanes g m q p → r ≡ putRests p q boxes (replicate 288 0) → NoneDue r (cond boxes 18 0) s
+    → (first ≤ s) × Outs g m boxes r × Left g first end (kinds .most) m l s
+first-skips g m l {q} {p} {r} {boxes} {first} {end} {s} kinds in-lanes put none =
+    let table = rests-laid g m (in-lanes .doors) (in-lanes .masks) (rests-read p q boxes (replicate 288 0) refl put) in
+    let rise : first ≤ s = omega (arith, kinds .low, none .from) in
+    (rise, outs-laid g m r boxes table, units-past g first end (kinds .most) m l s rise (none-before g m kinds table none))

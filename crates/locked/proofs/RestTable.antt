@@ -15,8 +15,8 @@ use Rattle.steps.specs.Boards.{at}
 use Rattle.steps.specs.Loops.{each, range, upTo}
 use Rattle.steps.proofs.Loops.{upTo-in, each-keeps}
 use Rattle.cells.specs.code.Meets.{meetings}
-use Rattle.cells.specs.code.Places.{allMasks}
-use Rattle.locked.specs.code.Rests.{nineOf, restOf, putRest, putLane, putTurn, putLanes, putRests, Rests, laneOf, renewed}
+use Rattle.lanes.specs.code.Lanes.{laneOf}
+use Rattle.locked.specs.code.Rests.{nineOf, restOf, putRest, putLane, putTurn, putLanes, putRests, Rests, renewed}
 
 -- what one member brings about and all keep
 reached : {A S : Type 0} (f : A → S → S) (P : S → Type 0) (xs : List A) (x : A) → List·Memᴰ x xs → ((s : S) → P (f x s)) → ((y : A) → List·Memᴰ y xs → (s : S) → P s → P (f y s)) → (s : S) → P (each f xs s)
@@ -102,19 +102,19 @@ rests-read p q boxes r size is = subst (Rests p q boxes) (sym is) (read p q boxe
 
 -- ---- a unit's own rests taken anew
 
-module _ (m : List ℕ) (u : ℕ) (hu : u < 27) (r : List ℕ) (size : length r ≡ 288) where
-  pub renewed-size : length (renewed m u r) ≡ 288
+module _ (nine : List ℕ) (u : ℕ) (hu : u < 27) (r : List ℕ) (size : length r ≡ 288) where
+  pub renewed-size : length (renewed nine u r) ≡ 288
   unfolding renewed
-  renewed-size = lane-size (allMasks m u) (meetings u) (laneOf u) r size
+  renewed-size = lane-size nine (meetings u) (laneOf u) r size
 
-  pub renewed-own : (k : ℕ) → k < meetings u → at (renewed m u r) (48 * k + laneOf u) ≡ restOf (allMasks m u) k
+  pub renewed-own : (k : ℕ) → k < meetings u → at (renewed nine u r) (48 * k + laneOf u) ≡ restOf nine k
   unfolding renewed
-  renewed-own k h = lane-made k (laneOf u) (restOf (allMasks m u) k) (omega arith) (allMasks m u) (meetings u) h most refl r renewed-size
+  renewed-own k h = lane-made k (laneOf u) (restOf nine k) (omega arith) nine (meetings u) h most refl r renewed-size
     where
       most : meetings u ≤ 6
       most = unfold meetings in by-test (λ (n : ℕ). n ≤ 6) (ltb u 18) 3 6 (λ t. omega arith) (λ t. omega arith)
 
   -- the other lanes stay
-  pub renewed-other : (n l : ℕ) → l < 48 → l ≢ laneOf u → at (renewed m u r) (48 * n + l) ≡ at r (48 * n + l)
+  pub renewed-other : (n l : ℕ) → l < 48 → l ≢ laneOf u → at (renewed nine u r) (48 * n + l) ≡ at r (48 * n + l)
   unfolding renewed
-  renewed-other n l low other = lane-kept n l (at r (48 * n + l)) low (allMasks m u) (meetings u) (laneOf u) (omega arith) other r (λ _. refl) renewed-size
+  renewed-other n l low other = lane-kept n l (at r (48 * n + l)) low nine (meetings u) (laneOf u) (omega arith) other r (λ _. refl) renewed-size

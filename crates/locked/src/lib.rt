@@ -9,14 +9,14 @@ ghost use Rattle.steps.specs.Passes.{changed, pass, instances, Pointing, Claimi
 ghost use Rattle.steps.specs.StepLists.{stepBytes};
 ghost use Rattle.steps.specs.code.Logs.{noted, logAfter};
 ghost use Rattle.cells.specs.code.Meets.{meetings, meetTurn};
-ghost use Rattle.cells.specs.code.Places.{loseIn, losePlaces, heldPlaces};
+ghost use Rattle.cells.specs.code.Places.{loseIn, losePlaces, allMasks, heldPlaces};
 ghost use Rattle.lanes.specs.code.Lanes.{InLanes, laid};
 ghost use Rattle.locked.specs.code.Locked.{metInstance, digitInstances, unitInstances, lockedDigit, lockedUnit, DigitSkips, BoxesOrLines};
 
 mod rests;
 
 use candidates::masks;
-use cells::held_places;
+use cells::all_masks;
 use cells::lose_at;
 use cells::mask_at;
 use cells::meets::meetings;
@@ -24,6 +24,7 @@ use cells::meets::met_places;
 use cells::meets::met_unit;
 use cells::meets::outside;
 use cells::notes::note;
+use cells::places_of;
 use grid::unit_cell;
 use lanes::doors;
 use lanes::lanes_of;
@@ -117,12 +118,18 @@ fn locked_at(
 }
 
 // The instances of a digit. None of them changes which places of the unit hold it.
-fn locked_digit(givens: &[u8; 81], masks: &mut [u16; 81], log: &mut [u8], unit: usize, digit: usize)
-    requires { ⌜ (unit < 27) × (digit < 9) ⌝ }
+fn locked_digit(
+    givens: &[u8; 81],
+    masks: &mut [u16; 81],
+    log: &mut [u8],
+    unit: usize,
+    digit: usize,
+    held: u16,
+)
+    requires { ⌜ (unit < 27) × (digit < 9) × (held ≡ heldPlaces (now masks) unit digit) ⌝ }
     ensures { λ _. ⌜ now (masks .exit) ≡ lockedDigit (now (givens .entry)) unit digit (now (masks .entry)) ⌝ }
     ensures { λ _. ⌜ now (log .exit) ≡ logAfter (now (givens .entry)) (digitInstances unit digit) (now (masks .entry)) (now (log .entry)) ⌝ }
 {
-    let held = held_places(masks, unit, digit);
     let count = meetings(unit);
     let mut nth: usize = 0;
     while nth < count {
@@ -131,22 +138,30 @@ fn locked_digit(givens: &[u8; 81], masks: &mut [u16; 81], log: &mut [u8], unit: 
     }
 }
 
-// The due instances of a unit. Which digits are due is asked once, since the instances of a digit change no other.
-fn locked_unit(givens: &[u8; 81], masks: &mut [u16; 81], log: &mut [u8], unit: usize, due: u16)
-    requires { ⌜ (unit < 27) × DigitSkips (now givens) (now masks) unit due ⌝ }
+// The due instances of a unit, whose masks are `nine`. Which digits are due, and where the unit holds them, is asked once, since the instances of a digit change no other.
+fn locked_unit(
+    givens: &[u8; 81],
+    masks: &mut [u16; 81],
+    log: &mut [u8],
+    nine: &[u16; 9],
+    unit: usize,
+    due: u16,
+)
+    requires { ⌜ (unit < 27) × (now nine ≡ allMasks (now masks) unit) × DigitSkips (now givens) (now masks) unit due ⌝ }
     ensures { λ _. ⌜ now (masks .exit) ≡ lockedUnit (now (givens .entry)) unit (now (masks .entry)) ⌝ }
     ensures { λ _. ⌜ now (log .exit) ≡ logAfter (now (givens .entry)) (unitInstances unit) (now (masks .entry)) (now (log .entry)) ⌝ }
 {
     let mut digit: usize = 0;
     while digit < 9 {
         if masks::has_digit(due, digit) {
-            locked_digit(givens, masks, log, unit, digit);
+            let held = places_of(nine, digit);
+            locked_digit(givens, masks, log, unit, digit, held);
         }
         digit += 1;
     }
 }
 
-// The instances of the units from the first to before the end, which are boxes or lines. A unit of which nothing is due is passed over; a loss at one may make others due.
+// The instances of the units from the first to before the end, which are boxes or lines. Those before the first of which anything is due are passed over; from there on each is asked anew, since a loss at one may make others due.
 fn locked_lanes(
     givens: &[u8; 81],
     masks: &mut [u16; 81],
@@ -164,19 +179,19 @@ fn locked_lanes(
 {
     let mut rests = [0u16; 288];
     rests::put_rests(lanes, doors, &mut rests, boxes);
-    let mut lost = false;
-    let mut unit = first;
+    let mut unit = rests::first_due(&rests, boxes);
+    if end <= unit {
+        return;
+    }
     while unit < end {
-        let due = rests::due_now(masks, &mut rests, unit, lost);
+        let nine = all_masks(masks, unit);
+        let due = rests::due_now(&nine, &mut rests, unit);
         if due != 0 {
-            locked_unit(givens, masks, log, unit, due);
-            lost = true;
+            locked_unit(givens, masks, log, &nine, unit, due);
         }
         unit += 1;
     }
-    if lost {
-        lay(masks, lanes);
-    }
+    lay(masks, lanes);
 }
 
 // Pointing, where the masks and the doors of the givens stand in lanes too.

@@ -3,11 +3,11 @@
 // The nth rest of lane l stands at 48 n + l. Of the units that may lose, open cells count alone.
 ghost use mathlib.Core.Path.{_≡_};
 ghost use mathlib.Core.Bool.{cond};
-ghost use Prim.Native.Nat.{_+_, _*_, _<_};
-ghost use Rattle.locked.specs.code.Rests.{looseMasks, nineOf, putRest, putLane, putLanes, putRests, renewed, dueThree, rowDue, colDue, boxDue, unitDue};
+ghost use Prim.Native.Nat.{_+_, _*_, _≤_, _<_};
+ghost use Rattle.locked.specs.code.Rests.{looseMasks, nineOf, putRest, putLane, putLanes, putRests, renewed, dueThree, rowDue, colDue, boxDue, unitDue, nineDue, NoneIn, NoneDue};
 use candidates::masks;
-use cells::all_masks;
 use cells::meets::met_places;
+use cells::unions::join_all;
 use cells::unions::join_places;
 use lanes::lane_masks;
 
@@ -147,28 +147,73 @@ fn due_digits(rests: &[u16; 288], unit: usize) -> u16
     box_due(rests, unit - 18)
 }
 
-// The unit's own rests anew, from the masks.
-fn renew(masks: &[u16; 81], rests: &mut [u16; 288], unit: usize)
-    requires { ⌜ unit < 27 ⌝ }
-    ensures { λ _. ⌜ now (rests .exit) ≡ renewed (now (masks .entry)) unit (now (rests .entry)) ⌝ }
+// What is due of nine units, from the first one on.
+fn nine_due(rests: &[u16; 288], first: usize) -> [u16; 9]
+    requires { ⌜ first ≤ 18 ⌝ }
+    ensures { λ r. ⌜ r ≡ nineDue (now (rests .entry)) first ⌝ }
 {
-    let own = all_masks(masks, unit);
+    let mut due = [0u16; 9];
+    let mut nth: usize = 0;
+    while nth < 9 {
+        due[nth] = due_digits(rests, first + nth);
+        nth += 1;
+    }
+    due
+}
+
+// The first of nine sets that holds anything, 9 where none does: that is asked of all at once.
+fn first_some(sets: &[u16; 9]) -> usize
+    ensures { λ r. ⌜ NoneIn (now (sets .entry)) r ⌝ }
+{
+    if join_all(sets) == 0 {
+        return 9;
+    }
+    let mut nth: usize = 0;
+    while nth < 9 {
+        if sets[nth] != 0 {
+            return nth;
+        }
+        nth += 1;
+    }
+    nth
+}
+
+// The first of the boxes, or of the lines, of which anything is due; the unit after them where nothing is.
+pub fn first_due(rests: &[u16; 288], boxes: bool) -> usize
+    ensures { λ r. ⌜ NoneDue (now (rests .entry)) (cond boxes 18 0) r ⌝ }
+{
+    if boxes {
+        let due = nine_due(rests, 18);
+        return 18 + first_some(&due);
+    }
+    let rows = nine_due(rests, 0);
+    let row = first_some(&rows);
+    if row < 9 {
+        return row;
+    }
+    let cols = nine_due(rests, 9);
+    9 + first_some(&cols)
+}
+
+// The unit's own rests anew, from its masks.
+fn renew(own: &[u16; 9], rests: &mut [u16; 288], unit: usize)
+    requires { ⌜ unit < 27 ⌝ }
+    ensures { λ _. ⌜ now (rests .exit) ≡ renewed (now (own .entry)) unit (now (rests .entry)) ⌝ }
+{
     let lane = 16 * (unit / 9) + unit % 9;
     if 18 <= unit {
-        put_six(&own, rests, lane);
+        put_six(own, rests, lane);
     } else {
-        put_three(&own, rests, lane);
+        put_three(own, rests, lane);
     }
 }
 
-// What is due of a unit, its own rests taken anew where losses have made them stale. What the others hold only shrinks, so that their rests still tell all that may be due.
-pub fn due_now(masks: &[u16; 81], rests: &mut [u16; 288], unit: usize, stale: bool) -> u16
+// What is due of a unit, its own rests taken anew from its masks. What the others hold only shrinks, so that their rests still tell all that may be due.
+pub fn due_now(own: &[u16; 9], rests: &mut [u16; 288], unit: usize) -> u16
     requires { ⌜ unit < 27 ⌝ }
-    ensures { λ _. ⌜ now (rests .exit) ≡ cond stale (renewed (now (masks .entry)) unit (now (rests .entry))) (now (rests .entry)) ⌝ }
+    ensures { λ _. ⌜ now (rests .exit) ≡ renewed (now (own .entry)) unit (now (rests .entry)) ⌝ }
     ensures { λ r. ⌜ r ≡ unitDue (now (rests .exit)) unit ⌝ }
 {
-    if stale {
-        renew(masks, rests, unit);
-    }
+    renew(own, rests, unit);
     due_digits(rests, unit)
 }

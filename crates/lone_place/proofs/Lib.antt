@@ -2,8 +2,11 @@ pub mod Gone
 pub mod Blocks
 pub mod Taking
 pub mod Peers
+pub mod UnitLanes
 pub mod PlaceTurns
+pub mod PlaceSets
 pub mod PlaceDue
+pub mod PlaceNext
 pub mod LoneDue
 pub mod PlaceLanes
 pub mod LoneLanes

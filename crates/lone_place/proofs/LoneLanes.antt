@@ -2,31 +2,29 @@
 use mathlib.Core.Path.{_≡_, refl, sym, ap, _∙_, subst}
 use mathlib.Core.Bool.{Bool, true, false, cond}
 use mathlib.Core.List.{List, List·Memᴰ}
-use Prim.Native.Nat.{ℕ, _+_, _*_, _/_, _%_, _<_}
+use Prim.Native.Nat.{ℕ, _+_, _*_, _/_, _<_}
 use native.Mathlib.Omega.{arith}
-use lib.Bits.{bitAnd}
 use Rattle.candidates.specs.Masks.{has, union, Sub}
-use Rattle.candidates.proofs.Held.{Held, none-held, held-all, held-sub}
+use Rattle.candidates.proofs.Held.{Held, held-sub}
 use Rattle.candidates.proofs.Order.{sub-antisym, sub-none}
 use Rattle.grid.specs.Cells.{row, col, box, peers}
 use Rattle.grid.specs.Units.{unitCell}
-use Rattle.grid.proofs.Cells.{row-below, row-in, peer-sees, sees-shared, cell-lt, box-of}
+use Rattle.grid.proofs.Cells.{peer-sees, sees-shared, cell-lt, box-of}
 use Rattle.grid.proofs.Lists.{at-upTo}
-use Rattle.grid.proofs.Units.{in-member, member-in}
-use Rattle.steps.specs.Boards.{at, isOpen, Under}
+use Rattle.grid.proofs.Units.{member-in}
+use Rattle.steps.specs.Boards.{at, Under}
 use Rattle.steps.specs.Loops.{each, upTo}
 use Rattle.steps.specs.Passes.{Lone, pass}
 use Rattle.steps.proofs.Loops.{in-upTo, each-idle, each-keeps}
 use Rattle.steps.proofs.Masks.{under-refl, under-trans}
-use Rattle.cells.specs.code.Places.{allMasks}
+use Rattle.cells.specs.code.Places.{allMasks, looseDigits}
 use Rattle.cells.specs.code.Unions.{sharedOf}
-use Rattle.cells.proofs.NineBits.{held-meet}
 use Rattle.cells.proofs.Places.{all-mask}
-use Rattle.cells.proofs.Shared.{union-at, twice-shared}
-use Rattle.lanes.specs.code.Lanes.{laid, doorsOf, laneMasks, nines, looseSets, joinedSets, InLanes}
-use Rattle.lanes.proofs.LaneUnits.{lane-masks, in-loose, none-joined}
+use Rattle.cells.proofs.Shared.{union-at, twice-shared, loose-none}
+use Rattle.lanes.specs.code.Lanes.{laid, laneMasks, nines, laneOf}
+use Rattle.lanes.proofs.LaneUnits.{unit-lane}
 use Rattle.lone_place.specs.code.Turns.{loneCell, loneRow}
-use Rattle.lone_place.specs.code.Due.{around, laneOf, sharedLanes, Covers, nearRow, Near, NearRow, dueFlag, dueRow}
+use Rattle.lone_place.specs.code.Due.{around, sharedLanes, Covers, nearRow, Near, NearRow, dueFlag, dueRow}
 use Rattle.lone_place.proofs.Peers.{in-around}
 use Rattle.lone_place.proofs.LoneDue.{lone-under, near-under, no-loss, not-due}
 use Rattle.lone_place.proofs.PlaceDue.{held-nine}
@@ -38,15 +36,10 @@ pub sets-cover : (m : List ℕ) → Covers (sharedLanes (laid m)) m
 unfolding sharedLanes
 sets-cover m = record {
   holds = λ u i j d h l n o r p q.
-      ap (λ (x : ℕ). has x d) (at-upTo (λ k. sharedOf (laneMasks (laid m) k)) 0 48 (laneOf u) (omega arith) ∙ ap sharedOf (lane u h))
+      ap (λ (x : ℕ). has x d) (at-upTo (λ k. sharedOf (laneMasks (laid m) k)) 0 48 (laneOf u) (omega arith) ∙ ap sharedOf (unit-lane m u h))
       ∙ twice-shared (nines (allMasks m u)) d i j l n r (held m u d h o i l p) (held m u d h o j n q);
 }
   where
-    lane : (u : ℕ) → u < 27 → laneMasks (laid m) (laneOf u) ≡ nines (allMasks m u)
-    lane u h =
-        let e : 9 * (u / 9) + u % 9 ≡ u = omega arith in
-        lane-masks (u / 9) (u % 9) (omega arith) (omega arith) m ∙ ap (λ (v : ℕ). nines (allMasks m v)) e
-
     held : (m : List ℕ) (u d : ℕ) → u < 27 → d < 9 → (i : ℕ) → i < 9 → Held (at m (unitCell u i)) d → Held (at (nines (allMasks m u)) i) d
     held m u d h o i l p = held-nine (allMasks m u) d o i l (ap (λ (x : ℕ). has x d) (all-mask m u i h l) ∙ p)
 
@@ -117,23 +110,7 @@ lone-rows g m = lone-pass g m
 
 -- ---- nothing to lose
 
-pub none-loose : (g m : List ℕ) {q p free : List ℕ} → InLanes g m q p → free ≡ looseSets p q 0 → joinedSets free ≡ 0 → pass g Lone m ≡ m
-none-loose g m {q} {p} {free} w a e =
+pub lone-idle : (g m : List ℕ) → looseDigits g m ≡ 0 → pass g Lone m ≡ m
+lone-idle g m e =
     lone-pass g m
-    ∙ each-idle (loneCell g) (upTo 81) m (λ c k. unfold loneCell in each-idle _ (upTo 9) m (λ d l. no-loss g m c d (λ t e s f. nothing e d (peer-sees c e s .0) (in-upTo 9 d l) f)))
-  where
-    lanes : free ≡ looseSets (laid m) (laid (doorsOf g)) (16 * 0)
-    lanes = a ∙ ap (λ (z : List ℕ). looseSets p z 0) (w .doors) ∙ ap (λ (z : List ℕ). looseSets z (laid (doorsOf g)) 0) (w .masks)
-
-    nothing : (c d : ℕ) → c < 81 → d < 9 → isOpen g c ≡ true → Held (at m c) d → ⊥
-    nothing c d h l f t =
-        let i = in-member (row c) c (omega arith) h (row-in c h) in
-        let first : 9 * 0 + row c ≡ row c = omega arith in
-        let at-c : unitCell (9 * 0 + row c) (i .place) ≡ c = ap (λ (u : ℕ). unitCell u (i .place)) first ∙ i .is in
-        let none = none-joined free e (row c) (omega (arith, row-below c h)) in
-        none-held d
-        (held-sub d
-        (subst (λ (x : ℕ). Sub (bitAnd (at m x) 511) 0) at-c
-        (subst (Sub (bitAnd (at m (unitCell (9 * 0 + row c) (i .place))) 511)) (sym (ap (λ (z : List ℕ). at z (row c)) lanes) ∙ none)
-        (in-loose 0 (row c) (omega arith) (row-below c h) (i .place) (i .within) g m (ap (isOpen g) at-c ∙ f))))
-        (held-meet (at m c) 511 d .1 (t, held-all d l)))
+    ∙ each-idle (loneCell g) (upTo 81) m (λ c k. unfold loneCell in each-idle _ (upTo 9) m (λ d l. no-loss g m c d (λ t x s free. loose-none g m e x d (peer-sees c x s .0) (in-upTo 9 d l) free)))

@@ -15,7 +15,6 @@ use Rattle.candidates.proofs.Held.{Held, none-held, has-minus, held-minus, held
 use Rattle.candidates.proofs.Order.{apart-sub, sub-of-minus}
 use Rattle.candidates.proofs.Tests.{by-test, cond-false}
 use Rattle.grid.specs.Units.{unitCell}
-use Rattle.grid.proofs.Lists.{at-upTo}
 use Rattle.steps.specs.Boards.{at, isOpen}
 use Rattle.steps.specs.Loops.{upTo}
 use Rattle.steps.specs.Steps.{loseAt}
@@ -31,12 +30,9 @@ use Rattle.lanes.specs.code.Lanes.{nines}
 use Rattle.lone_place.specs.code.Turns.{placeTurn, placeDigit}
 use Rattle.lone_place.specs.code.Due.{dueOf}
 use Rattle.lone_place.proofs.PlaceTurns.{place-digit}
+use Rattle.lone_place.proofs.UnitLanes.{nines-at}
 
 -- ---- what is not due
-
-nines-at : (masks : List ℕ) (l : ℕ) → l < 9 → at (nines masks) l ≡ bitAnd (at masks l) 511
-unfolding nines
-nines-at masks l h = at-upTo (λ i. bitAnd (at masks i) 511) 0 9 l h
 
 module _ (nine : List ℕ) (d : ℕ) (l : d < 9) where
   pub held-nine : (i : ℕ) → i < 9 → Held (at nine i) d → Held (at (nines nine) i) d
@@ -105,13 +101,7 @@ module _ (g m : List ℕ) (u d : ℕ) (h : u < 27) (l : d < 9) where
           let q : Held (at (allMasks m u) k) d = subst (λ (j : ℕ). Held (at (allMasks m u) j) d) (alone k i n o e t) t in
           subst (λ (x : ℕ). bitAnd x (minus 511 (single d)) ≡ 0) (all-mask m u k h n) (one k n q)
 
-  pub not-due : has (dueOf (allMasks m u)) d ≡ false → placeDigit g u d m ≡ m
-  not-due t =
-      ⊎-elim (λ s. twice-idle (shared-twice (allMasks m u) d s))
-      (λ p. let w = joined-held (allMasks m u) d (p .0) in alone-idle (w .0) (w .1) (w .2) (λ j o q. only-digit (at (allMasks m u) j) q (several-not (allMasks m u) d (p .1) j o q)))
-      (cases (allMasks m u) d l t)
-
-  -- the same of the nine digits of the masks
+  -- by the nine digits of the masks
   module _ (i : ℕ) (n : i < 9) where
     of-nine : Held (at (nines (allMasks m u)) i) d → Held (at (allMasks m u) i) d
     of-nine t = held-meet (at (allMasks m u) i) 511 d .0 (subst (λ (x : ℕ). Held x d) (nines-at (allMasks m u) i n) t) .0

@@ -13,10 +13,9 @@ use lanes::lanes_of;
 pub fn lone(givens: &[u8; 81], masks: &mut [u16; 81])
     ensures { λ _. ⌜ now (masks .exit) ≡ pass (now (givens .entry)) Lone (now (masks .entry)) ⌝ }
 {
-    let doors = lanes_of(&doors(givens));
     let mut lanes = lanes_of(masks);
     let mut none: [u8; 0] = [];
-    lones::lone_lanes(givens, masks, &mut none, &doors, &mut lanes);
+    lones::lone_lanes(givens, masks, &mut none, &mut lanes);
 }
 
 // Place: no other cell of a unit holds d: the cell loses all but d.

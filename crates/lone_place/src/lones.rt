@@ -5,11 +5,12 @@ ghost use Prim.Native.Nat.{_<_};
 ghost use Rattle.steps.specs.Instances.{lone};
 ghost use Rattle.steps.specs.Passes.{instances, instanceTaken, pass, Lone};
 ghost use Rattle.steps.specs.code.Logs.{logAfter};
-ghost use Rattle.lanes.specs.code.Lanes.{InLanes, laid};
+ghost use Rattle.lanes.specs.code.Lanes.{laid};
 ghost use Rattle.lone_place.specs.code.Turns.{loneCell, loneRow, cellLones, rowLones};
 ghost use Rattle.lone_place.specs.code.Due.{looseIn, looseNear, loneHeld, sharedLanes, nearRow, loneDue, dueFlag, dueRow, Near, NearRow, Covers, Kept};
 use crate::losses::lose_peers;
 use candidates::masks;
+use cells::loose_digits;
 use cells::mask_at;
 use cells::notes::note;
 use cells::unions::join_all;
@@ -18,10 +19,8 @@ use cells::unit_masks;
 use grid::box_of;
 use grid::col_of;
 use grid::row_of;
-use lanes::join_sets;
 use lanes::lane_masks;
 use lanes::lay;
-use lanes::loose;
 
 // One instance.
 fn lone_at(givens: &[u8; 81], masks: &mut [u16; 81], log: &mut [u8], cell: usize, digit: usize)
@@ -187,21 +186,14 @@ fn lone_rows(givens: &[u8; 81], masks: &mut [u16; 81], log: &mut [u8], sets: &[u
     any
 }
 
-// Lone, where the masks and the doors of the givens stand in lanes too. Where no open cell holds anything, as on a dead board, nothing can be lost.
-pub fn lone_lanes(
-    givens: &[u8; 81],
-    masks: &mut [u16; 81],
-    log: &mut [u8],
-    doors: &[u16; 432],
-    lanes: &mut [u16; 432],
-)
-    requires { ⌜ InLanes (now givens) (now masks) (now doors) (now lanes) ⌝ }
+// Lone, where the masks stand in lanes too. Where no open cell holds anything, as on a dead board, nothing can be lost.
+pub fn lone_lanes(givens: &[u8; 81], masks: &mut [u16; 81], log: &mut [u8], lanes: &mut [u16; 432])
+    requires { ⌜ now lanes ≡ laid (now masks) ⌝ }
     ensures { λ _. ⌜ now (masks .exit) ≡ pass (now (givens .entry)) Lone (now (masks .entry)) ⌝ }
     ensures { λ _. ⌜ now (lanes .exit) ≡ laid (now (masks .exit)) ⌝ }
     ensures { λ _. ⌜ now (log .exit) ≡ logAfter (now (givens .entry)) (instances Lone) (now (masks .entry)) (now (log .entry)) ⌝ }
 {
-    let free = loose(lanes, doors, 0);
-    if join_sets(&free) == 0 {
+    if loose_digits(givens, masks) == 0 {
         return;
     }
     let sets = shared_lanes(lanes);

@@ -1,64 +1,110 @@
-// Place, by units, digits and instances.
+// Place, by units, digits and instances. What a unit holds is read off its lane, which takes each mask that loses something.
 ghost use mathlib.Core.Path.{_≡_};
 ghost use mathlib.Core.Bool.{cond};
 ghost use mathlib.Core.List.{[], _∷_};
 ghost use Prim.Native.Nat.{_<_, _≤_};
 ghost use lib.Dec.{eqb};
+ghost use Rattle.candidates.specs.Masks.{minus, single};
 ghost use Rattle.steps.specs.Instances as named;
-ghost use Rattle.steps.specs.Passes.{instances, pass, Place};
+ghost use Rattle.steps.specs.Passes.{instances, instanceTaken, pass, Place};
 ghost use Rattle.steps.specs.code.Logs.{logAfter};
-ghost use Rattle.cells.specs.code.Places.{allMasks, heldPlaces};
-ghost use Rattle.lone_place.specs.code.Turns.{placeTurn, placeDigit, placeUnit, digitPlaces, unitPlaces, familyPlaces};
-ghost use Rattle.lanes.specs.code.Lanes.{InLanes, laid, laneMasks};
-ghost use Rattle.lone_place.specs.code.Due.{dueOf, placeDue, placeSets, placeFamily, Spares, PlaceSpares};
+ghost use Rattle.cells.specs.code.Places.{spotsIn, heldPlaces};
+ghost use Rattle.lone_place.specs.code.Turns.{placeDigit, placeUnit, digitPlaces, unitPlaces, familyPlaces};
+ghost use Rattle.lanes.specs.code.Lanes.{InLanes, laid, laneMasks, laneOf};
+ghost use Rattle.lone_place.specs.code.Due.{turnsOf, dueOf, placeDue, placeSets, placeFamily, Spares, PlaceSpares};
 use crate::losses::lose_cell;
 use candidates::masks;
-use cells::all_masks;
-use cells::held_places;
 use cells::notes::note;
+use cells::places_of;
 use cells::unions::join_all;
 use cells::unions::several;
 use cells::unions::shared;
 use grid::unit_cell;
 use lanes::join_sets;
 use lanes::lane_masks;
-use lanes::lay;
+use lanes::lay_cell;
 use lanes::loose;
 
-// One instance, where `held` are the places that hold the digit.
+// One instance that passes its test: the cell at this place alone may hold the digit.
 fn place_at(
     givens: &[u8; 81],
     masks: &mut [u16; 81],
     log: &mut [u8],
+    lanes: &mut [u16; 432],
     unit: usize,
     digit: usize,
-    held: u16,
     place: usize,
 )
-    requires { ⌜ (unit < 27) × (digit < 9) × (place < 9) × (held ≡ heldPlaces (now masks) unit digit) ⌝ }
-    ensures { λ _. ⌜ now (masks .exit) ≡ placeTurn (now (givens .entry)) unit digit held place (now (masks .entry)) ⌝ }
+    requires { ⌜ (unit < 27) × (digit < 9) × (place < 9) × (minus (heldPlaces (now masks) unit digit) (single place) ≡ 0) × (now lanes ≡ laid (now masks)) ⌝ }
+    ensures { λ _. ⌜ now (masks .exit) ≡ instanceTaken (now (givens .entry)) (named.place unit digit place) (now (masks .entry)) ⌝ }
+    ensures { λ _. ⌜ now (lanes .exit) ≡ laid (now (masks .exit)) ⌝ }
     ensures { λ _. ⌜ now (log .exit) ≡ logAfter (now (givens .entry)) (named.place unit digit place ∷ []) (now (masks .entry)) (now (log .entry)) ⌝ }
 {
-    if masks::is_none(masks::lose(held, masks::digit_mask(place))) {
-        let others = masks::lose(511, masks::digit_mask(digit));
-        let cell = unit_cell(unit, place);
-        if lose_cell(givens, masks, cell, others) != 0 {
-            note(log, 1, unit, digit + 1, cell, 0, 0);
-        }
+    let others = masks::lose(511, masks::digit_mask(digit));
+    let cell = unit_cell(unit, place);
+    if lose_cell(givens, masks, cell, others) != 0 {
+        lay_cell(masks, lanes, cell);
+        note(log, 1, unit, digit + 1, cell, 0, 0);
     }
 }
 
-// The instances of a digit. None of them changes which places hold it.
-fn place_digit(givens: &[u8; 81], masks: &mut [u16; 81], log: &mut [u8], unit: usize, digit: usize)
-    requires { ⌜ (unit < 27) × (digit < 9) ⌝ }
+// The masks of a unit, clue cells too, off its lane.
+fn unit_lane(lanes: &[u16; 432], unit: usize) -> [u16; 9]
+    requires { ⌜ unit < 27 ⌝ }
+    ensures { λ r. ⌜ r ≡ laneMasks (now (lanes .entry)) (laneOf unit) ⌝ }
+{
+    lane_masks(lanes, 16 * (unit / 9) + unit % 9)
+}
+
+// The places of a unit that hold the digit.
+fn held_in(lanes: &[u16; 432], unit: usize, digit: usize) -> u16
+    requires { ⌜ unit < 27 ⌝ }
+    ensures { λ r. ⌜ r ≡ spotsIn (laneMasks (now (lanes .entry)) (laneOf unit)) digit ⌝ }
+{
+    let nine = unit_lane(lanes, unit);
+    places_of(&nine, digit)
+}
+
+// The places whose instances pass their test: all of them where none holds the digit, else the one that alone holds it.
+fn turns_of(held: u16) -> u16
+    requires { ⌜ held < 512 ⌝ }
+    ensures { λ r. ⌜ r ≡ turnsOf held ⌝ }
+{
+    if held == 0 {
+        return 511;
+    }
+    if masks::is_one(held) {
+        return held;
+    }
+    0
+}
+
+// The instances of a digit that pass their test. None of them changes which places hold it.
+fn place_digit(
+    givens: &[u8; 81],
+    masks: &mut [u16; 81],
+    log: &mut [u8],
+    lanes: &mut [u16; 432],
+    unit: usize,
+    digit: usize,
+)
+    requires { ⌜ (unit < 27) × (digit < 9) × (now lanes ≡ laid (now masks)) ⌝ }
     ensures { λ _. ⌜ now (masks .exit) ≡ placeDigit (now (givens .entry)) unit digit (now (masks .entry)) ⌝ }
+    ensures { λ _. ⌜ now (lanes .exit) ≡ laid (now (masks .exit)) ⌝ }
     ensures { λ _. ⌜ now (log .exit) ≡ logAfter (now (givens .entry)) (digitPlaces unit digit) (now (masks .entry)) (now (log .entry)) ⌝ }
 {
-    let held = held_places(masks, unit, digit);
-    let mut place: usize = 0;
-    while place < 9 {
-        place_at(givens, masks, log, unit, digit, held, place);
-        place += 1;
+    let mut left = turns_of(held_in(lanes, unit, digit));
+    while left != 0 {
+        place_at(
+            givens,
+            masks,
+            log,
+            lanes,
+            unit,
+            digit,
+            masks::lowest_digit(left),
+        );
+        left = masks::lose_lowest(left);
     }
 }
 
@@ -70,27 +116,32 @@ fn due_of(nine: &[u16; 9]) -> u16
     masks::lose(masks::lose(511, shared(nine)), single)
 }
 
-fn due_digits(masks: &[u16; 81], unit: usize) -> u16
-    ensures { λ r. ⌜ r ≡ dueOf (allMasks (now (masks .entry)) unit) ⌝ }
+fn due_digits(lanes: &[u16; 432], unit: usize) -> u16
+    requires { ⌜ unit < 27 ⌝ }
+    ensures { λ r. ⌜ r ≡ dueOf (laneMasks (now (lanes .entry)) (laneOf unit)) ⌝ }
 {
-    let nine = all_masks(masks, unit);
+    let nine = unit_lane(lanes, unit);
     due_of(&nine)
 }
 
 // The instances of a unit. Those of a digit are passed over where none of them loses anything; `first` are the digits of which some may, as the masks are.
-fn place_unit(givens: &[u8; 81], masks: &mut [u16; 81], log: &mut [u8], unit: usize, first: u16)
-    requires { ⌜ (unit < 27) × Spares (now givens) unit first (now masks) ⌝ }
+fn place_unit(
+    givens: &[u8; 81],
+    masks: &mut [u16; 81],
+    log: &mut [u8],
+    lanes: &mut [u16; 432],
+    unit: usize,
+    first: u16,
+)
+    requires { ⌜ (unit < 27) × Spares (now givens) unit first (now masks) × (now lanes ≡ laid (now masks)) ⌝ }
     ensures { λ _. ⌜ now (masks .exit) ≡ placeUnit (now (givens .entry)) unit (now (masks .entry)) ⌝ }
+    ensures { λ _. ⌜ now (lanes .exit) ≡ laid (now (masks .exit)) ⌝ }
     ensures { λ _. ⌜ now (log .exit) ≡ logAfter (now (givens .entry)) (unitPlaces unit) (now (masks .entry)) (now (log .entry)) ⌝ }
 {
-    let mut due = first;
-    let mut digit: usize = 0;
+    let mut digit = masks::first_digit(first, 0);
     while digit < 9 {
-        if masks::has_digit(due, digit) {
-            place_digit(givens, masks, log, unit, digit);
-            due = due_digits(masks, unit);
-        }
-        digit += 1;
+        place_digit(givens, masks, log, lanes, unit, digit);
+        digit = masks::first_digit(due_digits(lanes, unit), digit + 1);
     }
 }
 
@@ -131,18 +182,20 @@ fn place_due(
     givens: &[u8; 81],
     masks: &mut [u16; 81],
     log: &mut [u8],
+    lanes: &mut [u16; 432],
     due: &[u16; 16],
     family: usize,
 )
-    requires { ⌜ (family < 3) × PlaceSpares (now givens) (now masks) family (now due) ⌝ }
+    requires { ⌜ (family < 3) × PlaceSpares (now givens) (now masks) family (now due) × (now lanes ≡ laid (now masks)) ⌝ }
     ensures { λ _. ⌜ now (masks .exit) ≡ placeFamily (now (givens .entry)) family (now (masks .entry)) ⌝ }
+    ensures { λ _. ⌜ now (lanes .exit) ≡ laid (now (masks .exit)) ⌝ }
     ensures { λ _. ⌜ now (log .exit) ≡ logAfter (now (givens .entry)) (familyPlaces family) (now (masks .entry)) (now (log .entry)) ⌝ }
 {
     let mut nth: usize = 0;
     while nth < 9 {
         if due[nth] != 0 {
             let unit = 9 * family + nth;
-            place_unit(givens, masks, log, unit, due[nth]);
+            place_unit(givens, masks, log, lanes, unit, due[nth]);
         }
         nth += 1;
     }
@@ -166,8 +219,7 @@ fn place_family(
     if join_sets(&due) == 0 {
         return;
     }
-    place_due(givens, masks, log, &due, family);
-    lay(masks, lanes);
+    place_due(givens, masks, log, lanes, &due, family);
 }
 
 // Place, where the masks and the doors of the givens stand in lanes too. The units of a family are disjoint: where its lane shows at the family's start that a unit loses nothing, it loses nothing when its turn comes.

@@ -2,3 +2,4 @@ pub mod Rounds
 pub mod Tallies
 pub mod Sweeping
 pub mod StepValues
+pub mod Finished

@@ -13,7 +13,7 @@ use Rattle.grid.proofs.Lists.{turn-done, turns-over}
 use Rattle.steps.specs.Boards.{sameMasks}
 use Rattle.steps.specs.Instances.{Instance}
 use Rattle.steps.specs.Loops.{each, for, range, upTo}
-use Rattle.steps.specs.Passes.{Cross, kinds, instances, instanceTaken, pass, changed, sweep}
+use Rattle.steps.specs.Passes.{Cross, kinds, instances, instanceTaken, pass, changed, sweep, Settled}
 use Rattle.steps.specs.StepLists.{sweepInstances}
 use Rattle.steps.specs.code.Logs.{logAfter}
 use Rattle.steps.proofs.Loops.{each-idle, in-upTo}
@@ -136,8 +136,21 @@ module _ (g : List ℕ) where
         all-idle : sweep g m ≡ m
         all-idle = sweep-turns m ∙ each-idle turn (upTo 6) m (λ j at. none j (in-upTo 6 j at) (decLt j w))
 
-    -- then those that are left note nothing
-    pub left-silent : Swept g m n 6 → (l : List ℕ) → logAfter g (for (range (6 - w) w) passInstances) n l ≡ l
+    -- settling is over: the passes that are left would remove nothing
+    pub swept-over : Settled g n → i ≡ 0 → 0 < w → Swept g m n 5
+    swept-over s i0 w0 =
+        record {
+          few = omega arith;
+          swept = sym (each-idle turn (range (6 - w) w) n (λ j _. none j)) ∙ so .rest;
+          stops = λ e. absurd (omega (arith, e));
+          goes = λ _. (⊎-elim (λ p. absurd (omega (arith, p .1, i0, w0))) (λ p. p .0) (so .either), record { still = λ j a b. none j });
+        }
+      where
+        none : (j : ℕ) → turn j n ≡ n
+        none j = unfold pass in each-idle (instanceTaken g) (instances (nthKind j)) n (s .still (nthKind j))
+
+    -- a sweep that is left so notes nothing more
+    pub left-silent : {r : ℕ} → Swept g m n r → (l : List ℕ) → logAfter g (for (range (6 - w) w) passInstances) n l ≡ l
     left-silent s l = log-idle g (for (range (6 - w) w) passInstances) n l (blocks-each (range (6 - w) w) n ∙ so .rest ∙ sym (s .swept))
 
     -- six passes are done

@@ -1,4 +1,5 @@
 -- How the code goes about it: nothing here needs belief.
 pub mod Rounds
+pub mod Over
 pub mod Tallies
 pub mod Handed

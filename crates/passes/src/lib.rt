@@ -17,6 +17,9 @@ ghost use Rattle.passes.specs.Settlings.{Settles, countsOf, settlingAnsw
 ghost use Rattle.passes.specs.code.Handed.{masksLeft, logLeft, countsLeft};
 ghost use Rattle.passes.specs.code.Rounds.{nthKind, LastIdle, Swept};
 ghost use Rattle.passes.specs.code.Tallies.{tallied, tallyWith, Tally};
+
+mod over;
+
 use board::Board;
 use board::check_given;
 use board::entries::givens_of;
@@ -30,6 +33,7 @@ use locked::claiming_lanes;
 use locked::pointing_lanes;
 use lone_place::lones::lone_lanes;
 use lone_place::places::place_lanes;
+use over::is_over;
 use pair_cross::crosses::cross_lanes;
 use pair_cross::pairs::pair_lanes;
 use stops::Check;
@@ -50,7 +54,7 @@ fn nth_pass(
     ensures { λ _. ⌜ now (log .exit) ≡ logAfter (now (givens .entry)) (instances (nthKind nth)) (now (masks .entry)) (now (log .entry)) ⌝ }
 {
     match nth {
-        0 => lone_lanes(givens, masks, log, doors, lanes),
+        0 => lone_lanes(givens, masks, log, lanes),
         1 => place_lanes(givens, masks, log, doors, lanes),
         2 => pair_lanes(givens, masks, log, doors, lanes),
         3 => pointing_lanes(givens, masks, log, doors, lanes),
@@ -81,7 +85,8 @@ fn tally_pass(tally: &mut [usize; 7], nth: usize, after: [u16; 81])
 }
 
 // A sweep, the six passes in order, left as soon as six passes in a row, some of them of the sweep before, have removed nothing: then none of the six can.
-// `idle` is how many in a row had before it, and what is handed back how many have after it. Only a pass that removed something is tallied.
+// `idle` is how many in a row had before it, and what is handed back how many have after it. Only a pass that removed something is tallied. Where settling is over with it,
+// the passes that are left need not be tried: the sweep is left with five idle ones, and the next one ends at its first.
 fn sweep(
     givens: &[u8; 81],
     masks: &mut [u16; 81],
@@ -110,6 +115,9 @@ fn sweep(
         still = idle_after(still, before, after);
         if still == 0 {
             tally_pass(tally, nth, after);
+            if is_over(tally[6], givens, masks, lanes) {
+                return 5;
+            }
         }
         nth += 1;
     }

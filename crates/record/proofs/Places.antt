@@ -1,24 +1,21 @@
 -- The candidates of 81 sets, cell by cell and in each by its lowest digit. Assumes nothing.
 use mathlib.Core.Path.{_≡_, refl, sym, ap, _∙_}
-use mathlib.Core.Bool.{Bool, true, false, cond, not}
+use mathlib.Core.Bool.{Bool, true, false, cond}
 use mathlib.Core.List.{List, [], _∷_, _++_, map}
 use Prim.Native.Nat.{ℕ, zero, suc, _+_, _-_, _*_, _/_, _%_, _≤_, _<_}
 use native.Mathlib.Omega.{arith}
-use borrow.Author.Tests.{ne-eqb, eq-eqb}
 use lib.Bits.{bitAnd, and-le-r}
 use lib.Dec.{eqb}
 use lib.ListN.{length, set, length-append}
 use lib.Seq.{sets}
-use Rattle.candidates.specs.Masks.{bit, has, lowest, tail, firstPlace}
-use Rattle.candidates.proofs.FewDigits.{lowest-in}
-use Rattle.candidates.proofs.Held.{held-below}
+use Rattle.candidates.specs.Masks.{bit, has, lowest, tail}
 use Rattle.candidates.proofs.Membership.{bit-and, bit-all}
-use Rattle.candidates.proofs.Tests.{below, implies, implied, T-true}
-use Rattle.steps.specs.Boards.{at, sameMasks}
-use Rattle.steps.specs.Loops.{range, select, upTo}
-use Rattle.steps.proofs.Masks.{same-eq}
+use Rattle.steps.specs.Boards.{at}
+use Rattle.steps.specs.Loops.{range, select}
+use Rattle.cells.specs.code.Places.{placesIn}
+use Rattle.cells.proofs.Rising.{places-on, lowest-place}
 use Rattle.text.proofs.Gathering.{select-append}
-use Rattle.record.specs.code.Places.{places, cellCandidates}
+use Rattle.record.specs.code.Places.{cellCandidates}
 use Rattle.record.specs.Sections.{inSets, entryBytes, stored}
 use Rattle.record.proofs.CandidateLists.{in-cell}
 use Rattle.record.proofs.Stores.{stored-append}
@@ -26,23 +23,11 @@ use Rattle.record.proofs.Writing.{rest, entries-length, entries-append}
 
 -- ---- one cell
 
--- the lowest place first, for every set of digits
-pub places-on : (x : ℕ) → 0 < x → x < 512 → places x ≡ lowest x ∷ places (tail x)
-unfolding firstPlace
-places-on x p h =
-    same-eq (places x) (lowest x ∷ places (tail x))
-    (T-true (sameMasks (places x) (lowest x ∷ places (tail x)))
-    (implied (not (eqb x 0)) (sameMasks (places x) (lowest x ∷ places (tail x)))
-    (below 512 (λ x. implies (not (eqb x 0)) (sameMasks (places x) (lowest x ∷ places (tail x)))) tt x h) (ap not (ne-eqb x 0 (λ e. absurd (omega arith))))))
-
-pub lowest-place : (x : ℕ) → 0 < x → x < 512 → lowest x < 9
-lowest-place x p h = held-below x 9 (lowest x) h (lowest-in x p (omega arith))
-
 pub cell-none : (c x : ℕ) → x ≡ 0 → cellCandidates c x ≡ []
 cell-none c x e = ap (cellCandidates c) e
 
 -- higher bits have no part in it
-pub places-nine : (x : ℕ) → places (bitAnd x 511) ≡ places x
+pub places-nine : (x : ℕ) → placesIn (bitAnd x 511) ≡ placesIn x
 places-nine x = go 9 0 (omega arith)
   where
     digit : (d : ℕ) → d < 9 → has (bitAnd x 511) d ≡ has x d

@@ -43,10 +43,13 @@ lines-apart w a b =
     w .apart₁ (⊎-elim (λ p. omega (arith, member-row a (p .0 .0), member-row b (p .0 .1)))
     (λ p. omega (arith, member-col a (p .0 .0) (p .0 .1), member-col b (p .0 .2) (p .0 .3))) (w .lines))
 
-module _ (g : List ℕ) (p : ℕ → ℕ) (F : Filling p) (z : List ℕ) (one : (c : ℕ) → c < 81 → at z c ≡ 2 ^ p c) where
-  -- a cell's digit is its only candidate
-  holds : {c : ℕ} (a : ℕ) → c < 81 → Candidate z c a ↔ (a ≡ p c)
-  holds {c} a h = subst (λ (x : ℕ). Held x a ↔ (a ≡ p c)) (sym (one c h)) (held-power (p c) a)
+-- masks in which each cell holds its digit and no other of the nine
+pub record Holds (p : ℕ → ℕ) (z : List ℕ) : Type 0 where
+  pub only : (c a : ℕ) → c < 81 → a < 9 → Candidate z c a ↔ (a ≡ p c)
+
+module _ (g : List ℕ) (p : ℕ → ℕ) (F : Filling p) (z : List ℕ) (one : Holds p z) where
+  own : {c : ℕ} → c < 81 → Candidate z c (p c)
+  own {c} h = one .only c (p c) h (F .small c h) .1 refl
 
   -- a cell of the unit that has the digit
   abbrev Has : ℕ → ℕ → ℕ → Type 0
@@ -58,23 +61,23 @@ module _ (g : List ℕ) (p : ℕ → ℕ) (F : Filling p) (z : List ℕ) (one : 
   lone-keeps : (c d : ℕ) → c < 81 → d < 9 → LoneCell z c d → ¬ (Removes z (LoneLoss g c d))
   lone-keeps c d hc hd w r =
       let s = r .lost .peer in
-      once (s .shared) d (s .within) c (r .cell) (s .different) (s .first, w .alone (p c) (F .small c hc) (holds (p c) hc .1 refl))
-      (s .second, sym (holds (r .digit) (member-below (s .within) (s .second)) .0 (r .held)) ∙ r .lost .digit)
+      once (s .shared) d (s .within) c (r .cell) (s .different) (s .first, w .alone (p c) (F .small c hc) (own hc))
+      (s .second, sym (one .only (r .cell) (r .digit) (member-below (s .within) (s .second)) (omega (arith, r .lost .digit)) .0 (r .held)) ∙ r .lost .digit)
 
   place-keeps : (u d c : ℕ) → u < 27 → d < 9 → Member u c → OnlyPlace z u d c → ¬ (Removes z (PlaceLoss g d c))
   place-keeps u d c hu hd m w r =
       let e = F .every u d hu hd in
-      let here : e .0 ≡ c = w .alone (e .0) (e .1) (holds d (member-below hu (e .1)) .1 (sym (e .2))) in
+      let here : e .0 ≡ c = w .alone (e .0) (e .1) (one .only (e .0) d (member-below hu (e .1)) hd .1 (sym (e .2))) in
       let same : r .cell ≡ e .0 = r .lost .cell ∙ sym here in
-      r .lost .other (holds (r .digit) (member-below hu (subst (Member u) (sym same) (e .1))) .0 (r .held) ∙ ap p same ∙ e .2)
+      r .lost .other (one .only (r .cell) (r .digit) (member-below hu (subst (Member u) (sym same) (e .1))) (r .lost .digit) .0 (r .held) ∙ ap p same ∙ e .2)
 
   -- the two cells take a and b between them, so a third cell takes neither
   pair-keeps : (u c e a b : ℕ) → u < 27 → Member u c → Member u e → c ≢ e → a < 9 → b < 9 → a ≢ b → PairCells z c e a b → ¬ (Removes z (NakedPairLoss g u c e a b))
   pair-keeps u c e a b hu mc me apart ha hb ab w r =
       two-of-three (once u a hu) (once u b hu) apart (λ q. l .other₁ (sym q)) (λ q. l .other₂ (sym q))
-      (takes mc (w .first (p c) (F .small c (member-below hu mc)) (holds (p c) (member-below hu mc) .1 refl)))
-      (takes me (w .second (p e) (F .small e (member-below hu me)) (holds (p e) (member-below hu me) .1 refl)))
-      (takes (l .member) (subst (λ (d : ℕ). (d ≡ a) ⊎ (d ≡ b)) (holds (r .digit) (member-below hu (l .member)) .0 (r .held)) (l .digit)))
+      (takes mc (w .first (p c) (F .small c (member-below hu mc)) (own (member-below hu mc))))
+      (takes me (w .second (p e) (F .small e (member-below hu me)) (own (member-below hu me))))
+      (takes (l .member) (subst (λ (d : ℕ). (d ≡ a) ⊎ (d ≡ b)) (one .only (r .cell) (r .digit) (member-below hu (l .member)) (⊎-elim (λ q. omega (arith, q)) (λ q. omega (arith, q)) (l .digit)) .0 (r .held)) (l .digit)))
     where
       l : NakedPairLoss g u c e a b (r .cell) (r .digit)
       l = r .lost
@@ -88,17 +91,17 @@ module _ (g : List ℕ) (p : ℕ → ℕ) (F : Filling p) (z : List ℕ) (one : 
       let e = F .every u d hu hd in
       let l = r .lost in
       once v d hv (e .0) (r .cell) (λ q. l .outside (subst (Member u) q (e .1)))
-      (w .inside (e .0) (e .1) (holds d (member-below hu (e .1)) .1 (sym (e .2))), e .2)
-      (l .member, sym (holds (r .digit) (member-below hv (l .member)) .0 (r .held)) ∙ l .digit)
+      (w .inside (e .0) (e .1) (one .only (e .0) d (member-below hu (e .1)) hd .1 (sym (e .2))), e .2)
+      (l .member, sym (one .only (r .cell) (r .digit) (member-below hv (l .member)) (omega (arith, l .digit)) .0 (r .held)) ∙ l .digit)
 
   -- the digit's cells in u and v lie in x and y, one in each, so no third cell of these takes it
   cross-keeps : (u v x y d : ℕ) → Crossing u v x y → d < 9 → CrossCells z u v x y d → ¬ (Removes z (XWingLoss g u v x y d))
   cross-keeps u v x y d k hd w r =
       two-of-three (once x d (n .2)) (once y d (n .3)) (λ q. lines-apart k (a .1) (subst (Member v) (sym q) (b .1)))
       (λ q. l .outside₁ (subst (Member u) q (a .1))) (λ q. l .outside₂ (subst (Member v) q (b .1)))
-      (takes (a .2) (w .inside (a .0) (inl (a .1)) (holds d (member-below (n .0) (a .1)) .1 (sym (a .2)))))
-      (takes (b .2) (w .inside (b .0) (inr (b .1)) (holds d (member-below (n .1) (b .1)) .1 (sym (b .2)))))
-      (takes (sym (holds (r .digit) (⊎-elim (member-below (n .2)) (member-below (n .3)) (l .member)) .0 (r .held)) ∙ l .digit) (l .member))
+      (takes (a .2) (w .inside (a .0) (inl (a .1)) (one .only (a .0) d (member-below (n .0) (a .1)) hd .1 (sym (a .2)))))
+      (takes (b .2) (w .inside (b .0) (inr (b .1)) (one .only (b .0) d (member-below (n .1) (b .1)) hd .1 (sym (b .2)))))
+      (takes (sym (one .only (r .cell) (r .digit) (⊎-elim (member-below (n .2)) (member-below (n .3)) (l .member)) (omega (arith, l .digit)) .0 (r .held)) ∙ l .digit) (l .member))
     where
       l : XWingLoss g u v x y d (r .cell) (r .digit)
       l = r .lost
@@ -143,6 +146,9 @@ filled-out : (p : ℕ → ℕ) (c : ℕ) → 81 ≤ c → at (filled p) c ≡ 0
 unfolding filled
 filled-out p c h = past-cells 0 (λ c. 2 ^ p c) c h
 
+filled-holds : (p : ℕ → ℕ) → Holds p (filled p)
+filled-holds p = record { only = λ c a h _. subst (λ (x : ℕ). Held x a ↔ (a ≡ p c)) (sym (filled-at p c h)) (held-power (p c) a) }
+
 inside-under : (p : ℕ → ℕ) (m : List ℕ) → Inside p m → Under (filled p) m
 inside-under p m i = record { at = λ c. go c (decLt c 81) }
   where
@@ -154,4 +160,4 @@ under-inside : (p : ℕ → ℕ) (m : List ℕ) → Under (filled p) m → Insid
 under-inside p m u c h = sub-power (at m c) (p c) (subst (λ (x : ℕ). Sub x (at m c)) (filled-at p c h) (u .at c))
 
 pub reach-inside : (g : List ℕ) (p : ℕ → ℕ) → Filling p → {m n : List ℕ} → Inside p m → Reach g m n → Inside p n
-reach-inside g p F {m} {n} i r = under-inside p n (reach-keeps g (filling-settled g p F (filled p) (filled-at p)) (inside-under p m i) r)
+reach-inside g p F {m} {n} i r = under-inside p n (reach-keeps g (filling-settled g p F (filled p) (filled-holds p)) (inside-under p m i) r)

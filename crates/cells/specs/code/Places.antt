@@ -2,11 +2,12 @@
 use mathlib.Core.Bool.{Bool, cond, _&&_}
 use mathlib.Core.List.{List, map}
 use Prim.Native.Nat.{ℕ, _+_}
+use lib.Bits.{bitAnd}
 use lib.Dec.{ltb}
-use Rattle.candidates.specs.Masks.{has, minus, single, gather}
+use Rattle.candidates.specs.Masks.{has, minus, union, single, gather}
 use Rattle.grid.specs.Units.{unitCell}
 use Rattle.steps.specs.Boards.{at, isOpen}
-use Rattle.steps.specs.Loops.{each, upTo}
+use Rattle.steps.specs.Loops.{each, select, upTo}
 use Rattle.steps.specs.Steps.{loseAt}
 
 -- 81, which is no cell, has no mask and is not open
@@ -34,6 +35,10 @@ unitMasks g m u = map (λ i. openMask g m (unitCell u i)) (upTo 9)
 unfoldable pub allMasks : List ℕ → ℕ → List ℕ
 allMasks m u = map (λ i. maskAt m (unitCell u i)) (upTo 9)
 
+-- the nine places that a mask holds, rising
+abbrev pub placesIn : ℕ → List ℕ
+placesIn x = select (has x) (upTo 9)
+
 -- the places of nine masks that hold d
 unfoldable pub spotsIn : List ℕ → ℕ → ℕ
 spotsIn nine d = gather (λ i. has (at nine i) d) 9
@@ -49,3 +54,11 @@ lineSpots g m f d = map (λ i. spotsIn (unitMasks g m (f + i)) d) (upTo 9)
 -- all places but two
 abbrev pub allBut : ℕ → ℕ → ℕ
 allBut i j = minus (minus 511 (single i)) (single j)
+
+-- all digits for an open cell, none for another
+abbrev pub doorAt : List ℕ → ℕ → ℕ
+doorAt g c = cond (isOpen g c) 511 0
+
+-- what the open cells hold
+unfoldable pub looseDigits : List ℕ → List ℕ → ℕ
+looseDigits g m = each (λ c k. union k (bitAnd (at m c) (doorAt g c))) (upTo 81) 0

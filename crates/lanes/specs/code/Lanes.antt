@@ -8,13 +8,17 @@ use lib.Dec.{ltb}
 use lib.ListN.{length, getD, set}
 use Rattle.candidates.specs.Masks.{has, union}
 use Rattle.grid.specs.Units.{unitCell}
-use Rattle.steps.specs.Boards.{at, isOpen}
+use Rattle.steps.specs.Boards.{at}
 use Rattle.steps.specs.Loops.{each, upTo}
-use Rattle.cells.specs.code.Places.{maskAt}
+use Rattle.cells.specs.code.Places.{maskAt, doorAt}
 
 -- the unit of a lane; 27, which is none, for a lane that holds nothing
 unfoldable pub unitOn : ℕ → ℕ
 unitOn l = cond (ltb (l % 16) 9) (9 * (l / 16) + l % 16) 27
+
+-- the lane of a unit
+abbrev pub laneOf : ℕ → ℕ
+laneOf u = 16 * (u / 9) + u % 9
 
 -- the cell at a position; 81, which is none, in a lane that holds nothing
 unfoldable pub cellAt : ℕ → ℕ
@@ -57,7 +61,7 @@ putAt c x p = set (set (set p (rowSpot c) x) (colSpot c) x) (boxSpot c) x
 
 -- all digits where the cell is open, none where it is not
 unfoldable pub doorsOf : List ℕ → List ℕ
-doorsOf g = map (λ c. cond (isOpen g c) 511 0) (upTo 81)
+doorsOf g = map (doorAt g) (upTo 81)
 
 -- what place i of lane l holds
 abbrev pub laneAt : List ℕ → ℕ → ℕ → ℕ

@@ -11,7 +11,7 @@ use Rattle.locked.proofs.claiming_lanes.Statement.{statement}
 use Rattle.locked.proofs.claiming_lanes.Tie as tie
 
 locked-lanes-requires : tie.Need-locked-lanes-requires
-locked-lanes-requires c κs = (c .before .before .before .before .pre, record { rise = omega arith; most = omega arith; each = λ u h l. lt-ltb u 18 l })
+locked-lanes-requires c κs = (c .before .before .before .before .pre, record { low = omega arith; rise = omega arith; most = omega arith; each = λ u h l. lt-ltb u 18 l })
 
 same-length : tie.Need-same-length
 same-length c = search needs

@@ -28,24 +28,20 @@ Inv-loop givens masks₀ log₀ unit digit held count nth₀ masks log nth =
 abbrev μ-loop : tie.MeasureT-loop
 μ-loop givens masks₀ log₀ unit digit held count nth₀ masks log nth = count - nth
 
-held-places-requires : tie.Need-held-places-requires Inv-loop μ-loop
-held-places-requires c κs = search needs
-
 meetings-requires : tie.Need-meetings-requires Inv-loop μ-loop
 meetings-requires c κs = search needs
 
 loop-holds : tie.Need-loop-holds Inv-loop μ-loop
 unfolding meetTurns digitInstances
 loop-holds c =
-    let start = c .before .before .before .before in
+    let start = c .before .before in
     let a = start .args in
     let g = a .givens .now in
-    let held = c .before .held-places .ensures in
     let all : c .meetings .result - 0 ≡ meetings (a .unit) = omega (arith, c .meetings .ensures) in (
       omega arith,
-      held,
-      ap (λ (n : ℕ). meetTurns g (a .unit) n (a .digit) (c .before .held-places .result) (a .masks .now)) all
-          ∙ ap (λ (x : ℕ). meetTurns g (a .unit) (meetings (a .unit)) (a .digit) x (a .masks .now)) held ∙ sym (locked-digit g (a .unit) (a .digit) (start .pre .0) (start .pre .1) (a .masks .now)),
+      start .pre .2,
+      ap (λ (n : ℕ). meetTurns g (a .unit) n (a .digit) (a .held) (a .masks .now)) all
+          ∙ ap (λ (x : ℕ). meetTurns g (a .unit) (meetings (a .unit)) (a .digit) x (a .masks .now)) (start .pre .2) ∙ sym (locked-digit g (a .unit) (a .digit) (start .pre .0) (start .pre .1) (a .masks .now)),
       ap (λ (n : ℕ). logAfter g (for (upTo n) (block (a .unit) (a .digit))) (a .masks .now) (a .log .now)) all,
     )
 
@@ -53,7 +49,7 @@ locked-at-requires : tie.Need-locked-at-requires Inv-loop μ-loop
 locked-at-requires c κs =
     let l = c .before .before .before .loop in
     let counted = c .before .before .before .before in
-    let start = counted .before .before .before .before in
+    let start = counted .before .before in
     (start .pre .0, start .pre .1, omega (arith, counted .meetings .ensures), l .inv .1)
 
 add-nth : tie.Need-add-nth Inv-loop μ-loop
@@ -67,10 +63,10 @@ unfolding each
 loop-again c =
     let l = c .before .before .before .before .before .before .loop in
     let counted = c .before .before .before .before .before .before .before in
-    let start = counted .before .before .before .before in
+    let start = counted .before .before in
     let a = start .args in
     let g = a .givens .now in
-    let held = counted .before .held-places .result in
+    let held = a .held in
     let few : l .nth < meetings (a .unit) = omega (arith, counted .meetings .ensures) in
     let done = c .before .before .locked-at .ensures .0 in (
       omega arith,
@@ -87,10 +83,10 @@ returns : tie.Need-returns Inv-loop μ-loop
 returns c =
     let l = c .before .loop in
     let counted = c .before .before in
-    let a = counted .before .before .before .before .args in
+    let a = counted .before .before .args in
     let g = a .givens .now in
     let n = counted .meetings .result in (
-      turns-over (meetTurn g (a .unit) (a .digit) (counted .before .held-places .result)) n (l .nth) (c .loop-test .left) (l .inv .2),
+      turns-over (meetTurn g (a .unit) (a .digit) (a .held)) n (l .nth) (c .loop-test .left) (l .inv .2),
       log-over g (block (a .unit) (a .digit)) n (l .nth) (l .masks) (l .log) (c .loop-test .left) (l .inv .3),
     )
 
@@ -100,7 +96,6 @@ locked-digit-spec =
     (tie.spec
     Inv-loop
     μ-loop
-    held-places-requires
     meetings-requires
     loop-holds
     locked-at-requires

@@ -12,16 +12,16 @@ use Rattle.lanes.specs.code.Lanes.{Alike}
 use Rattle.lanes.proofs.Turns.{Going, going-start, going-on, going-past, going-end}
 use Rattle.locked.specs.code.Locked.{digitInstances, unitInstances, lockedDigit, lockedUnit}
 use Rattle.locked.proofs.LockedTurns.{digit-each}
-use Rattle.locked.proofs.LockedDue.{digits-parted}
+use Rattle.locked.proofs.LockedDue.{held-still, digits-parted}
 use Rattle.locked.proofs.locked_unit.Statement.{statement}
 use Rattle.locked.proofs.locked_unit.Tie as tie
 
 abbrev Inv-loop : tie.InvT-loop
-Inv-loop givens masks₀ log₀ unit due digit₀ masks log digit =
+Inv-loop givens masks₀ log₀ nine unit due digit₀ masks log digit =
     Going Alike (lockedDigit givens unit) masks₀ masks digit × (logAfter givens (for (range (9 - digit) digit) (digitInstances unit)) masks log ≡ logAfter givens (unitInstances unit) masks₀ log₀)
 
 abbrev μ-loop : tie.MeasureT-loop
-μ-loop givens masks₀ log₀ unit due digit₀ masks log digit = 9 - digit
+μ-loop givens masks₀ log₀ nine unit due digit₀ masks log digit = 9 - digit
 
 loop-holds : tie.Need-loop-holds Inv-loop μ-loop
 unfolding unitInstances
@@ -30,8 +30,18 @@ loop-holds c = (going-start (digits-parted (c .before .args .givens .now) (c .be
 has-digit-requires : tie.Need-has-digit-requires Inv-loop μ-loop
 has-digit-requires c κs = search needs
 
+places-of-requires : tie.Need-places-of-requires Inv-loop μ-loop
+places-of-requires c κs = search needs
+
 locked-digit-requires : tie.Need-locked-digit-requires Inv-loop μ-loop
-locked-digit-requires c κs = omega arith
+locked-digit-requires c κs =
+    let found = c .before .before in
+    let l = found .before .before .before .before .loop in
+    let start = found .before .before .before .before .before .before in (
+      start .pre .0,
+      omega arith,
+      held-still (start .args .unit) (l .digit) (start .pre .0) (found .places-of .ensures) (start .pre .1) (l .inv .0 .same (l .digit) (omega arith) (omega arith)),
+    )
 
 add-digit : tie.Need-add-digit Inv-loop μ-loop
 add-digit c = omega arith
@@ -49,9 +59,9 @@ loop-again c =
     let same = digit-each g (a .unit) (l .digit) (start .pre .0) (l .masks) in
     let go = log-done g (digitInstances (a .unit)) 9 (l .digit) (l .masks) (l .log) in
     ⊎-elim
-    (λ w. (going-on parts (l .inv .0) (omega arith) (w .6 ∙ w .3 .ensures .0), go (omega arith) (w .6 ∙ w .3 .ensures .0 ∙ sym same) (w .7 ∙ w .3 .ensures .1) (l .inv .1)))
+    (λ w. (going-on parts (l .inv .0) (omega arith) (w .7 ∙ w .4 .ensures .0), go (omega arith) (w .7 ∙ w .4 .ensures .0 ∙ sym same) (w .8 ∙ w .4 .ensures .1) (l .inv .1)))
     (λ w.
-    let idle = start .pre .1 .idle (l .digit) (omega arith) (sym (c .before .has-digit .ensures) ∙ w .0 .left) (l .masks) (l .inv .0 .same (l .digit) (omega arith) (omega arith)) in (
+    let idle = start .pre .2 .idle (l .digit) (omega arith) (sym (c .before .has-digit .ensures) ∙ w .0 .left) (l .masks) (l .inv .0 .same (l .digit) (omega arith) (omega arith)) in (
       going-past parts (l .inv .0) (omega arith) (w .1) idle,
       go (omega arith) (w .1 ∙ sym (same ∙ idle)) (w .2 ∙ sym (log-idle g (digitInstances (a .unit) (l .digit)) (l .masks) (l .log) (same ∙ idle))) (l .inv .1),
     ))
@@ -70,4 +80,17 @@ returns c =
     )
 
 pub locked-unit-spec : {M : Type 1} → statement M
-locked-unit-spec = tie.close (tie.spec Inv-loop μ-loop loop-holds has-digit-requires locked-digit-requires add-digit loop-less loop-again same-length returns)
+locked-unit-spec =
+    tie.close
+    (tie.spec
+    Inv-loop
+    μ-loop
+    loop-holds
+    has-digit-requires
+    places-of-requires
+    locked-digit-requires
+    add-digit
+    loop-less
+    loop-again
+    same-length
+    returns)

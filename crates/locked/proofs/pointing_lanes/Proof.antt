@@ -11,7 +11,7 @@ use Rattle.locked.proofs.pointing_lanes.Statement.{statement}
 use Rattle.locked.proofs.pointing_lanes.Tie as tie
 
 locked-lanes-requires : tie.Need-locked-lanes-requires
-locked-lanes-requires c κs = (c .before .before .before .before .pre, record { rise = omega arith; most = omega arith; each = λ u h l. le-ltb u 18 h })
+locked-lanes-requires c κs = (c .before .before .before .before .pre, record { low = omega arith; rise = omega arith; most = omega arith; each = λ u h l. le-ltb u 18 h })
 
 same-length : tie.Need-same-length
 same-length c = search needs

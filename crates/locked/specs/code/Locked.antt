@@ -34,8 +34,9 @@ lockedUnit g u m = each (lockedDigit g u) (upTo 9) m
 pub record DigitSkips (g m : List ℕ) (u due : ℕ) : Type 0 where
   pub idle : (d : ℕ) → d < 9 → has due d ≡ false → (n : List ℕ) → Alike d n m → lockedDigit g u d n ≡ n
 
--- the units from the first to before the end are boxes, or lines
+-- the units from the first to before the end are boxes, or lines, from the first of these on
 pub record BoxesOrLines (first end : ℕ) (boxes : Bool) : Type 0 where
+  pub low : first ≤ cond boxes 18 0
   pub rise : first ≤ end
   pub most : end ≤ 27
   pub each : (u : ℕ) → first ≤ u → u < end → ltb u 18 ≡ not boxes

@@ -10,9 +10,8 @@ use Rattle.candidates.specs.Masks.{minus, union}
 use Rattle.steps.specs.Boards.{at}
 use Rattle.steps.specs.Loops.{each, range, upTo}
 use Rattle.cells.specs.code.Meets.{meetings, metPlaces}
-use Rattle.cells.specs.code.Places.{allMasks}
 use Rattle.cells.specs.code.Unions.{joinedAt}
-use Rattle.lanes.specs.code.Lanes.{laneAt, laneMasks}
+use Rattle.lanes.specs.code.Lanes.{laneAt, laneMasks, laneOf}
 
 -- the masks of a lane's open cells, and nothing for the others, where q are the doors in lanes
 unfoldable pub looseMasks : List ℕ → List ℕ → ℕ → List ℕ
@@ -49,13 +48,9 @@ pub record Rests (p q : List ℕ) (boxes : Bool) (r : List ℕ) : Type 0 where
   pub lines : (n l : ℕ) → n < 3 → l < 32 → at r (48 * n + l) ≡ restOf (nineOf p q boxes l) n
   pub blocks : (n l : ℕ) → n < 6 → 32 ≤ l → l < 48 → at r (48 * n + l) ≡ restOf (nineOf p q (not boxes) l) n
 
--- the lane of a unit
-abbrev pub laneOf : ℕ → ℕ
-laneOf u = 16 * (u / 9) + u % 9
-
--- a unit's own rests anew, clue cells too
+-- a unit's own rests anew, where the masks of its cells are these, clue cells too
 unfoldable pub renewed : List ℕ → ℕ → List ℕ → List ℕ
-renewed m u r = putLane (allMasks m u) (meetings u) (laneOf u) r
+renewed nine u r = putLane nine (meetings u) (laneOf u) r
 
 -- ---- what is due
 
@@ -77,3 +72,17 @@ boxDue r b = union (dueThree r (32 + b) (48 * (b % 3) + 3 * (b / 3)) 1) (dueThre
 
 unfoldable pub unitDue : List ℕ → ℕ → ℕ
 unitDue r u = cond (ltb u 9) (rowDue r u) (cond (ltb u 18) (colDue r (u - 9)) (boxDue r (u - 18)))
+
+-- of nine units from the first one on
+unfoldable pub nineDue : List ℕ → ℕ → List ℕ
+nineDue r first = map (λ k. unitDue r (first + k)) (upTo 9)
+
+-- the sets before set n hold nothing
+pub record NoneIn (sets : List ℕ) (n : ℕ) : Type 0 where
+  pub most : n ≤ 9
+  pub none : (k : ℕ) → k < n → at sets k ≡ 0
+
+-- nothing is due of the units from the first to before unit n
+pub record NoneDue (r : List ℕ) (first n : ℕ) : Type 0 where
+  pub from : first ≤ n
+  pub none : (u : ℕ) → first ≤ u → u < n → unitDue r u ≡ 0

@@ -6,14 +6,14 @@ use mathlib.Core.List.{List, List·Memᴰ, map}
 use Prim.Native.Nat.{ℕ, _+_, _*_, _/_, _%_, _<_}
 use lib.Bits.{bitAnd}
 use lib.Dec.{eqb}
-use Rattle.candidates.specs.Masks.{has, minus, union, count, tail}
+use Rattle.candidates.specs.Masks.{has, minus, union, count, single, tail, gather}
 use Rattle.grid.specs.Cells.{row, col, box, peers}
 use Rattle.grid.specs.Units.{unitCell}
 use Rattle.steps.specs.Boards.{at}
 use Rattle.steps.specs.Loops.{each, upTo}
 use Rattle.cells.specs.code.Places.{unitMasks}
 use Rattle.cells.specs.code.Unions.{joined, sharedOf, severalOf}
-use Rattle.lanes.specs.code.Lanes.{laneMasks, SameOn}
+use Rattle.lanes.specs.code.Lanes.{laneMasks, SameOn, laneOf}
 use Rattle.lone_place.specs.code.Turns.{placeDigit, placeUnit}
 
 -- ---- Lone
@@ -21,10 +21,6 @@ use Rattle.lone_place.specs.code.Turns.{placeDigit, placeUnit}
 -- what a cell's row, its column and its box have together, each by f
 abbrev pub around : (ℕ → ℕ) → ℕ → ℕ
 around f c = union (union (f (row c)) (f (9 + col c))) (f (18 + box c))
-
--- the lane of a unit
-abbrev pub laneOf : ℕ → ℕ
-laneOf u = 16 * (u / 9) + u % 9
 
 -- the digits that two places of each lane hold
 unfoldable pub sharedLanes : List ℕ → List ℕ
@@ -73,6 +69,10 @@ pub record Kept (any : Bool) (m n : List ℕ) : Type 0 where
   pub is : any ≡ false → n ≡ m
 
 -- ---- Place
+
+-- the places whose instances pass their test, where these hold the digit
+unfoldable pub turnsOf : ℕ → ℕ
+turnsOf held = gather (λ i. eqb (minus held (single i)) 0) 9
 
 -- not held twice, and not held by masks alone that hold nothing else
 unfoldable pub dueOf : List ℕ → ℕ

@@ -2,8 +2,9 @@
 use mathlib.Core.Path.{_≡_, sym, ap, _∙_}
 use mathlib.Core.Logic.{inl, inr, ⊎-elim}
 use mathlib.Core.List.{List}
-use Prim.Native.Nat.{_-_, _≤_, _<_}
+use Prim.Native.Nat.{_+_, _-_, _≤_, _<_}
 use native.Mathlib.Omega.{arith}
+use borrow.Author.Needs.{needs}
 use Rattle.grid.proofs.Lists.{turn-done, turns-over}
 use Rattle.steps.specs.Boards.{total}
 use Rattle.steps.specs.Difficulty.{removedEach}
@@ -16,7 +17,8 @@ use Rattle.steps.proofs.StepLogs.{log-done, log-over}
 use Rattle.cells.proofs.LogLengths.{log-kept}
 use Rattle.lanes.specs.code.Lanes.{laid}
 use Rattle.passes.specs.code.Tallies.{tallyWith, Tally}
-use Rattle.passes.proofs.Rounds.{passInstances, sweep-blocks, Going, going-start, going-on, swept-early, left-silent, swept-end}
+use Rattle.passes.proofs.Finished.{over-settled}
+use Rattle.passes.proofs.Rounds.{passInstances, sweep-blocks, Going, going-start, going-on, swept-early, swept-over, left-silent, swept-end}
 use Rattle.passes.proofs.Tallies.{tallyTurn, pass-fewer, sweep-tally, swept-tally, left-uncounted, tally-turn, unchanged}
 use Rattle.passes.proofs.sweep.Statement.{statement}
 use Rattle.passes.proofs.sweep.Tie as tie
@@ -89,7 +91,7 @@ loop-again c =
     let idle = c .before .idle-after .ensures in
     let tally =
     tally-turn g (inv .4) {u = c .if2 .tally} w (omega arith) (done .0)
-    (⊎-elim (λ x. inl (x .3 ∙ x .2 .ensures)) (λ x. inr (unchanged m _ (l .loop .still) idle (x .0 .left), x .1)) (c .if2 .came)) in (
+    (⊎-elim (λ x. inl (x .8 ∙ x .2 .ensures)) (λ x. inr (unchanged m _ (l .loop .still) idle (x .0 .left), x .1)) (c .if2 .came)) in (
       omega arith,
       done .1 .0,
       going-on g (omega arith) (still-below p) (inv .2) (done .0) idle,
@@ -98,11 +100,53 @@ loop-again c =
       turn-done (tallyTurn g) 6 w (omega arith) (tally .1) (inv .5),
     )
 
+element-copy-out-is-over : tie.Need-element-copy-out-is-over Inv-loop μ-loop
+element-copy-out-is-over c = search needs
+
+is-over-requires : tie.Need-is-over-requires Inv-loop μ-loop
+is-over-requires c κs = search needs
+
+-- the pass of the loop's number
+within : (p : tie.After-nth-pass Inv-loop μ-loop) → p .before .before .before .before .before .before .before .loop .nth < 6
+within p = p .before .before .before .before .before .before .loop-test .taken
+
 same-length-2 : tie.Need-same-length-2 Inv-loop μ-loop
-same-length-2 c = log-kept _ _ _ _ _ _ _ (c .before .loop .inv .3)
+unfolding pass
+same-length-2 c =
+    let p = c .before .before .before .before .before .before .before .before .before .before .before .before in
+    let l = p .before .before .before .before .before .before .before in
+    let done = p .nth-pass .ensures in
+    log-kept _ _ _ _ _ _ _ (log-done (l .before .before .args .givens .now) (passInstances (l .before .before .args .givens .now)) 6 (l .loop .nth) (l .loop .masks) (l .loop .log) (within p) (done .0) (done .1 .1) (l .loop .inv .3))
 
 returns-2 : tie.Need-returns-2 Inv-loop μ-loop
+unfolding pass
 returns-2 c =
+    let o = c .before in
+    let t = o .before .before .before .before in
+    let i = t .before .before .before in
+    let p = i .before .before .before .before in
+    let l = p .before .before .before .before .before .before .before in
+    let a = l .before .before .args in
+    let done = p .nth-pass .ensures in
+    let g = a .givens .now in
+    let w = l .loop .nth in
+    let m = l .loop .masks in
+    let inv = l .loop .inv in
+    let h = within p in
+    let next : w + 1 ≤ 6 = omega (arith, h) in
+    let tally = tally-turn g (inv .4) w h (done .0) (inl (t .tally-pass .ensures)) in
+    let going = going-on g h (still-below p) (inv .2) (done .0) (i .idle-after .ensures) in
+    let settled = over-settled g (p .nth-pass .last .1 .0) _ (done .1 .0) (sym (o .is-over .ensures) ∙ c .if3 .taken) in
+    let swept = swept-over g next going settled (t .before .before .if2 .taken) (omega arith) in
+    let noted = sym (left-silent g next going swept _) ∙ log-done g (passInstances g) 6 w m (l .loop .log) h (done .0) (done .1 .1) (inv .3) in
+    let counted = sym (left-uncounted g (tally .0) (range (6 - (w + 1)) (w + 1)) (going .rest ∙ sym (swept .swept))) ∙ turn-done (tallyTurn g) 6 w h (tally .1) (inv .5) in
+    (swept, (done .1 .0, (noted, (tally .0, swept-tally g (a .masks .now) (a .tally .now) counted))))
+
+same-length-3 : tie.Need-same-length-3 Inv-loop μ-loop
+same-length-3 c = log-kept _ _ _ _ _ _ _ (c .before .loop .inv .3)
+
+returns-3 : tie.Need-returns-3 Inv-loop μ-loop
+returns-3 c =
     let l = c .before in
     let a = l .before .before .args in
     let g = a .givens .now in
@@ -124,8 +168,12 @@ sweep-spec =
     nth-pass-requires
     idle-after-requires
     tally-pass-requires
+    element-copy-out-is-over
+    is-over-requires
+    same-length-2
+    returns-2
     add-nth
     loop-less
     loop-again
-    same-length-2
-    returns-2)
+    same-length-3
+    returns-3)

@@ -1,56 +1,51 @@
--- The places passed hold no digit, so the search from the place reached gives what the search from `from` gives.
-use mathlib.Core.Path.{_≡_, refl, sym, _∙_}
-use Prim.Native.Nat.{_-_}
+-- The first place is the lowest one of the mask from `from` on, unless that is past the nine.
+use mathlib.Core.Path.{_≡_, sym, ap}
+use Prim.Native.Nat.{ℕ, _+_, _-_, _/_, _^_, _≤_, _<_}
 use native.Mathlib.Omega.{arith}
 use borrow.Author.Needs.{needs}
 use Rattle.candidates.specs.Masks.{firstPlace}
-use Rattle.candidates.proofs.Counts.{first-hit, first-miss, first-end}
+use Rattle.candidates.proofs.Counts.{first-end, first-shifted, lowest-le}
 use Rattle.candidates.proofs.masks.first_digit.Statement.{statement}
 use Rattle.candidates.proofs.masks.first_digit.Tie as tie
 
-abbrev Inv-loop : tie.InvT-loop
-Inv-loop mask from place₀ place = firstPlace (9 - place) place mask ≡ firstPlace (9 - from) from mask
+returns : tie.Need-returns
+returns c = sym (first-end (c .before .args .mask) (c .before .args .from) (c .if1 .taken))
 
-abbrev μ-loop : tie.MeasureT-loop
-μ-loop mask from place₀ place = 9 - place
+cast-lowest-digit : tie.Need-cast-lowest-digit
+cast-lowest-digit c = search needs
 
-loop-holds : tie.Need-loop-holds Inv-loop μ-loop
-loop-holds c = refl
+shr-lowest-digit : tie.Need-shr-lowest-digit
+shr-lowest-digit c = search needs
 
-has-digit-requires : tie.Need-has-digit-requires Inv-loop μ-loop
-has-digit-requires c κs = search needs
+lowest-digit-requires : tie.Need-lowest-digit-requires
+lowest-digit-requires c κs = search needs
 
-returns : tie.Need-returns Inv-loop μ-loop
-returns c =
-    let l = c .before .before .before in
-    sym (first-hit (l .before .args .mask) (l .loop .place) (c .before .before .loop-test .taken) (sym (c .before .has-digit .ensures) ∙ c .if1 .taken))
-    ∙ l .loop .inv
+add-place : tie.Need-add-place
+add-place c =
+    let a = c .before .before .args in
+    omega (arith, c .lowest-digit .ensures, lowest-le (a .mask / 2 ^ a .from))
 
-add-place : tie.Need-add-place Inv-loop μ-loop
-add-place c = omega arith
+-- what the place found says
+found : (c : tie.After-lowest-digit) → let a = c .before .before .args in
+    (a .from + c .lowest-digit .result < 9 → a .from + c .lowest-digit .result ≡ firstPlace (9 - a .from) (a .from) (a .mask)) × (9 ≤ a .from + c .lowest-digit .result → 9 ≡ firstPlace (9 - a .from) (a .from) (a .mask))
+found c =
+    let a = c .before .before .args in
+    first-shifted (a .mask) (a .from) (omega (arith, c .before .if1 .left)) (ap (λ (k : ℕ). a .from + k) (c .lowest-digit .ensures))
 
-loop-less : tie.Need-loop-less Inv-loop μ-loop
-loop-less c = omega arith
+returns-2 : tie.Need-returns-2
+returns-2 c = found (c .before) .0 (c .if2 .taken)
 
-loop-again : tie.Need-loop-again Inv-loop μ-loop
-loop-again c =
-    let l = c .before .before .before in
-    sym (first-miss (l .before .args .mask) (l .loop .place) (c .before .before .loop-test .taken) (sym (c .before .has-digit .ensures) ∙ c .if1 .left))
-    ∙ l .loop .inv
-
-returns-2 : tie.Need-returns-2 Inv-loop μ-loop
-returns-2 c = sym (first-end (c .before .before .args .mask) (c .before .loop .place) (c .loop-test .left)) ∙ c .before .loop .inv
+returns-3 : tie.Need-returns-3
+returns-3 c = found (c .before) .1 (c .if2 .left)
 
 pub first-digit-spec : {M : Type 1} → statement M
 first-digit-spec =
     tie.close
     (tie.spec
-    Inv-loop
-    μ-loop
-    loop-holds
-    has-digit-requires
     returns
+    cast-lowest-digit
+    shr-lowest-digit
+    lowest-digit-requires
     add-place
-    loop-less
-    loop-again
-    returns-2)
+    returns-2
+    returns-3)

@@ -2,31 +2,26 @@
 use mathlib.Core.Path.{sym, ap, _∙_, subst}
 use mathlib.Core.List.{List}
 use Prim.Native.Nat.{ℕ}
-use native.Mathlib.Omega.{arith}
 use borrow.Author.Needs.{needs}
 use Rattle.steps.specs.Passes.{Lone, instances, pass}
 use Rattle.steps.proofs.StepLogs.{log-idle}
 use Rattle.lanes.specs.code.Lanes.{laid}
 use Rattle.lone_place.specs.code.Due.{sharedLanes, Covers}
-use Rattle.lone_place.proofs.LoneLanes.{sets-cover, none-loose}
+use Rattle.lone_place.proofs.LoneLanes.{sets-cover, lone-idle}
 use Rattle.lone_place.proofs.lones.lone_lanes.Statement.{statement}
 use Rattle.lone_place.proofs.lones.lone_lanes.Tie as tie
 
-loose-requires : tie.Need-loose-requires
-loose-requires c κs = omega arith
-
-join-sets-requires : tie.Need-join-sets-requires
-join-sets-requires c κs = search needs
+loose-digits-requires : tie.Need-loose-digits-requires
+loose-digits-requires c κs = search needs
 
 returns : tie.Need-returns
 unfolding pass
 returns c =
-    let joined = c .before in
-    let free = joined .before .before in
+    let free = c .before in
     let start = free .before .before .before in
     let a = start .args in
-    let idle = none-loose (a .givens .now) (a .masks .now) (start .pre) (free .loose .ensures) (sym (joined .join-sets .ensures) ∙ c .if1 .taken) in
-    (sym idle, (start .pre .masks, sym (log-idle (a .givens .now) (instances Lone) (a .masks .now) (a .log .now) idle)))
+    let idle = lone-idle (a .givens .now) (a .masks .now) (sym (free .loose-digits .ensures) ∙ c .if1 .taken) in
+    (sym idle, (start .pre, sym (log-idle (a .givens .now) (instances Lone) (a .masks .now) (a .log .now) idle)))
 
 shared-lanes-requires : tie.Need-shared-lanes-requires
 shared-lanes-requires c κs = search needs
@@ -34,14 +29,14 @@ shared-lanes-requires c κs = search needs
 lone-rows-requires : tie.Need-lone-rows-requires
 lone-rows-requires c κs =
     let sets = c .before .before .before in
-    let start = sets .before .before .before .before .before .before .before .before in
+    let start = sets .before .before .before .before .before .before in
     let m = start .args .masks .now in
-    subst (λ (s : List ℕ). Covers s m) (sym (sets .shared-lanes .ensures ∙ ap sharedLanes (start .pre .masks))) (sets-cover m)
+    subst (λ (s : List ℕ). Covers s m) (sym (sets .shared-lanes .ensures ∙ ap sharedLanes (start .pre))) (sets-cover m)
 
 lay-requires : tie.Need-lay-requires
 lay-requires c κs =
-    let start = c .before .before .before .before .before .before .before .before .before .before .before .before .before .before .before .before .before in
-    record { of = start .args .masks .now; is = start .pre .masks }
+    let start = c .before .before .before .before .before .before .before .before .before .before .before .before .before .before .before in
+    record { of = start .args .masks .now; is = start .pre }
 
 same-length : tie.Need-same-length
 same-length c = search needs
@@ -57,15 +52,14 @@ same-length-2 c = search needs
 returns-3 : tie.Need-returns-3
 returns-3 c =
     let rows = c .before .before .before in
-    let start = rows .before .before .before .before .before .before .before .before .before .before .before .before in
-    (rows .lone-rows .ensures .0, (start .pre .masks ∙ ap laid (sym (rows .lone-rows .ensures .1 .0 .is (c .if2 .left))), rows .lone-rows .ensures .1 .1))
+    let start = rows .before .before .before .before .before .before .before .before .before .before in
+    (rows .lone-rows .ensures .0, (start .pre ∙ ap laid (sym (rows .lone-rows .ensures .1 .0 .is (c .if2 .left))), rows .lone-rows .ensures .1 .1))
 
 pub lone-lanes-spec : {M : Type 1} → statement M
 lone-lanes-spec =
     tie.close
     (tie.spec
-    loose-requires
-    join-sets-requires
+    loose-digits-requires
     returns
     shared-lanes-requires
     lone-rows-requires

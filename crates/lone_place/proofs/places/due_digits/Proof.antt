@@ -1,18 +1,19 @@
 -- `lone_place::places::due_digits` meets its contract. Assumes nothing.
 use mathlib.Core.Path.{ap, _∙_}
+use native.Mathlib.Omega.{arith}
 use borrow.Author.Needs.{needs}
 use Rattle.lone_place.specs.code.Due.{dueOf}
 use Rattle.lone_place.proofs.places.due_digits.Statement.{statement}
 use Rattle.lone_place.proofs.places.due_digits.Tie as tie
 
-all-masks-requires : tie.Need-all-masks-requires
-all-masks-requires c κs = search needs
+unit-lane-requires : tie.Need-unit-lane-requires
+unit-lane-requires c κs = omega arith
 
 due-of-requires : tie.Need-due-of-requires
 due-of-requires c κs = search needs
 
 returns : tie.Need-returns
-returns c = c .due-of .ensures ∙ ap dueOf (c .before .before .all-masks .ensures)
+returns c = c .due-of .ensures ∙ ap dueOf (c .before .before .unit-lane .ensures)
 
 pub due-digits-spec : {M : Type 1} → statement M
-due-digits-spec = tie.close (tie.spec all-masks-requires due-of-requires returns)
+due-digits-spec = tie.close (tie.spec unit-lane-requires due-of-requires returns)

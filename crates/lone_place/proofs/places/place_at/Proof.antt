@@ -1,26 +1,29 @@
 -- `lone_place::places::place_at` meets its contract. Assumes nothing.
 use mathlib.Core.Path.{_≡_, sym, ap, _∙_}
 use mathlib.Core.List.{List, [], _∷_}
-use Prim.Native.Nat.{ℕ, _+_}
+use Prim.Native.Nat.{ℕ, _+_, _<_}
 use native.Mathlib.Omega.{arith}
 use borrow.Author.Needs.{needs}
-use borrow.Author.Tests.{ne-eqb}
+use borrow.Author.Tests.{eq-eqb, ne-eqb}
+use lib.Bits.{bitAnd}
 use lib.Dec.{eqb}
 use Rattle.candidates.specs.Masks.{minus, single}
-use Rattle.candidates.proofs.Counts.{test-none}
-use Rattle.candidates.proofs.Tests.{cond-true, cond-false}
+use Rattle.candidates.proofs.Tests.{cond-true}
 use Rattle.grid.specs.Units.{unitCell}
 use Rattle.grid.proofs.Units.{cell-below}
-use Rattle.steps.specs.Boards.{isOpen, sameMasks}
+use Rattle.steps.specs.Boards.{at, isOpen, sameMasks}
 use Rattle.steps.specs.Instances.{place}
 use Rattle.steps.specs.Passes.{instanceTaken}
 use Rattle.steps.specs.StepLists.{stepBytes}
 use Rattle.steps.specs.Steps.{loseAt}
 use Rattle.steps.specs.code.Logs.{noted}
 use Rattle.steps.proofs.StepLogs.{log-one, log-none}
-use Rattle.cells.specs.code.Places.{loseIn}
+use Rattle.steps.proofs.Steps.{lose-other}
+use Rattle.cells.specs.code.Places.{loseIn, heldPlaces}
 use Rattle.cells.proofs.Places.{lose-cell}
 use Rattle.cells.proofs.NineBits.{place-is}
+use Rattle.lanes.specs.code.Lanes.{laid, putAt}
+use Rattle.lanes.proofs.Spots.{laid-one}
 use Rattle.lone_place.specs.code.Turns.{placeTurn}
 use Rattle.lone_place.proofs.Gone.{Went, went-as, went-cell, same-if}
 use Rattle.lone_place.proofs.PlaceTurns.{taken}
@@ -33,66 +36,61 @@ digit-mask-requires c κs = search needs
 lose-requires : tie.Need-lose-requires
 lose-requires c κs = search needs
 
-is-none-requires : tie.Need-is-none-requires
-is-none-requires c κs = search needs
-
-digit-mask-requires-2 : tie.Need-digit-mask-requires-2
-digit-mask-requires-2 c κs = search needs
-
-lose-requires-2 : tie.Need-lose-requires-2
-lose-requires-2 c κs = search needs
-
 unit-cell-requires : tie.Need-unit-cell-requires
 unit-cell-requires c κs = search needs
 
 lose-cell-requires : tie.Need-lose-cell-requires
 lose-cell-requires c κs = search needs
 
+-- the cell
+within : (c : tie.After-unit-cell) → c .unit-cell .result < 81
+within c =
+    let start = c .before .before .before .before in
+    omega (arith, c .unit-cell .ensures, cell-below (start .args .unit) (start .args .place) (start .pre .0) (start .pre .2))
+
+lay-cell-requires : tie.Need-lay-cell-requires
+lay-cell-requires c κs = omega (arith, within (c .before .before .before .before .before))
+
 add-note : tie.Need-add-note
 add-note c = omega arith
 
 note-requires : tie.Need-note-requires
-note-requires c κs =
-    let named = c .before .before .before .before in
-    let start = named .before .before .before .before .before .before .before .before in
-    omega (arith, named .unit-cell .ensures, cell-below (start .args .unit) (start .args .place) (start .pre .0) (start .pre .2))
+note-requires c κs = omega (arith, within (c .before .before .before .before .before .before .before))
 
--- what is tested
-tested : (c : tie.After-is-none) → c .is-none .result ≡ eqb (minus (c .before .before .before .before .args .held) (single (c .before .before .before .before .args .place))) 0
-tested c =
-    let start = c .before .before .before .before in
-    c .is-none .ensures ∙ sym (test-none (c .before .lose .result))
-    ∙ ap (λ (x : ℕ). eqb x 0) (c .before .lose .ensures ∙ ap (minus (start .args .held)) (c .before .before .digit-mask .ensures ∙ place-is (start .args .place) (start .pre .2)))
-
--- where the test passes, the cell's loss is the turn
-lost : (c : tie.After-lose-cell) {o : List ℕ} → let a = c .before .before .before .before .before .before .before .before .before .before .args in
-    o ≡ loseIn (isOpen (a .givens .now)) (c .before .before .unit-cell .result) (c .before .before .before .lose2 .result) (a .masks .now) → o ≡ placeTurn (a .givens .now) (a .unit) (a .digit) (a .held) (a .place) (a .masks .now)
+-- the cell's loss is the instance's step, since its test passes
+step : (c : tie.Start) → let a = c .args in loseAt (isOpen (a .givens .now)) (unitCell (a .unit) (a .place)) (minus 511 (single (a .digit))) (a .masks .now) ≡ instanceTaken (a .givens .now) (place (a .unit) (a .digit) (a .place)) (a .masks .now)
 unfolding placeTurn
-lost c e =
-    let start = c .before .before .before .before .before .before .before .before .before .before in
-    let a = start .args in
-    let cell = unitCell (a .unit) (a .place) in
-    let m = a .masks .now in
-    let kept = c .before .before .before in
-    e ∙ ap (λ (e : ℕ). loseIn (isOpen (a .givens .now)) e (kept .lose2 .result) m) (c .before .before .unit-cell .ensures)
-    ∙ ap (λ (k : ℕ). loseIn (isOpen (a .givens .now)) cell k m) (kept .lose2 .ensures ∙ ap (minus 511) (kept .before .digit-mask2 .ensures ∙ place-is (a .digit) (start .pre .1)))
-    ∙ lose-cell (isOpen (a .givens .now)) cell (minus 511 (single (a .digit))) m (cell-below (a .unit) (a .place) (start .pre .0) (start .pre .2))
-    ∙ sym (cond-true (eqb (minus (a .held) (single (a .place))) 0) (loseAt (isOpen (a .givens .now)) cell (minus 511 (single (a .digit))) m) m
-    (sym (tested (kept .before .before .before)) ∙ kept .before .before .if1 .taken))
-
--- the turn is the instance's step
-step : (c : tie.Start) → let a = c .args in placeTurn (a .givens .now) (a .unit) (a .digit) (a .held) (a .place) (a .masks .now) ≡ instanceTaken (a .givens .now) (place (a .unit) (a .digit) (a .place)) (a .masks .now)
 step c =
     let a = c .args in
-    ap (λ (held : ℕ). placeTurn (a .givens .now) (a .unit) (a .digit) held (a .place) (a .masks .now)) (c .pre .3)
-    ∙ sym (taken (a .givens .now) (a .unit) (a .digit) (c .pre .0) (c .pre .1) (a .masks .now) (a .place) (c .pre .2))
+    let m = a .masks .now in
+    let left = minus (heldPlaces m (a .unit) (a .digit)) (single (a .place)) in
+    sym (cond-true (eqb left 0) (loseAt (isOpen (a .givens .now)) (unitCell (a .unit) (a .place)) (minus 511 (single (a .digit))) m) m (eq-eqb left 0 (c .pre .3)))
+    ∙ sym (taken (a .givens .now) (a .unit) (a .digit) (c .pre .0) (c .pre .1) m (a .place) (c .pre .2))
+
+lost : (c : tie.After-lose-cell) {o : List ℕ} → let a = c .before .before .before .before .before .before .args in
+    o ≡ loseIn (isOpen (a .givens .now)) (c .before .before .unit-cell .result) (c .before .before .before .lose .result) (a .masks .now) → o ≡ instanceTaken (a .givens .now) (place (a .unit) (a .digit) (a .place)) (a .masks .now)
+lost c e =
+    let named = c .before .before in
+    let kept = named .before in
+    let start = kept .before .before .before in
+    let a = start .args in
+    let m = a .masks .now in
+    let cell = unitCell (a .unit) (a .place) in
+    e ∙ ap (λ (i : ℕ). loseIn (isOpen (a .givens .now)) i (kept .lose .result) m) (named .unit-cell .ensures)
+    ∙ ap (λ (k : ℕ). loseIn (isOpen (a .givens .now)) cell k m) (kept .lose .ensures ∙ ap (minus 511) (kept .before .digit-mask .ensures ∙ place-is (a .digit) (start .pre .1)))
+    ∙ lose-cell (isOpen (a .givens .now)) cell (minus 511 (single (a .digit))) m (cell-below (a .unit) (a .place) (start .pre .0) (start .pre .2)) ∙ step start
+
+-- the lanes after it
+laid-lost : (g m : List ℕ) (i k : ℕ) {n p q : List ℕ} → i < 81 → n ≡ loseIn (isOpen g) i k m → p ≡ laid m → q ≡ putAt i (bitAnd (at n i) 511) p → q ≡ laid n
+laid-lost g m i k {n} {p} {q} h e b d =
+    d ∙ ap (putAt i (bitAnd (at n i) 511)) b ∙ laid-one m n i h (λ j r. ap (λ (o : List ℕ). at o j) (e ∙ lose-cell (isOpen g) i k m h) ∙ lose-other (isOpen g) i k m j r)
 
 -- whether the masks changed
-told : (c : tie.After-lose-cell) {o : List ℕ} → let a = c .before .before .before .before .before .before .before .before .before .before .args in
-    o ≡ loseIn (isOpen (a .givens .now)) (c .before .before .unit-cell .result) (c .before .before .before .lose2 .result) (a .masks .now) → Went (c .lose-cell .result) (a .masks .now) o
+told : (c : tie.After-lose-cell) {o : List ℕ} → let a = c .before .before .before .before .before .before .args in
+    o ≡ loseIn (isOpen (a .givens .now)) (c .before .before .unit-cell .result) (c .before .before .before .lose .result) (a .masks .now) → Went (c .lose-cell .result) (a .masks .now) o
 told c e =
-    let a = c .before .before .before .before .before .before .before .before .before .before .args in
-    went-as (c .lose-cell .ensures .1) e (went-cell (a .givens .now) (a .masks .now) (c .before .before .unit-cell .result) (c .before .before .before .lose2 .result))
+    let a = c .before .before .before .before .before .before .args in
+    went-as (c .lose-cell .ensures .1) e (went-cell (a .givens .now) (a .masks .now) (c .before .before .unit-cell .result) (c .before .before .before .lose .result))
 
 same-length : tie.Need-same-length
 same-length c = search needs
@@ -100,35 +98,32 @@ same-length c = search needs
 returns : tie.Need-returns
 unfolding stepBytes
 returns c =
-    let gone = c .before .before .before .before .before in
-    let start = gone .before .before .before .before .before .before .before .before .before .before in
+    let lay = c .before .before .before .before in
+    let hit = lay .before .before .before in
+    let gone = hit .before in
+    let start = gone .before .before .before .before .before .before in
     let a = start .args in
     let m = a .masks .now in
     let x = place (a .unit) (a .digit) (a .place) in
-    let e = lost gone (gone .lose-cell .ensures .0) in (
+    let loss = gone .lose-cell .ensures .0 in
+    let e = lost gone loss in (
       e,
-      c .before .before .note .ensures ∙ ap (λ (cell : ℕ). noted (1 ∷ a .unit ∷ (a .digit + 1) ∷ cell ∷ 0 ∷ 0 ∷ []) (a .log .now)) (gone .before .before .unit-cell .ensures)
-          ∙ sym (log-one (a .givens .now) x m (a .log .now) (ap (sameMasks m) (sym (e ∙ step start)) ∙ sym (told gone (gone .lose-cell .ensures .0) .told) ∙ ne-eqb (gone .lose-cell .result) 0 (c .before .before .before .before .if2 .taken))),
+      (
+        laid-lost (a .givens .now) m (gone .before .before .unit-cell .result) (gone .before .before .before .lose .result) (within (gone .before .before)) loss (start .pre .4) (lay .lay-cell .ensures),
+        c .before .before .note .ensures ∙ ap (λ (i : ℕ). noted (1 ∷ a .unit ∷ (a .digit + 1) ∷ i ∷ 0 ∷ 0 ∷ []) (a .log .now)) (gone .before .before .unit-cell .ensures)
+            ∙ sym (log-one (a .givens .now) x m (a .log .now) (ap (sameMasks m) (sym e) ∙ sym (told gone loss .told) ∙ ne-eqb (gone .lose-cell .result) 0 (hit .if1 .taken))),
+      ),
     )
 
 returns-2 : tie.Need-returns-2
 returns-2 c =
     let gone = c .before in
-    let start = gone .before .before .before .before .before .before .before .before .before .before in
+    let start = gone .before .before .before .before .before .before in
     let a = start .args in
-    let x = place (a .unit) (a .digit) (a .place) in
-    let e = lost gone (gone .lose-cell .ensures .0) in
-    (e, sym (log-none (a .givens .now) x (a .masks .now) (a .log .now) (sym (e ∙ step start) ∙ same-if (told gone (gone .lose-cell .ensures .0)) (c .if2 .left))))
-
-returns-3 : tie.Need-returns-3
-unfolding placeTurn
-returns-3 c =
-    let start = c .before .before .before .before .before in
-    let a = start .args in
-    let e =
-    cond-false (eqb (minus (a .held) (single (a .place))) 0)
-    (loseAt (isOpen (a .givens .now)) (unitCell (a .unit) (a .place)) (minus 511 (single (a .digit))) (a .masks .now)) (a .masks .now) (sym (tested (c .before)) ∙ c .if1 .left) in
-    (sym e, sym (log-none (a .givens .now) (place (a .unit) (a .digit) (a .place)) (a .masks .now) (a .log .now) (sym (step start) ∙ e)))
+    let loss = gone .lose-cell .ensures .0 in
+    let e = lost gone loss in
+    let same = same-if (told gone loss) (c .if1 .left) in
+    (e, (start .pre .4 ∙ ap laid (sym same), sym (log-none (a .givens .now) (place (a .unit) (a .digit) (a .place)) (a .masks .now) (a .log .now) (sym e ∙ same))))
 
 pub place-at-spec : {M : Type 1} → statement M
 place-at-spec =
@@ -136,14 +131,11 @@ place-at-spec =
     (tie.spec
     digit-mask-requires
     lose-requires
-    is-none-requires
-    digit-mask-requires-2
-    lose-requires-2
     unit-cell-requires
     lose-cell-requires
+    lay-cell-requires
     add-note
     note-requires
     same-length
     returns
-    returns-2
-    returns-3)
+    returns-2)

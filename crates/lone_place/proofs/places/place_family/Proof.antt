@@ -44,21 +44,15 @@ returns c =
 
 place-due-requires : tie.Need-place-due-requires
 place-due-requires c κs =
-    let tested = c .before .before .before .before .before .before in
-    (tested .before .before .before .before .before .before .pre .0, spares tested)
-
-lay-requires : tie.Need-lay-requires
-lay-requires c κs =
-    let start = c .before .before .before .before .before .before .before .before .before .before .before .before .before .before .before .before .before in
-    record { of = start .args .masks .now; is = start .pre .1 .masks }
+    let tested = c .before .before .before .before .before .before .before in
+    let start = tested .before .before .before .before .before .before in
+    (start .pre .0, spares tested, start .pre .1 .masks)
 
 same-length : tie.Need-same-length
 same-length c = search needs
 
 returns-2 : tie.Need-returns-2
-returns-2 c =
-    let due = c .before .before .before .before .before in
-    (due .place-due .ensures .0, (c .lay .ensures, due .place-due .ensures .1))
+returns-2 c = c .before .before .place-due .ensures
 
 pub place-family-spec : {M : Type 1} → statement M
 place-family-spec =
@@ -71,6 +65,5 @@ place-family-spec =
     join-sets-requires
     returns
     place-due-requires
-    lay-requires
     same-length
     returns-2)

@@ -5,9 +5,10 @@ use Prim.Native.Nat.{ℕ, _+_, _*_, _≤_, _<_}
 use lib.ListN.{length, set}
 use Rattle.candidates.specs.Masks.{single, lowest}
 use Rattle.candidates.proofs.Order.{minus-sub, sub-le}
+use Rattle.cells.proofs.Rising.{lowest-place}
 use Rattle.record.specs.code.Places.{cellCandidates}
 use Rattle.record.specs.Sections.{entryBytes, stored}
-use Rattle.record.proofs.Places.{places-nine, nine-small, cell-none, digit-less, digit-put, lowest-place}
+use Rattle.record.proofs.Places.{places-nine, nine-small, cell-none, digit-less, digit-put}
 use borrow.Author.Needs.{needs}
 use native.Mathlib.Omega.{arith}
 use Rattle.record.proofs.sections.put_cell.Statement.{statement}

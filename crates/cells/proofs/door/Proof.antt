@@ -1,10 +1,10 @@
--- `lanes::door` meets its contract. Assumes nothing.
+-- `cells::door` meets its contract. Assumes nothing.
 use mathlib.Core.Path.{sym}
 use borrow.Author.Tests.{eq-eqb, ne-eqb}
 use lib.Dec.{eqb}
 use Rattle.candidates.proofs.Tests.{cond-true, cond-false}
-use Rattle.lanes.proofs.door.Statement.{statement}
-use Rattle.lanes.proofs.door.Tie as tie
+use Rattle.cells.proofs.door.Statement.{statement}
+use Rattle.cells.proofs.door.Tie as tie
 
 returns : tie.Need-returns
 returns c =
