@@ -39,6 +39,9 @@ OTHERS = {
     "read": "parse_string",
     "open": "Board::new",
     "count": "clue_count",
+    "puzzle": "original_puzzle",
+    "masks": "get_candidates",
+    "mask": "cell_mask",
     "verify": "verify_solution",
     "repeat": "verify_solution, the second cell repeats the first",
     "sheet": "parse_sheet, a sheet of 338 bytes",
@@ -50,7 +53,7 @@ OTHERS = {
     "difficulty": "difficulty",
 }
 # what the original has not
-ENGINE_ALONE = {"7", "8", "9", "10", "14", "11", "12", "15", "sheet", "canonical", "record", "card", "settle", "steps", "difficulty"}
+ENGINE_ALONE = {"7", "8", "9", "10", "14", "11", "12", "15", "mask", "sheet", "canonical", "record", "card", "settle", "steps", "difficulty"}
 # the wide passes and settling, and what the yardstick calls the last
 WIDE = ["7", "8", "9", "10", "14", "11", "12"]
 YARDSTICK = {"12": "settle6"}

@@ -3,7 +3,7 @@
 //!     measure SIDE CALL ROUNDS [BOARDS]
 //!
 //! SIDE is original, plain or engine; CALL a step number, 255 for no step, or one of `verify`, `repeat` (the verifier where the second cell
-//! repeats the first), `read`, `open`, `count`, `enter`, `rub_out`, `sheet`, `canonical` (a canonical sheet written), `record`, `card`,
+//! repeats the first), `read`, `open`, `count`, `puzzle`, `masks`, `mask` (the other accessors), `enter`, `rub_out`, `sheet`, `canonical` (a canonical sheet written), `record`, `card`,
 //! `settle` (settling with its step list), `difficulty`, `steps` (that list checked) and `setN` (0 insert, 1 remove, 2 contains, 3 len, 4 single_candidate). A round is 64 boards; for a step of the engine the boards of the file
 //! BOARDS in their place, where that is named: a line each, 81 clue characters, a space and 81 masks of three hexadecimal digits. What a call
 //! costs is the difference of two runs, divided by the difference of their calls; for a step also less what making the board costs, which 255
@@ -18,7 +18,7 @@ use sudoku_host::random::Random;
 use sudoku_host::sheet_cases::{ruled, BOXED};
 use sudoku_host::sides::{Call, Original, Plain, Side};
 use sudoku_host::records::{self, Form};
-use sudoku_host::{card, check_steps, clue_count, difficulty, enter, grids, open, plain, read, read_record, read_sheet, rub_out, set, settle, step, step_lists, verify};
+use sudoku_host::{card, cell_mask, check_steps, clue_count, difficulty, enter, get_candidates, grids, open, original_puzzle, plain, read, read_record, read_sheet, rub_out, set, settle, step, step_lists, verify};
 use sudoku_host::{write_record, write_sheet, Board, Clues, SetCall, NO_ENTRIES};
 
 const BOARDS: usize = 64;
@@ -37,7 +37,7 @@ fn main() {
         (_, "repeat") => verifying(side, &mut random, true, rounds),
         (_, "read") => reading(side, &mut random, rounds),
         (_, "open") => opening(side, &mut random, rounds),
-        (_, "count") => counting(side, &mut random, rounds),
+        (_, "count" | "puzzle" | "masks") | ("engine", "mask") => asking(side, call, &mut random, rounds),
         (_, "enter") => entering(side, &mut random, rounds),
         (_, "rub_out") => rubbing_out(side, &mut random, rounds),
         ("plain" | "engine", "sheet") => pasting(side, &mut random, rounds),
@@ -56,7 +56,7 @@ fn main() {
 }
 
 fn usage() -> ! {
-    eprintln!("measure original|plain|engine STEP|verify|repeat|read|open|count|enter|rub_out|sheet|canonical|record|card|settle|difficulty|steps|setN ROUNDS [BOARDS]");
+    eprintln!("measure original|plain|engine STEP|verify|repeat|read|open|count|puzzle|masks|mask|enter|rub_out|sheet|canonical|record|card|settle|difficulty|steps|setN ROUNDS [BOARDS]");
     std::process::exit(2)
 }
 
@@ -162,15 +162,23 @@ fn opening(side: &str, random: &mut Random, rounds: usize) {
     }
 }
 
-/// `clue_count`, for the engine with its board check.
-fn counting(side: &str, random: &mut Random, rounds: usize) {
+/// `clue_count`, `original_puzzle`, `get_candidates` and one cell's mask, for the engine with its board check. The original has no call for the last.
+fn asking(side: &str, call: &str, random: &mut Random, rounds: usize) {
+    let (mut puzzle, mut masks) = ([0; 81], [0; 81]);
     for board in boards(random) {
         let solver = oracle::with_masks(&board.clues, &board.masks);
         for _ in 0..rounds {
-            match side {
-                "engine" => drop(black_box(clue_count(black_box(&board)))),
-                _ => drop(black_box(black_box(&solver).clue_count())),
+            let (board, solver) = (black_box(&board), black_box(&solver));
+            match (side, call) {
+                ("engine", "count") => drop(black_box(clue_count(board))),
+                ("engine", "puzzle") => drop(black_box(original_puzzle(board, &mut puzzle))),
+                ("engine", "masks") => drop(black_box(get_candidates(board, &mut masks))),
+                ("engine", _) => drop(black_box(cell_mask(board, black_box(40)))),
+                (_, "count") => drop(black_box(solver.clue_count())),
+                (_, "puzzle") => drop(black_box(solver.original_puzzle())),
+                (_, _) => drop(black_box(solver.get_candidates())),
             }
+            black_box((&puzzle, &masks));
         }
     }
 }
