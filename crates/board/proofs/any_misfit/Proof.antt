@@ -24,30 +24,6 @@ loop-holds : tie.Need-loop-holds Inv-loop μ-loop
 unfolding cells
 loop-holds c = refl
 
-mul-misfits : tie.Need-mul-misfits Inv-loop μ-loop
-mul-misfits c = omega arith
-
-element-copy-out-misfits : tie.Need-element-copy-out-misfits Inv-loop μ-loop
-element-copy-out-misfits c = omega arith
-
-mul-misfits-2 : tie.Need-mul-misfits-2 Inv-loop μ-loop
-mul-misfits-2 c = omega arith
-
-element-copy-out-misfits-2 : tie.Need-element-copy-out-misfits-2 Inv-loop μ-loop
-element-copy-out-misfits-2 c = omega arith
-
-element-copy-out-misfits-3 : tie.Need-element-copy-out-misfits-3 Inv-loop μ-loop
-element-copy-out-misfits-3 c = omega arith
-
-misfits-requires : tie.Need-misfits-requires Inv-loop μ-loop
-misfits-requires c κs = search needs
-
-add-cell : tie.Need-add-cell Inv-loop μ-loop
-add-cell c = omega arith
-
-loop-less : tie.Need-loop-less Inv-loop μ-loop
-loop-less c = omega arith
-
 loop-again : tie.Need-loop-again Inv-loop μ-loop
 loop-again c =
     let l = c .before .before .before .before .before in
@@ -67,13 +43,7 @@ any-misfit-spec =
     Inv-loop
     μ-loop
     loop-holds
-    mul-misfits
-    element-copy-out-misfits
-    mul-misfits-2
-    element-copy-out-misfits-2
-    element-copy-out-misfits-3
-    misfits-requires
-    add-cell
-    loop-less
+    (λ c. omega arith) (λ c. omega arith) (λ c. omega arith) (λ c. omega arith) (λ c. omega arith) (search needs)
+    (λ c. omega arith) (λ c. omega arith)
     loop-again
     returns)

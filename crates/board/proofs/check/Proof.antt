@@ -3,9 +3,6 @@ use borrow.Author.Needs.{needs}
 use Rattle.board.proofs.check.Statement.{statement}
 use Rattle.board.proofs.check.Tie as tie
 
-givens-of-requires : tie.Need-givens-of-requires
-givens-of-requires c κs = search needs
-
 check-given-requires : tie.Need-check-given-requires
 check-given-requires c κs = c .before .givens-of .ensures
 
@@ -13,4 +10,5 @@ returns : tie.Need-returns
 returns c = c .check-given .ensures
 
 pub check-spec : {M : Type 1} → statement M
-check-spec = tie.close (tie.spec givens-of-requires check-given-requires returns)
+check-spec =
+    tie.close (tie.spec (search needs) check-given-requires returns)

@@ -4,21 +4,6 @@ use borrow.Author.Needs.{needs}
 use Rattle.board.proofs.check_beside.Statement.{statement}
 use Rattle.board.proofs.check_beside.Tie as tie
 
-check-clues-requires : tie.Need-check-clues-requires
-check-clues-requires c κs = search needs
-
-check-entries-requires : tie.Need-check-entries-requires
-check-entries-requires c κs = search needs
-
-check-masks-requires : tie.Need-check-masks-requires
-check-masks-requires c κs = search needs
-
-then-requires : tie.Need-then-requires
-then-requires c κs = search needs
-
-then-requires-2 : tie.Need-then-requires-2
-then-requires-2 c κs = search needs
-
 returns : tie.Need-returns
 returns c =
     let t = c .before .before in
@@ -27,5 +12,4 @@ returns c =
 
 pub check-beside-spec : {M : Type 1} → statement M
 check-beside-spec =
-    tie.close
-    (tie.spec check-entries-requires check-masks-requires then-requires check-clues-requires then-requires-2 returns)
+    tie.close (tie.spec (search needs) (search needs) (search needs) (search needs) (search needs) returns)

@@ -6,12 +6,6 @@ use Rattle.board.proofs.Checks.{checks}
 use Rattle.board.proofs.check_given.Statement.{statement}
 use Rattle.board.proofs.check_given.Tie as tie
 
-fresh-masks-requires : tie.Need-fresh-masks-requires
-fresh-masks-requires c κs = search needs
-
-check-beside-requires : tie.Need-check-beside-requires
-check-beside-requires c κs = search needs
-
 returns : tie.Need-returns
 returns c =
     let f = c .before .before in
@@ -20,4 +14,5 @@ returns c =
     c .check-beside .ensures ∙ checks (handed (a .clues .now) (a .entries .now) (a .masks .now)) (s .pre) (f .fresh-masks .ensures)
 
 pub check-given-spec : {M : Type 1} → statement M
-check-given-spec = tie.close (tie.spec fresh-masks-requires check-beside-requires returns)
+check-given-spec =
+    tie.close (tie.spec (search needs) (search needs) returns)

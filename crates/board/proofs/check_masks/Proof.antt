@@ -22,9 +22,6 @@ Inv-loop givens fresh masks cell₀ cell =
 abbrev μ-loop : tie.MeasureT-loop
 μ-loop givens fresh masks cell₀ cell = 81 - cell
 
-any-misfit-requires : tie.Need-any-misfit-requires Inv-loop μ-loop
-any-misfit-requires c κs = search needs
-
 returns : tie.Need-returns Inv-loop μ-loop
 returns c =
     let a = c .before .before .args in
@@ -34,37 +31,10 @@ loop-holds : tie.Need-loop-holds Inv-loop μ-loop
 unfolding cells
 loop-holds c = refl
 
-mul-misfits : tie.Need-mul-misfits Inv-loop μ-loop
-mul-misfits c = omega arith
-
-element-copy-out-misfits : tie.Need-element-copy-out-misfits Inv-loop μ-loop
-element-copy-out-misfits c = omega arith
-
-mul-misfits-2 : tie.Need-mul-misfits-2 Inv-loop μ-loop
-mul-misfits-2 c = omega arith
-
-element-copy-out-misfits-2 : tie.Need-element-copy-out-misfits-2 Inv-loop μ-loop
-element-copy-out-misfits-2 c = omega arith
-
-element-copy-out-misfits-3 : tie.Need-element-copy-out-misfits-3 Inv-loop μ-loop
-element-copy-out-misfits-3 c = omega arith
-
-misfits-requires : tie.Need-misfits-requires Inv-loop μ-loop
-misfits-requires c κs = search needs
-
-cast-t20 : tie.Need-cast-t20 Inv-loop μ-loop
-cast-t20 c = search needs
-
 returns-2 : tie.Need-returns-2 Inv-loop μ-loop
 returns-2 c =
     let l = c .before .before .before .before .before .before .loop in
     found-stop BadMask (omega arith) (found _ 81 (l .cell) (l .inv) (omega arith) (c .before .misfits .ensures) (c .if2 .taken))
-
-add-cell : tie.Need-add-cell Inv-loop μ-loop
-add-cell c = omega arith
-
-loop-less : tie.Need-loop-less Inv-loop μ-loop
-loop-less c = omega arith
 
 loop-again : tie.Need-loop-again Inv-loop μ-loop
 loop-again c =
@@ -80,18 +50,12 @@ check-masks-spec =
     (tie.spec
     Inv-loop
     μ-loop
-    any-misfit-requires
+    (search needs)
     returns
     loop-holds
-    mul-misfits
-    element-copy-out-misfits
-    mul-misfits-2
-    element-copy-out-misfits-2
-    element-copy-out-misfits-3
-    misfits-requires
-    cast-t20
+    (λ c. omega arith) (λ c. omega arith) (λ c. omega arith) (λ c. omega arith) (λ c. omega arith) (search needs)
+    (search needs)
     returns-2
-    add-cell
-    loop-less
+    (λ c. omega arith) (λ c. omega arith)
     loop-again
     returns-3)

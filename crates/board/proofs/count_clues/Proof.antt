@@ -31,24 +31,6 @@ loop-holds : tie.Need-loop-holds Inv-loop μ-loop
 unfolding cells
 loop-holds c = (omega arith, zero-add _)
 
-mul-given-digit : tie.Need-mul-given-digit Inv-loop μ-loop
-mul-given-digit c = omega arith
-
-element-copy-out-given-digit : tie.Need-element-copy-out-given-digit Inv-loop μ-loop
-element-copy-out-given-digit c = omega arith
-
-given-digit-requires : tie.Need-given-digit-requires Inv-loop μ-loop
-given-digit-requires c κs = search needs
-
-add-count : tie.Need-add-count Inv-loop μ-loop
-add-count c = omega arith
-
-add-cell : tie.Need-add-cell Inv-loop μ-loop
-add-cell c = omega arith
-
-loop-less : tie.Need-loop-less Inv-loop μ-loop
-loop-less c = omega arith
-
 loop-again : tie.Need-loop-again Inv-loop μ-loop
 loop-again c =
     let n = c .before in
@@ -77,11 +59,6 @@ count-clues-spec =
     Inv-loop
     μ-loop
     loop-holds
-    mul-given-digit
-    element-copy-out-given-digit
-    given-digit-requires
-    add-count
-    add-cell
-    loop-less
+    (λ c. omega arith) (λ c. omega arith) (search needs) (λ c. omega arith) (λ c. omega arith) (λ c. omega arith)
     loop-again
     returns)

@@ -4,12 +4,6 @@ use Rattle.board.proofs.Answered.{cell-in, cell-past}
 use Rattle.board.proofs.mask_of.Statement.{statement}
 use Rattle.board.proofs.mask_of.Tie as tie
 
-mul-t5 : tie.Need-mul-t5
-mul-t5 c = search needs
-
-element-copy-out-t8 : tie.Need-element-copy-out-t8
-element-copy-out-t8 c = search needs
-
 returns : tie.Need-returns
 returns c = cell-in (c .before .before .args .masks .now) (c .before .before .args .cell) (c .before .if1 .taken)
 
@@ -17,4 +11,5 @@ returns-2 : tie.Need-returns-2
 returns-2 c = cell-past (c .before .args .masks .now) (c .before .args .cell) (c .if1 .left)
 
 pub mask-of-spec : {M : Type 1} → statement M
-mask-of-spec = tie.close (tie.spec mul-t5 element-copy-out-t8 returns returns-2)
+mask-of-spec =
+    tie.close (tie.spec (search needs) (search needs) returns returns-2)

@@ -8,9 +8,6 @@ use Rattle.board.proofs.Checks.{open-misfit, clue-misfit}
 use Rattle.board.proofs.misfits.Statement.{statement}
 use Rattle.board.proofs.misfits.Tie as tie
 
-lose-requires : tie.Need-lose-requires
-lose-requires c κs = search needs
-
 returns : tie.Need-returns
 returns c =
     let a = c .before .before .args in
@@ -22,4 +19,5 @@ returns-2 c =
     clue-misfit (a .mask) (a .fresh) (a .given) (c .if1 .left)
 
 pub misfits-spec : {M : Type 1} → statement M
-misfits-spec = tie.close (tie.spec lose-requires returns returns-2)
+misfits-spec =
+    tie.close (tie.spec (search needs) returns returns-2)

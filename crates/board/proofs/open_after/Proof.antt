@@ -8,18 +8,6 @@ use Rattle.board.specs.Boards.{noBoard}
 use Rattle.board.proofs.open_after.Statement.{statement}
 use Rattle.board.proofs.open_after.Tie as tie
 
-enum-told : tie.Need-enum-told
-enum-told c = search needs
-
-enum-told-2 : tie.Need-enum-told-2
-enum-told-2 c = search needs
-
-zeros-requires : tie.Need-zeros-requires
-zeros-requires c κs = search needs
-
-fresh-board-requires : tie.Need-fresh-board-requires
-fresh-board-requires c κs = search needs
-
 returns : tie.Need-returns
 returns c =
     let e = c .before in
@@ -34,5 +22,4 @@ returns-2 c =
 
 pub open-after-spec : {M : Type 1} → statement M
 open-after-spec =
-    tie.close
-    (tie.spec enum-told enum-told-2 zeros-requires returns fresh-board-requires returns-2)
+    tie.close (tie.spec (search needs) (search needs) (search needs) returns (search needs) returns-2)

@@ -15,41 +15,17 @@ abbrev μ-loop : tie.MeasureT-loop
 loop-holds : tie.Need-loop-holds Inv-loop μ-loop
 loop-holds c = tt
 
-cast-first : tie.Need-cast-first Inv-loop μ-loop
-cast-first c = omega arith
-
-array-write-first : tie.Need-array-write-first Inv-loop μ-loop
-array-write-first c = omega arith
-
 slice-aggregate-read : tie.Need-slice-aggregate-read Inv-loop μ-loop
 slice-aggregate-read c = refl
 
 slice-aggregate-read-2 : tie.Need-slice-aggregate-read-2 Inv-loop μ-loop
 slice-aggregate-read-2 c = refl
 
-read-requires : tie.Need-read-requires Inv-loop μ-loop
-read-requires c κs = search needs
-
-cast-last : tie.Need-cast-last Inv-loop μ-loop
-cast-last c = omega arith
-
-array-write-last : tie.Need-array-write-last Inv-loop μ-loop
-array-write-last c = omega arith
-
 slice-aggregate-read-3 : tie.Need-slice-aggregate-read-3 Inv-loop μ-loop
 slice-aggregate-read-3 c = refl
 
 slice-aggregate-read-4 : tie.Need-slice-aggregate-read-4 Inv-loop μ-loop
 slice-aggregate-read-4 c = refl
-
-read-requires-2 : tie.Need-read-requires-2 Inv-loop μ-loop
-read-requires-2 c κs = search needs
-
-add-byte : tie.Need-add-byte Inv-loop μ-loop
-add-byte c = omega arith
-
-loop-less : tie.Need-loop-less Inv-loop μ-loop
-loop-less c = omega arith
 
 loop-again : tie.Need-loop-again Inv-loop μ-loop
 loop-again c = tt
@@ -64,17 +40,12 @@ bytes-spec =
     Inv-loop
     μ-loop
     loop-holds
-    cast-first
-    array-write-first
+    (λ c. omega arith) (λ c. omega arith)
     slice-aggregate-read
     slice-aggregate-read-2
-    read-requires
-    cast-last
-    array-write-last
+    (search needs) (λ c. omega arith) (λ c. omega arith)
     slice-aggregate-read-3
     slice-aggregate-read-4
-    read-requires-2
-    add-byte
-    loop-less
+    (search needs) (λ c. omega arith) (λ c. omega arith)
     loop-again
     returns)

@@ -13,15 +13,6 @@ abbrev μ-loop : tie.MeasureT-loop
 loop-holds : tie.Need-loop-holds Inv-loop μ-loop
 loop-holds c = tt
 
-array-write-sheet : tie.Need-array-write-sheet Inv-loop μ-loop
-array-write-sheet c = omega arith
-
-add-index : tie.Need-add-index Inv-loop μ-loop
-add-index c = omega arith
-
-loop-less : tie.Need-loop-less Inv-loop μ-loop
-loop-less c = omega arith
-
 loop-again : tie.Need-loop-again Inv-loop μ-loop
 loop-again c = tt
 
@@ -31,4 +22,10 @@ returns c = tt
 pub cells-before-spec : {M : Type 1} → statement M
 cells-before-spec =
     tie.close
-    (tie.spec Inv-loop μ-loop loop-holds array-write-sheet add-index loop-less loop-again returns)
+    (tie.spec
+    Inv-loop
+    μ-loop
+    loop-holds
+    (λ c. omega arith) (λ c. omega arith) (λ c. omega arith)
+    loop-again
+    returns)

@@ -11,56 +11,8 @@ Inv-loop beside i₀ i = Unit {0}
 abbrev μ-loop : tie.MeasureT-loop
 μ-loop beside i₀ i = 7 - i
 
-with-clue-requires : tie.Need-with-clue-requires Inv-loop μ-loop
-with-clue-requires c κs = search needs
-
-with-clue-requires-2 : tie.Need-with-clue-requires-2 Inv-loop μ-loop
-with-clue-requires-2 c κs = search needs
-
 loop-holds : tie.Need-loop-holds Inv-loop μ-loop
 loop-holds c = tt
-
-mul-with-clue : tie.Need-mul-with-clue Inv-loop μ-loop
-mul-with-clue c = omega arith
-
-array-copy-out-with-clue : tie.Need-array-copy-out-with-clue Inv-loop μ-loop
-array-copy-out-with-clue c = omega arith
-
-with-clue-requires-3 : tie.Need-with-clue-requires-3 Inv-loop μ-loop
-with-clue-requires-3 c κs = search needs
-
-add-calls : tie.Need-add-calls Inv-loop μ-loop
-add-calls c = omega arith
-
-fresh-board-requires : tie.Need-fresh-board-requires Inv-loop μ-loop
-fresh-board-requires c κs = search needs
-
-calls-requires : tie.Need-calls-requires Inv-loop μ-loop
-calls-requires c κs = search needs
-
-mul-with-clue-2 : tie.Need-mul-with-clue-2 Inv-loop μ-loop
-mul-with-clue-2 c = omega arith
-
-array-copy-out-with-clue-2 : tie.Need-array-copy-out-with-clue-2 Inv-loop μ-loop
-array-copy-out-with-clue-2 c = omega arith
-
-with-clue-requires-4 : tie.Need-with-clue-requires-4 Inv-loop μ-loop
-with-clue-requires-4 c κs = search needs
-
-add-calls-2 : tie.Need-add-calls-2 Inv-loop μ-loop
-add-calls-2 c = omega arith
-
-fresh-board-requires-2 : tie.Need-fresh-board-requires-2 Inv-loop μ-loop
-fresh-board-requires-2 c κs = search needs
-
-calls-requires-2 : tie.Need-calls-requires-2 Inv-loop μ-loop
-calls-requires-2 c κs = search needs
-
-add-i : tie.Need-add-i Inv-loop μ-loop
-add-i c = omega arith
-
-loop-less : tie.Need-loop-less Inv-loop μ-loop
-loop-less c = omega arith
 
 loop-again : tie.Need-loop-again Inv-loop μ-loop
 loop-again c = tt
@@ -74,22 +26,10 @@ entry-numbers-spec =
     (tie.spec
     Inv-loop
     μ-loop
-    with-clue-requires
-    with-clue-requires-2
+    (search needs) (search needs)
     loop-holds
-    mul-with-clue
-    array-copy-out-with-clue
-    with-clue-requires-3
-    add-calls
-    fresh-board-requires
-    calls-requires
-    mul-with-clue-2
-    array-copy-out-with-clue-2
-    with-clue-requires-4
-    add-calls-2
-    fresh-board-requires-2
-    calls-requires-2
-    add-i
-    loop-less
+    (λ c. omega arith) (λ c. omega arith) (search needs) (λ c. omega arith) (search needs) (search needs)
+    (λ c. omega arith) (λ c. omega arith) (search needs) (λ c. omega arith) (search needs) (search needs)
+    (λ c. omega arith) (λ c. omega arith)
     loop-again
     returns)

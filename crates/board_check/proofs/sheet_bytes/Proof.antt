@@ -14,18 +14,6 @@ abbrev μ-loop : tie.MeasureT-loop
 loop-holds : tie.Need-loop-holds Inv-loop μ-loop
 loop-holds c = tt
 
-cast-sheet-byte : tie.Need-cast-sheet-byte Inv-loop μ-loop
-cast-sheet-byte c = omega arith
-
-sheet-byte-requires : tie.Need-sheet-byte-requires Inv-loop μ-loop
-sheet-byte-requires c κs = search needs
-
-add-byte : tie.Need-add-byte Inv-loop μ-loop
-add-byte c = omega arith
-
-loop-less : tie.Need-loop-less Inv-loop μ-loop
-loop-less c = omega arith
-
 loop-again : tie.Need-loop-again Inv-loop μ-loop
 loop-again c = tt
 
@@ -39,9 +27,6 @@ sheet-bytes-spec =
     Inv-loop
     μ-loop
     loop-holds
-    cast-sheet-byte
-    sheet-byte-requires
-    add-byte
-    loop-less
+    (λ c. omega arith) (search needs) (λ c. omega arith) (λ c. omega arith)
     loop-again
     returns)

@@ -13,30 +13,6 @@ use Rattle.calls.proofs.Unchecked.{open-admitted}
 use Rattle.calls.proofs.replay.Statement.{statement}
 use Rattle.calls.proofs.replay.Tie as tie
 
-with-entries-requires : tie.Need-with-entries-requires
-with-entries-requires c κs = search needs
-
-enum-known-opening : tie.Need-enum-known-opening
-enum-known-opening c = search needs
-
-refused-requires : tie.Need-refused-requires
-refused-requires c κs = search needs
-
-enum-told : tie.Need-enum-told
-enum-told c = search needs
-
-first-no-step-requires : tie.Need-first-no-step-requires
-first-no-step-requires c κs = search needs
-
-enum-known-index : tie.Need-enum-known-index
-enum-known-index c = search needs
-
-refused-requires-2 : tie.Need-refused-requires-2
-refused-requires-2 c κs = search needs
-
-enum-told-2 : tie.Need-enum-told-2
-enum-told-2 c = search needs
-
 run-requires : tie.Need-run-requires
 run-requires c κs =
     let told = c .before .before .before in
@@ -86,14 +62,8 @@ pub replay-spec : {M : Type 1} → statement M
 replay-spec =
     tie.close
     (tie.spec
-    with-entries-requires
-    enum-known-opening
-    refused-requires
-    enum-told
-    first-no-step-requires
-    enum-known-index
-    refused-requires-2
-    enum-told-2
+    (search needs) (search needs) (search needs) (search needs) (search needs) (search needs) (search needs)
+    (search needs)
     run-requires
     returns
     returns-2

@@ -8,27 +8,6 @@ use Rattle.calls.proofs.Arms.{quiet-step-is, reports-hands, step-is, un
 use Rattle.calls.proofs.step.Statement.{statement}
 use Rattle.calls.proofs.step.Tie as tie
 
-apply-naked-singles-requires : tie.Need-apply-naked-singles-requires
-apply-naked-singles-requires c κs = search needs
-
-of-reports-requires : tie.Need-of-reports-requires
-of-reports-requires c κs = search needs
-
-apply-hidden-singles-requires : tie.Need-apply-hidden-singles-requires
-apply-hidden-singles-requires c κs = search needs
-
-of-reports-requires-2 : tie.Need-of-reports-requires-2
-of-reports-requires-2 c κs = search needs
-
-apply-advanced-techniques-requires : tie.Need-apply-advanced-techniques-requires
-apply-advanced-techniques-requires c κs = search needs
-
-of-reports-requires-3 : tie.Need-of-reports-requires-3
-of-reports-requires-3 c κs = search needs
-
-of-quiet-requires : tie.Need-of-quiet-requires
-of-quiet-requires c κs = search needs
-
 returns : tie.Need-returns
 returns c =
     let b = boardOf (c .before .before .before .args .board) in
@@ -54,13 +33,7 @@ pub step-spec : {M : Type 1} → statement M
 step-spec =
     tie.close
     (tie.spec
-    apply-naked-singles-requires
-    of-reports-requires
-    apply-hidden-singles-requires
-    of-reports-requires-2
-    apply-advanced-techniques-requires
-    of-reports-requires-3
-    of-quiet-requires
+    (search needs) (search needs) (search needs) (search needs) (search needs) (search needs) (search needs)
     returns
     returns-2
     returns-3

@@ -14,21 +14,6 @@ abbrev μ-loop : tie.MeasureT-loop
 loop-holds : tie.Need-loop-holds Inv-loop μ-loop
 loop-holds c = tt
 
-cast-answer : tie.Need-cast-answer Inv-loop μ-loop
-cast-answer c = omega arith
-
-answer-requires : tie.Need-answer-requires Inv-loop μ-loop
-answer-requires c κs = search needs
-
-fold-requires : tie.Need-fold-requires Inv-loop μ-loop
-fold-requires c κs = search needs
-
-add-mask : tie.Need-add-mask Inv-loop μ-loop
-add-mask c = omega arith
-
-loop-less : tie.Need-loop-less Inv-loop μ-loop
-loop-less c = omega arith
-
 loop-again : tie.Need-loop-again Inv-loop μ-loop
 loop-again c = tt
 
@@ -42,10 +27,6 @@ checksum-spec =
     Inv-loop
     μ-loop
     loop-holds
-    cast-answer
-    answer-requires
-    fold-requires
-    add-mask
-    loop-less
+    (λ c. omega arith) (search needs) (search needs) (λ c. omega arith) (λ c. omega arith)
     loop-again
     returns)

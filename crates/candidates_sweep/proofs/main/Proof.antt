@@ -11,20 +11,8 @@ Inv-loop i₀ i = Unit {0}
 abbrev μ-loop : tie.MeasureT-loop
 μ-loop i₀ i = 18 - i
 
-plain-lines-requires : tie.Need-plain-lines-requires Inv-loop μ-loop
-plain-lines-requires c κs = search needs
-
 loop-holds : tie.Need-loop-holds Inv-loop μ-loop
 loop-holds c = tt
-
-lines-at-requires : tie.Need-lines-at-requires Inv-loop μ-loop
-lines-at-requires c κs = search needs
-
-add-i : tie.Need-add-i Inv-loop μ-loop
-add-i c = omega arith
-
-loop-less : tie.Need-loop-less Inv-loop μ-loop
-loop-less c = omega arith
 
 loop-again : tie.Need-loop-again Inv-loop μ-loop
 loop-again c = tt
@@ -38,10 +26,8 @@ main-spec =
     (tie.spec
     Inv-loop
     μ-loop
-    plain-lines-requires
+    (search needs)
     loop-holds
-    lines-at-requires
-    add-i
-    loop-less
+    (search needs) (λ c. omega arith) (λ c. omega arith)
     loop-again
     returns)

@@ -7,15 +7,6 @@ use Rattle.card.proofs.length_without.Tie as tie
 returns : tie.Need-returns
 returns c = text-none (c .before .args .last) (c .before .args .input .now) (c .if1 .taken)
 
-sub-if2 : tie.Need-sub-if2
-sub-if2 c = search needs
-
-shared-slice-read-if2 : tie.Need-shared-slice-read-if2
-shared-slice-read-if2 c = search needs
-
-sub-result : tie.Need-sub-result
-sub-result c = search needs
-
 returns-2 : tie.Need-returns-2
 returns-2 c = text-ended (c .before .before .before .args .last) (c .before .before .before .args .input .now) (c .if2 .taken)
 
@@ -24,4 +15,4 @@ returns-3 c = text-unended (c .before .before .before .args .last) (c .before .b
 
 pub length-without-spec : {M : Type 1} → statement M
 length-without-spec =
-    tie.close (tie.spec returns sub-if2 shared-slice-read-if2 sub-result returns-2 returns-3)
+    tie.close (tie.spec returns (search needs) (search needs) (search needs) returns-2 returns-3)

@@ -17,27 +17,6 @@ use Rattle.card.specs.Cards.{cardFor}
 use Rattle.card.proofs.score.Statement.{statement}
 use Rattle.card.proofs.score.Tie as tie
 
-givens-of-requires : tie.Need-givens-of-requires
-givens-of-requires c κs = search needs
-
-fresh-masks-requires : tie.Need-fresh-masks-requires
-fresh-masks-requires c κs = search needs
-
-singles-requires : tie.Need-singles-requires
-singles-requires c κs = search needs
-
-slice-aggregate-settle : tie.Need-slice-aggregate-settle
-slice-aggregate-settle c = search needs
-
-settle-requires : tie.Need-settle-requires
-settle-requires c κs = search needs
-
-count-clues-requires : tie.Need-count-clues-requires
-count-clues-requires c κs = search needs
-
-verdict-of-requires : tie.Need-verdict-of-requires
-verdict-of-requires c κs = search needs
-
 returns : tie.Need-returns
 unfolding cardFor outcome reportsOf
 returns c =
@@ -65,11 +44,5 @@ pub score-spec : {M : Type 1} → statement M
 score-spec =
     tie.close
     (tie.spec
-    givens-of-requires
-    fresh-masks-requires
-    singles-requires
-    slice-aggregate-settle
-    settle-requires
-    count-clues-requires
-    verdict-of-requires
+    (search needs) (search needs) (search needs) (search needs) (search needs) (search needs) (search needs)
     returns)

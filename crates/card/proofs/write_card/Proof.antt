@@ -38,26 +38,11 @@ is-case c {d} e =
     go : (d : Check) (z : List ℤ) → passing (checkAnswer d) (cardFor z) ≡ map cardFor (passing (checkAnswer d) z)
     go d z = sym (map-map cardFor (λ _. z) (checkAnswer d))
 
-length-without-requires : tie.Need-length-without-requires
-length-without-requires c κs = search needs
-
 slice-aggregate-parse-string : tie.Need-slice-aggregate-parse-string
 slice-aggregate-parse-string c =
     let n = c .before in
     let input = n .before .before .args .input .now in
     sym (length-take-le (n .length-without .result) input (omega (arith, n .length-without .ensures, text-most 10 input)))
-
-parse-string-requires : tie.Need-parse-string-requires
-parse-string-requires c κs = search needs
-
-enum-told : tie.Need-enum-told
-enum-told c = search needs
-
-enum-told-2 : tie.Need-enum-told-2
-enum-told-2 c = search needs
-
-written-requires : tie.Need-written-requires
-written-requires c κs = search needs
 
 returns : tie.Need-returns
 returns c =
@@ -66,12 +51,6 @@ returns c =
     let lent = p .before .before .before .before .args .out .now in
     let e = is-case p (t .enum-told2 .given .1) in
     (c .written .ensures ∙ ap (λ (k : Check). passing (checkAnswer k) 0) (t .enum-told2 .given .1) ∙ ap (map (λ (k : Card). length (cardBytes k))) e, ap (λ (a : Answer Card). over (cardLines a) lent) e)
-
-card-of-requires : tie.Need-card-of-requires
-card-of-requires c κs = search needs
-
-card-lines-requires : tie.Need-card-lines-requires
-card-lines-requires c κs = search needs
 
 returns-2 : tie.Need-returns-2
 returns-2 c =
@@ -88,13 +67,9 @@ pub write-card-spec : {M : Type 1} → statement M
 write-card-spec =
     tie.close
     (tie.spec
-    length-without-requires
+    (search needs)
     slice-aggregate-parse-string
-    parse-string-requires
-    enum-told
-    enum-told-2
-    written-requires
+    (search needs) (search needs) (search needs) (search needs)
     returns
-    card-of-requires
-    card-lines-requires
+    (search needs) (search needs)
     returns-2)

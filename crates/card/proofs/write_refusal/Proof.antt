@@ -13,15 +13,6 @@ use Rattle.card.specs.Cards.{refusalLine}
 use Rattle.card.proofs.write_refusal.Statement.{statement}
 use Rattle.card.proofs.write_refusal.Tie as tie
 
-enum-known-answer : tie.Need-enum-known-answer
-enum-known-answer c = search needs
-
-refusal-lines-requires : tie.Need-refusal-lines-requires
-refusal-lines-requires c κs = search needs
-
-enum-told : tie.Need-enum-told
-enum-told c = search needs
-
 returns : tie.Need-returns
 returns c =
     let a = c .before .before .before in
@@ -34,15 +25,6 @@ returns c =
       omega (arith, ap (λ (t : Tape). t .end) w, c .refusal-lines .ensures .1),
     )
 
-returns-2 : tie.Need-returns-2
-returns-2 c = search needs
-
 pub write-refusal-spec : {M : Type 1} → statement M
 write-refusal-spec =
-    tie.close
-    (tie.spec
-    enum-known-answer
-    refusal-lines-requires
-    enum-told
-    returns
-    returns-2)
+    tie.close (tie.spec (search needs) (search needs) (search needs) returns (λ c. search needs))

@@ -6,14 +6,9 @@ use Rattle.candidates.specs.Masks.{minus, single}
 use Rattle.cells.proofs.all_but.Statement.{statement}
 use Rattle.cells.proofs.all_but.Tie as tie
 
-lose-digit-requires : tie.Need-lose-digit-requires
-lose-digit-requires c κs = search needs
-
-lose-digit-requires-2 : tie.Need-lose-digit-requires-2
-lose-digit-requires-2 c κs = search needs
-
 returns : tie.Need-returns
 returns c = c .lose-digit2 .ensures ∙ ap (λ (x : ℕ). minus x (single (c .before .before .args .second))) (c .before .lose-digit .ensures)
 
 pub all-but-spec : {M : Type 1} → statement M
-all-but-spec = tie.close (tie.spec lose-digit-requires lose-digit-requires-2 returns)
+all-but-spec =
+    tie.close (tie.spec (search needs) (search needs) returns)

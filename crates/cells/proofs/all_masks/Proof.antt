@@ -20,24 +20,6 @@ loop-holds : tie.Need-loop-holds Inv-loop μ-loop
 unfolding allMasks
 loop-holds c = fill-start _ 9 (replicate 9 0) refl
 
-unit-cell-requires : tie.Need-unit-cell-requires Inv-loop μ-loop
-unit-cell-requires c κs = search needs
-
-mask-at-requires : tie.Need-mask-at-requires Inv-loop μ-loop
-mask-at-requires c κs = search needs
-
-mul-nine : tie.Need-mul-nine Inv-loop μ-loop
-mul-nine c = omega arith
-
-array-write-nine : tie.Need-array-write-nine Inv-loop μ-loop
-array-write-nine c = omega arith
-
-add-place : tie.Need-add-place Inv-loop μ-loop
-add-place c = omega arith
-
-loop-less : tie.Need-loop-less Inv-loop μ-loop
-loop-less c = omega arith
-
 loop-again : tie.Need-loop-again Inv-loop μ-loop
 loop-again c =
     let l = c .before .before .before in
@@ -53,11 +35,6 @@ all-masks-spec =
     Inv-loop
     μ-loop
     loop-holds
-    unit-cell-requires
-    mask-at-requires
-    mul-nine
-    array-write-nine
-    add-place
-    loop-less
+    (search needs) (search needs) (λ c. omega arith) (λ c. omega arith) (λ c. omega arith) (λ c. omega arith)
     loop-again
     returns)

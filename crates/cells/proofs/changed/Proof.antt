@@ -20,27 +20,6 @@ abbrev μ-loop : tie.MeasureT-loop
 loop-holds : tie.Need-loop-holds Inv-loop μ-loop
 loop-holds c = (search needs, search needs, omega arith, refl)
 
-mul-differ : tie.Need-mul-differ Inv-loop μ-loop
-mul-differ c = omega arith
-
-array-read-differ : tie.Need-array-read-differ Inv-loop μ-loop
-array-read-differ c = omega arith
-
-mul-differ-2 : tie.Need-mul-differ-2 Inv-loop μ-loop
-mul-differ-2 c = omega arith
-
-array-read-differ-2 : tie.Need-array-read-differ-2 Inv-loop μ-loop
-array-read-differ-2 c = omega arith
-
-differ-requires : tie.Need-differ-requires Inv-loop μ-loop
-differ-requires c κs = search needs
-
-add-cell : tie.Need-add-cell Inv-loop μ-loop
-add-cell c = omega arith
-
-loop-less : tie.Need-loop-less Inv-loop μ-loop
-loop-less c = omega arith
-
 loop-again : tie.Need-loop-again Inv-loop μ-loop
 loop-again c =
     let l = c .before .before in
@@ -61,12 +40,7 @@ changed-spec =
     Inv-loop
     μ-loop
     loop-holds
-    mul-differ
-    array-read-differ
-    mul-differ-2
-    array-read-differ-2
-    differ-requires
-    add-cell
-    loop-less
+    (λ c. omega arith) (λ c. omega arith) (λ c. omega arith) (λ c. omega arith) (search needs) (λ c. omega arith)
+    (λ c. omega arith)
     loop-again
     returns)

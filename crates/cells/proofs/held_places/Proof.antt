@@ -7,15 +7,10 @@ use Rattle.cells.specs.code.Places.{spotsIn, heldPlaces}
 use Rattle.cells.proofs.held_places.Statement.{statement}
 use Rattle.cells.proofs.held_places.Tie as tie
 
-all-masks-requires : tie.Need-all-masks-requires
-all-masks-requires c κs = search needs
-
-places-of-requires : tie.Need-places-of-requires
-places-of-requires c κs = search needs
-
 returns : tie.Need-returns
 unfolding heldPlaces
 returns c = c .places-of .ensures ∙ ap (λ (nine : List ℕ). spotsIn nine (c .before .before .before .args .digit)) (c .before .before .all-masks .ensures)
 
 pub held-places-spec : {M : Type 1} → statement M
-held-places-spec = tie.close (tie.spec all-masks-requires places-of-requires returns)
+held-places-spec =
+    tie.close (tie.spec (search needs) (search needs) returns)

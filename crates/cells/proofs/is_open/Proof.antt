@@ -7,9 +7,6 @@ use Rattle.steps.specs.Boards.{isOpen}
 use Rattle.cells.proofs.is_open.Statement.{statement}
 use Rattle.cells.proofs.is_open.Tie as tie
 
-element-copy-out-result : tie.Need-element-copy-out-result
-element-copy-out-result c = search needs
-
 returns : tie.Need-returns
 returns c =
     let a = c .before .before .args in
@@ -21,4 +18,5 @@ returns-2 c =
     sym (ap (λ (b : Bool). b && isOpen (a .givens .now) (a .cell)) (le-ltb (a .cell) 81 (c .if1 .left)))
 
 pub is-open-spec : {M : Type 1} → statement M
-is-open-spec = tie.close (tie.spec element-copy-out-result returns returns-2)
+is-open-spec =
+    tie.close (tie.spec (search needs) returns returns-2)

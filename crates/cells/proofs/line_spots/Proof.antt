@@ -26,27 +26,6 @@ loop-holds : tie.Need-loop-holds Inv-loop μ-loop
 unfolding lineSpots
 loop-holds c = fill-start _ 9 (replicate 9 0) refl
 
-add-unit-masks : tie.Need-add-unit-masks Inv-loop μ-loop
-add-unit-masks c = omega arith
-
-unit-masks-requires : tie.Need-unit-masks-requires Inv-loop μ-loop
-unit-masks-requires c κs = search needs
-
-places-of-requires : tie.Need-places-of-requires Inv-loop μ-loop
-places-of-requires c κs = search needs
-
-mul-list : tie.Need-mul-list Inv-loop μ-loop
-mul-list c = omega arith
-
-array-write-list : tie.Need-array-write-list Inv-loop μ-loop
-array-write-list c = omega arith
-
-add-line : tie.Need-add-line Inv-loop μ-loop
-add-line c = omega arith
-
-loop-less : tie.Need-loop-less Inv-loop μ-loop
-loop-less c = omega arith
-
 loop-again : tie.Need-loop-again Inv-loop μ-loop
 loop-again c =
     let l = c .before .before .before .before in
@@ -64,12 +43,7 @@ line-spots-spec =
     μ-loop
     returns
     loop-holds
-    add-unit-masks
-    unit-masks-requires
-    places-of-requires
-    mul-list
-    array-write-list
-    add-line
-    loop-less
+    (λ c. omega arith) (search needs) (search needs) (λ c. omega arith) (λ c. omega arith) (λ c. omega arith)
+    (λ c. omega arith)
     loop-again
     returns-2)

@@ -11,24 +11,6 @@ use Rattle.steps.specs.Steps.{loseAt}
 use Rattle.cells.proofs.lose_at.Statement.{statement}
 use Rattle.cells.proofs.lose_at.Tie as tie
 
-element-copy-out-if2 : tie.Need-element-copy-out-if2
-element-copy-out-if2 c = search needs
-
-mul-lose : tie.Need-mul-lose
-mul-lose c = search needs
-
-element-copy-out-lose : tie.Need-element-copy-out-lose
-element-copy-out-lose c = search needs
-
-lose-requires : tie.Need-lose-requires
-lose-requires c κs = search needs
-
-mul-masks : tie.Need-mul-masks
-mul-masks c = search needs
-
-element-write-masks : tie.Need-element-write-masks
-element-write-masks c = search needs
-
 returns : tie.Need-returns
 returns c =
     let a = c .before .before .before .before .before .args in
@@ -55,12 +37,7 @@ pub lose-at-spec : {M : Type 1} → statement M
 lose-at-spec =
     tie.close
     (tie.spec
-    element-copy-out-if2
-    mul-lose
-    element-copy-out-lose
-    lose-requires
-    mul-masks
-    element-write-masks
+    (search needs) (search needs) (search needs) (search needs) (search needs) (search needs)
     returns
     returns-2
     returns-3)

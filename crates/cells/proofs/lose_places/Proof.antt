@@ -31,21 +31,6 @@ loop-holds : tie.Need-loop-holds Inv-loop μ-loop
 unfolding losePlaces turn
 loop-holds c = (omega arith, refl)
 
-has-digit-requires : tie.Need-has-digit-requires Inv-loop μ-loop
-has-digit-requires c κs = search needs
-
-unit-cell-requires : tie.Need-unit-cell-requires Inv-loop μ-loop
-unit-cell-requires c κs = search needs
-
-lose-at-requires : tie.Need-lose-at-requires Inv-loop μ-loop
-lose-at-requires c κs = search needs
-
-add-place : tie.Need-add-place Inv-loop μ-loop
-add-place c = omega arith
-
-loop-less : tie.Need-loop-less Inv-loop μ-loop
-loop-less c = omega arith
-
 loop-again : tie.Need-loop-again Inv-loop μ-loop
 unfolding turn
 loop-again c =
@@ -74,10 +59,6 @@ lose-places-spec =
     Inv-loop
     μ-loop
     loop-holds
-    has-digit-requires
-    unit-cell-requires
-    lose-at-requires
-    add-place
-    loop-less
+    (search needs) (search needs) (search needs) (λ c. omega arith) (λ c. omega arith)
     loop-again
     returns)

@@ -8,12 +8,6 @@ use Rattle.steps.specs.Boards.{at}
 use Rattle.cells.proofs.mask_at.Statement.{statement}
 use Rattle.cells.proofs.mask_at.Tie as tie
 
-mul-result : tie.Need-mul-result
-mul-result c = search needs
-
-element-copy-out-result : tie.Need-element-copy-out-result
-element-copy-out-result c = search needs
-
 returns : tie.Need-returns
 returns c =
     let a = c .before .before .args in
@@ -25,4 +19,5 @@ returns-2 c =
     sym (cond-false (ltb (a .cell) 81) (at (a .masks .now) (a .cell)) 0 (le-ltb (a .cell) 81 (c .if1 .left)))
 
 pub mask-at-spec : {M : Type 1} → statement M
-mask-at-spec = tie.close (tie.spec mul-result element-copy-out-result returns returns-2)
+mask-at-spec =
+    tie.close (tie.spec (search needs) (search needs) returns returns-2)

@@ -6,12 +6,6 @@ use Rattle.cells.specs.code.Places.{maskAt, openAt}
 use Rattle.cells.proofs.open_mask.Statement.{statement}
 use Rattle.cells.proofs.open_mask.Tie as tie
 
-is-open-requires : tie.Need-is-open-requires
-is-open-requires c κs = search needs
-
-mask-at-requires : tie.Need-mask-at-requires
-mask-at-requires c κs = search needs
-
 returns : tie.Need-returns
 returns c =
     let a = c .before .before .before .args in
@@ -24,4 +18,5 @@ returns-2 c =
     sym (cond-false (openAt (a .givens .now) (a .cell)) (maskAt (a .masks .now) (a .cell)) 0 (sym (c .before .is-open .ensures) ∙ c .if1 .left))
 
 pub open-mask-spec : {M : Type 1} → statement M
-open-mask-spec = tie.close (tie.spec is-open-requires mask-at-requires returns returns-2)
+open-mask-spec =
+    tie.close (tie.spec (search needs) (search needs) returns returns-2)

@@ -22,27 +22,6 @@ loop-holds : tie.Need-loop-holds Inv-loop μ-loop
 unfolding gather
 loop-holds c = (omega arith, refl)
 
-mul-has-digit : tie.Need-mul-has-digit Inv-loop μ-loop
-mul-has-digit c = omega arith
-
-element-copy-out-has-digit : tie.Need-element-copy-out-has-digit Inv-loop μ-loop
-element-copy-out-has-digit c = omega arith
-
-has-digit-requires : tie.Need-has-digit-requires Inv-loop μ-loop
-has-digit-requires c κs = search needs
-
-digit-mask-requires : tie.Need-digit-mask-requires Inv-loop μ-loop
-digit-mask-requires c κs = search needs
-
-join-requires : tie.Need-join-requires Inv-loop μ-loop
-join-requires c κs = search needs
-
-add-place : tie.Need-add-place Inv-loop μ-loop
-add-place c = omega arith
-
-loop-less : tie.Need-loop-less Inv-loop μ-loop
-loop-less c = omega arith
-
 loop-again : tie.Need-loop-again Inv-loop μ-loop
 loop-again c = (omega arith, found)
   where
@@ -79,12 +58,7 @@ places-of-spec =
     Inv-loop
     μ-loop
     loop-holds
-    mul-has-digit
-    element-copy-out-has-digit
-    has-digit-requires
-    digit-mask-requires
-    join-requires
-    add-place
-    loop-less
+    (λ c. omega arith) (λ c. omega arith) (search needs) (search needs) (search needs) (λ c. omega arith)
+    (λ c. omega arith)
     loop-again
     returns)

@@ -21,15 +21,6 @@ abbrev μ-loop : tie.MeasureT-loop
 loop-holds : tie.Need-loop-holds Inv-loop μ-loop
 loop-holds c = (search needs, omega arith, omega arith, omega arith)
 
-mul-digit-count : tie.Need-mul-digit-count Inv-loop μ-loop
-mul-digit-count c = omega arith
-
-array-read-digit-count : tie.Need-array-read-digit-count Inv-loop μ-loop
-array-read-digit-count c = omega arith
-
-digit-count-requires : tie.Need-digit-count-requires Inv-loop μ-loop
-digit-count-requires c κs = search needs
-
 -- a mask holds at most sixteen
 few : (c : tie.After-digit-count Inv-loop μ-loop) → c .digit-count .result ≤ 16
 few c =
@@ -42,20 +33,11 @@ cast-sum c = record { fits = omega (arith, few c) }
 add-sum : tie.Need-add-sum Inv-loop μ-loop
 add-sum c = omega (arith, few c)
 
-add-cell : tie.Need-add-cell Inv-loop μ-loop
-add-cell c = omega arith
-
-loop-less : tie.Need-loop-less Inv-loop μ-loop
-loop-less c = omega arith
-
 loop-again : tie.Need-loop-again Inv-loop μ-loop
 loop-again c =
     let inv = c .before .before .loop .inv in
     let on = total-on (c .before .before .before .args .t1) (c .before .before .loop .cell) (omega arith) in
     (inv .0, omega arith, omega (arith, few c), omega (arith, c .digit-count .ensures, on, inv .3))
-
-cast-result : tie.Need-cast-result Inv-loop μ-loop
-cast-result c = omega arith
 
 returns : tie.Need-returns Inv-loop μ-loop
 returns c = omega (arith, total-end (c .before .before .args .t1) (c .before .loop .cell) (omega arith), c .before .loop .inv .3)
@@ -67,13 +49,10 @@ total-spec =
     Inv-loop
     μ-loop
     loop-holds
-    mul-digit-count
-    array-read-digit-count
-    digit-count-requires
+    (λ c. omega arith) (λ c. omega arith) (search needs)
     cast-sum
     add-sum
-    add-cell
-    loop-less
+    (λ c. omega arith) (λ c. omega arith)
     loop-again
-    cast-result
+    (λ c. omega arith)
     returns)

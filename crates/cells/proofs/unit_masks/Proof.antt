@@ -20,24 +20,6 @@ loop-holds : tie.Need-loop-holds Inv-loop μ-loop
 unfolding unitMasks
 loop-holds c = fill-start _ 9 (replicate 9 0) refl
 
-unit-cell-requires : tie.Need-unit-cell-requires Inv-loop μ-loop
-unit-cell-requires c κs = search needs
-
-open-mask-requires : tie.Need-open-mask-requires Inv-loop μ-loop
-open-mask-requires c κs = search needs
-
-mul-nine : tie.Need-mul-nine Inv-loop μ-loop
-mul-nine c = omega arith
-
-array-write-nine : tie.Need-array-write-nine Inv-loop μ-loop
-array-write-nine c = omega arith
-
-add-place : tie.Need-add-place Inv-loop μ-loop
-add-place c = omega arith
-
-loop-less : tie.Need-loop-less Inv-loop μ-loop
-loop-less c = omega arith
-
 loop-again : tie.Need-loop-again Inv-loop μ-loop
 loop-again c =
     let l = c .before .before .before in
@@ -54,11 +36,6 @@ unit-masks-spec =
     Inv-loop
     μ-loop
     loop-holds
-    unit-cell-requires
-    open-mask-requires
-    mul-nine
-    array-write-nine
-    add-place
-    loop-less
+    (search needs) (search needs) (λ c. omega arith) (λ c. omega arith) (λ c. omega arith) (λ c. omega arith)
     loop-again
     returns)

@@ -19,15 +19,6 @@ use Rattle.chains.proofs.Holders.{end-in-grid}
 use Rattle.chains.proofs.build_aic_chains_for_digit.Statement.{statement}
 use Rattle.chains.proofs.build_aic_chains_for_digit.Tie as tie
 
-chain-end-requires : tie.Need-chain-end-requires
-chain-end-requires c κs = search needs
-
-enum-known-found : tie.Need-enum-known-found
-enum-known-found c = search needs
-
-enum-told : tie.Need-enum-told
-enum-told c = search needs
-
 nothing : (g m : List ℕ) (d : ℕ) → none ≡ chainEnd g m d → chainDigit g d m ≡ m
 unfolding chainDigit
 nothing g m d q = sym (ap (loseFound g d m) q)
@@ -38,12 +29,6 @@ returns c =
     let a = found .before .before .args in
     let e = nothing (a .givens .now) (a .masks .now) (a .digit) (sym (ap foundCell (c .enum-told .given .1)) ∙ found .chain-end .ensures) in
     simp e
-
-digit-mask-requires : tie.Need-digit-mask-requires
-digit-mask-requires c κs = search needs
-
-lose-at-requires : tie.Need-lose-at-requires
-lose-at-requires c κs = search needs
 
 returns-2 : tie.Need-returns-2
 unfolding chainDigit
@@ -60,12 +45,4 @@ returns-2 c =
 
 pub build-aic-chains-for-digit-spec : {M : Type 1} → statement M
 build-aic-chains-for-digit-spec =
-    tie.close
-    (tie.spec
-    chain-end-requires
-    enum-known-found
-    enum-told
-    returns
-    digit-mask-requires
-    lose-at-requires
-    returns-2)
+    tie.close (tie.spec (search needs) (search needs) (search needs) returns (search needs) (search needs) returns-2)

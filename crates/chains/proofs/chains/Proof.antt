@@ -19,15 +19,6 @@ loop-holds : tie.Need-loop-holds Inv-loop μ-loop
 unfolding chains
 loop-holds c = (omega arith, refl)
 
-build-aic-chains-for-digit-requires : tie.Need-build-aic-chains-for-digit-requires Inv-loop μ-loop
-build-aic-chains-for-digit-requires c κs = omega arith
-
-add-digit : tie.Need-add-digit Inv-loop μ-loop
-add-digit c = omega arith
-
-loop-less : tie.Need-loop-less Inv-loop μ-loop
-loop-less c = omega arith
-
 loop-again : tie.Need-loop-again Inv-loop μ-loop
 loop-again c =
     let l = c .before .before .before in
@@ -43,8 +34,6 @@ chains-spec =
     Inv-loop
     μ-loop
     loop-holds
-    build-aic-chains-for-digit-requires
-    add-digit
-    loop-less
+    (λ c. omega arith) (λ c. omega arith) (λ c. omega arith)
     loop-again
     returns)

@@ -10,21 +10,6 @@ use Rattle.difficulty.proofs.Figures.{rated}
 use Rattle.difficulty.proofs.difficulty.Statement.{statement}
 use Rattle.difficulty.proofs.difficulty.Tie as tie
 
-givens-of-requires : tie.Need-givens-of-requires
-givens-of-requires c κs = search needs
-
-check-given-requires : tie.Need-check-given-requires
-check-given-requires c κs = search needs
-
-enum-known-stop : tie.Need-enum-known-stop
-enum-known-stop c = search needs
-
-enum-told : tie.Need-enum-told
-enum-told c = search needs
-
-fresh-masks-requires : tie.Need-fresh-masks-requires
-fresh-masks-requires c κs = search needs
-
 rate-requires : tie.Need-rate-requires
 rate-requires c κs =
     let g = c .before .before .before .before .before .before .before .before .before .before in
@@ -49,11 +34,7 @@ pub difficulty-spec : {M : Type 1} → statement M
 difficulty-spec =
     tie.close
     (tie.spec
-    givens-of-requires
-    check-given-requires
-    enum-known-stop
-    enum-told
-    fresh-masks-requires
+    (λ c κs. search needs) (λ c κs. search needs) (search needs) (search needs) (λ c κs. search needs)
     rate-requires
     returns
     returns-2)

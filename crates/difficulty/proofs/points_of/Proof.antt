@@ -10,20 +10,11 @@ use Rattle.difficulty.proofs.points_of.Tie as tie
 counted : (c : tie.Start) → Six (c .args .t1)
 counted c = six (c .args .t1) (search needs)
 
-array-read-result : tie.Need-array-read-result
-array-read-result c = search needs
-
-array-read-result-2 : tie.Need-array-read-result-2
-array-read-result-2 c = search needs
-
 mul-result : tie.Need-mul-result
 mul-result c = omega (arith, counted c .sum, c .pre)
 
 add-result : tie.Need-add-result
 add-result c = omega (arith, counted c .sum, c .pre)
-
-array-read-result-3 : tie.Need-array-read-result-3
-array-read-result-3 c = search needs
 
 mul-result-2 : tie.Need-mul-result-2
 mul-result-2 c = omega (arith, counted c .sum, c .pre)
@@ -31,26 +22,17 @@ mul-result-2 c = omega (arith, counted c .sum, c .pre)
 add-result-2 : tie.Need-add-result-2
 add-result-2 c = omega (arith, counted c .sum, c .pre)
 
-array-read-result-4 : tie.Need-array-read-result-4
-array-read-result-4 c = search needs
-
 mul-result-3 : tie.Need-mul-result-3
 mul-result-3 c = omega (arith, counted c .sum, c .pre)
 
 add-result-3 : tie.Need-add-result-3
 add-result-3 c = omega (arith, counted c .sum, c .pre)
 
-array-read-result-5 : tie.Need-array-read-result-5
-array-read-result-5 c = search needs
-
 mul-result-4 : tie.Need-mul-result-4
 mul-result-4 c = omega (arith, counted c .sum, c .pre)
 
 add-result-4 : tie.Need-add-result-4
 add-result-4 c = omega (arith, counted c .sum, c .pre)
-
-array-read-result-6 : tie.Need-array-read-result-6
-array-read-result-6 c = search needs
 
 mul-result-5 : tie.Need-mul-result-5
 mul-result-5 c = omega (arith, counted c .sum, c .pre)
@@ -65,20 +47,19 @@ pub points-of-spec : {M : Type 1} → statement M
 points-of-spec =
     tie.close
     (tie.spec
-    array-read-result
-    array-read-result-2
+    (search needs) (search needs)
     mul-result
     add-result
-    array-read-result-3
+    (search needs)
     mul-result-2
     add-result-2
-    array-read-result-4
+    (search needs)
     mul-result-3
     add-result-3
-    array-read-result-5
+    (search needs)
     mul-result-4
     add-result-4
-    array-read-result-6
+    (search needs)
     mul-result-5
     add-result-5
     returns)

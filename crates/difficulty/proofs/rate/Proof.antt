@@ -10,17 +10,11 @@ use Rattle.difficulty.proofs.Figures.{counts-few, none-open}
 use Rattle.difficulty.proofs.rate.Statement.{statement}
 use Rattle.difficulty.proofs.rate.Tie as tie
 
-open-cells-requires : tie.Need-open-cells-requires
-open-cells-requires c κs = search needs
-
 returns : tie.Need-returns
 returns c =
     let o = c .before in
     let g = o .before .args .givens .now in
     none-open g (passCounts g (fresh g)) (sym (o .open-cells .ensures) ∙ c .if1 .taken)
-
-pass-counts-requires : tie.Need-pass-counts-requires
-pass-counts-requires c κs = search needs
 
 -- the counts are those of the fresh board
 counted : (c : tie.After-pass-counts) → let g = c .before .before .before .args .givens .now in c .pass-counts .result ≡ passCounts g (fresh g)
@@ -40,5 +34,4 @@ returns-2 c =
 
 pub rate-spec : {M : Type 1} → statement M
 rate-spec =
-    tie.close
-    (tie.spec open-cells-requires returns pass-counts-requires rating-of-requires returns-2)
+    tie.close (tie.spec (search needs) returns (search needs) rating-of-requires returns-2)

@@ -7,20 +7,11 @@ use Rattle.difficulty.proofs.Figures.{none-open, some-open}
 use Rattle.difficulty.proofs.rating_of.Statement.{statement}
 use Rattle.difficulty.proofs.rating_of.Tie as tie
 
-open-cells-requires : tie.Need-open-cells-requires
-open-cells-requires c κs = search needs
-
 returns : tie.Need-returns
 returns c =
     let o = c .before in
     let a = o .before .args in
     none-open (a .givens .now) (a .counts) (sym (o .open-cells .ensures) ∙ c .if1 .taken)
-
-points-of-requires : tie.Need-points-of-requires
-points-of-requires c κs = search needs
-
-figure-of-requires : tie.Need-figure-of-requires
-figure-of-requires c κs = search needs
 
 returns-2 : tie.Need-returns-2
 returns-2 c =
@@ -33,5 +24,4 @@ returns-2 c =
 
 pub rating-of-spec : {M : Type 1} → statement M
 rating-of-spec =
-    tie.close
-    (tie.spec open-cells-requires returns points-of-requires figure-of-requires returns-2)
+    tie.close (tie.spec (search needs) returns (search needs) (search needs) returns-2)

@@ -9,9 +9,6 @@ use Rattle.techniques.proofs.Left.{masks-left}
 use Rattle.eliminations.proofs.apply.Statement.{statement}
 use Rattle.eliminations.proofs.apply.Tie as tie
 
-eliminate-handed-requires : tie.Need-eliminate-handed-requires
-eliminate-handed-requires c κs = search needs
-
 returns : tie.Need-returns
 returns c =
     let a = c .before .before .before .before .before .before .before .args in
@@ -20,4 +17,5 @@ returns c =
     record { flag = s .0; board = ap (withMasks b) (s .1) ∙ masks-left b (answer (callOf (a .elimination)) b) }
 
 pub apply-spec : {M : Type 1} → statement M
-apply-spec = tie.close (tie.spec eliminate-handed-requires returns)
+apply-spec =
+    tie.close (tie.spec (search needs) returns)

@@ -7,72 +7,6 @@ use borrow.Author.Needs.{needs}
 use Rattle.eliminations.proofs.eliminate.Statement.{statement}
 use Rattle.eliminations.proofs.eliminate.Tie as tie
 
-enum-told : tie.Need-enum-told
-enum-told c = search needs
-
-naked-pairs-requires : tie.Need-naked-pairs-requires
-naked-pairs-requires c κs = search needs
-
-enum-told-2 : tie.Need-enum-told-2
-enum-told-2 c = search needs
-
-box-lines-requires : tie.Need-box-lines-requires
-box-lines-requires c κs = search needs
-
-enum-told-3 : tie.Need-enum-told-3
-enum-told-3 c = search needs
-
-x-wings-requires : tie.Need-x-wings-requires
-x-wings-requires c κs = search needs
-
-enum-told-4 : tie.Need-enum-told-4
-enum-told-4 c = search needs
-
-lone-requires : tie.Need-lone-requires
-lone-requires c κs = search needs
-
-enum-told-5 : tie.Need-enum-told-5
-enum-told-5 c = search needs
-
-place-requires : tie.Need-place-requires
-place-requires c κs = search needs
-
-enum-told-6 : tie.Need-enum-told-6
-enum-told-6 c = search needs
-
-pair-requires : tie.Need-pair-requires
-pair-requires c κs = search needs
-
-enum-told-7 : tie.Need-enum-told-7
-enum-told-7 c = search needs
-
-pointing-requires : tie.Need-pointing-requires
-pointing-requires c κs = search needs
-
-enum-told-8 : tie.Need-enum-told-8
-enum-told-8 c = search needs
-
-claiming-requires : tie.Need-claiming-requires
-claiming-requires c κs = search needs
-
-enum-told-9 : tie.Need-enum-told-9
-enum-told-9 c = search needs
-
-cross-requires : tie.Need-cross-requires
-cross-requires c κs = search needs
-
-enum-told-10 : tie.Need-enum-told-10
-enum-told-10 c = search needs
-
-chains-requires : tie.Need-chains-requires
-chains-requires c κs = search needs
-
-enum-told-11 : tie.Need-enum-told-11
-enum-told-11 c = search needs
-
-x-chains-requires : tie.Need-x-chains-requires
-x-chains-requires c κs = search needs
-
 returns : tie.Need-returns
 unfolding outcome
 returns c =
@@ -154,28 +88,10 @@ pub eliminate-spec : {M : Type 1} → statement M
 eliminate-spec =
     tie.close
     (tie.spec
-    enum-told
-    naked-pairs-requires
-    enum-told-2
-    box-lines-requires
-    enum-told-3
-    x-wings-requires
-    enum-told-4
-    lone-requires
-    enum-told-5
-    place-requires
-    enum-told-6
-    pair-requires
-    enum-told-7
-    pointing-requires
-    enum-told-8
-    claiming-requires
-    enum-told-9
-    cross-requires
-    enum-told-10
-    chains-requires
-    enum-told-11
-    x-chains-requires
+    (search needs) (search needs) (search needs) (search needs) (search needs) (search needs) (search needs)
+    (search needs) (search needs) (search needs) (search needs) (search needs) (search needs) (search needs)
+    (search needs) (search needs) (search needs) (search needs) (search needs) (search needs) (search needs)
+    (search needs)
     returns
     returns-2
     returns-3

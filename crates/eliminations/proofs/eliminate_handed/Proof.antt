@@ -31,23 +31,8 @@ flagged by.Cross g m = refl
 flagged by.Chains g m = refl
 flagged by.XChains g m = refl
 
-givens-of-requires : tie.Need-givens-of-requires
-givens-of-requires c κs = search needs
-
 check-given-requires : tie.Need-check-given-requires
 check-given-requires c κs = c .before .before .givens-of .ensures
-
-enum-known-stop : tie.Need-enum-known-stop
-enum-known-stop c = search needs
-
-enum-told : tie.Need-enum-told
-enum-told c = search needs
-
-eliminate-requires : tie.Need-eliminate-requires
-eliminate-requires c κs = search needs
-
-changed-requires : tie.Need-changed-requires
-changed-requires c κs = search needs
 
 returns : tie.Need-returns
 returns c =
@@ -76,11 +61,8 @@ pub eliminate-handed-spec : {M : Type 1} → statement M
 eliminate-handed-spec =
     tie.close
     (tie.spec
-    givens-of-requires
+    (search needs)
     check-given-requires
-    enum-known-stop
-    enum-told
-    eliminate-requires
-    changed-requires
+    (search needs) (search needs) (search needs) (search needs)
     returns
     returns-2)

@@ -9,31 +9,13 @@ use Rattle.grid.proofs.Cells.{same-row, same-col, not-aligned}
 use Rattle.grid.proofs.positions_see_each_other.Statement.{statement}
 use Rattle.grid.proofs.positions_see_each_other.Tie as tie
 
-row-of-requires : tie.Need-row-of-requires
-row-of-requires c κs = search needs
-
-row-of-requires-2 : tie.Need-row-of-requires-2
-row-of-requires-2 c κs = search needs
-
 returns : tie.Need-returns
 returns c =
     sym (same-row _ _ (sym (c .before .before .row-of .ensures) ∙ c .if1 .taken ∙ c .before .row-of2 .ensures))
 
-col-of-requires : tie.Need-col-of-requires
-col-of-requires c κs = search needs
-
-col-of-requires-2 : tie.Need-col-of-requires-2
-col-of-requires-2 c κs = search needs
-
 returns-2 : tie.Need-returns-2
 returns-2 c =
     sym (same-col _ _ (sym (c .before .before .col-of .ensures) ∙ c .if2 .taken ∙ c .before .col-of2 .ensures))
-
-box-of-requires : tie.Need-box-of-requires
-box-of-requires c κs = search needs
-
-box-of-requires-2 : tie.Need-box-of-requires-2
-box-of-requires-2 c κs = search needs
 
 returns-3 : tie.Need-returns-3
 returns-3 c =
@@ -60,12 +42,9 @@ pub positions-see-each-other-spec : {M : Type 1} → statement M
 positions-see-each-other-spec =
     tie.close
     (tie.spec
-    row-of-requires
-    row-of-requires-2
+    (search needs) (search needs)
     returns
-    col-of-requires
-    col-of-requires-2
+    (search needs) (search needs)
     returns-2
-    box-of-requires
-    box-of-requires-2
+    (search needs) (search needs)
     returns-3)

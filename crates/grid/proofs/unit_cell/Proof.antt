@@ -8,45 +8,15 @@ use Rattle.grid.proofs.unit_cell.Tie as tie
 returns : tie.Need-returns
 returns c = sym (past-unit (c .before .args .unit) (c .before .args .place) (c .if1 .taken))
 
-mul-result : tie.Need-mul-result
-mul-result c = search needs
-
-add-result : tie.Need-add-result
-add-result c = search needs
-
 returns-2 : tie.Need-returns-2
 returns-2 c =
     let a = c .before .before .args in
     row-cell (a .unit) (a .place) (c .before .if1 .left) (c .if2 .taken)
 
-mul-result-2 : tie.Need-mul-result-2
-mul-result-2 c = search needs
-
-add-result-2 : tie.Need-add-result-2
-add-result-2 c = search needs
-
 returns-3 : tie.Need-returns-3
 returns-3 c =
     let a = c .before .before .before .args in
     col-cell (a .unit) (a .place) (c .before .before .if1 .left) (c .before .if2 .left) (c .if3 .taken)
-
-mul-result-3 : tie.Need-mul-result-3
-mul-result-3 c = search needs
-
-mul-result-4 : tie.Need-mul-result-4
-mul-result-4 c = search needs
-
-add-result-3 : tie.Need-add-result-3
-add-result-3 c = search needs
-
-mul-result-5 : tie.Need-mul-result-5
-mul-result-5 c = search needs
-
-add-result-4 : tie.Need-add-result-4
-add-result-4 c = search needs
-
-add-result-5 : tie.Need-add-result-5
-add-result-5 c = search needs
 
 returns-4 : tie.Need-returns-4
 returns-4 c =
@@ -63,17 +33,10 @@ unit-cell-spec =
     tie.close
     (tie.spec
     returns
-    mul-result
-    add-result
+    (search needs) (search needs)
     returns-2
-    mul-result-2
-    add-result-2
+    (search needs) (search needs)
     returns-3
-    mul-result-3
-    mul-result-4
-    add-result-3
-    mul-result-5
-    add-result-4
-    add-result-5
+    (search needs) (search needs) (search needs) (search needs) (search needs) (search needs)
     returns-4
     returns-5)

@@ -25,12 +25,6 @@ mark-band-requires c κs = (omega arith, c .before .before .loop .inv .1)
 returns : tie.Need-returns Inv-loop μ-loop
 returns c = stays-no (c .before .mark-band .ensures) (not-true (c .before .mark-band .result) (c .if1 .taken)) 81 (omega arith) ∙ one-pass .answer _
 
-add-band : tie.Need-add-band Inv-loop μ-loop
-add-band c = omega arith
-
-loop-less : tie.Need-loop-less Inv-loop μ-loop
-loop-less c = omega arith
-
 loop-again : tie.Need-loop-again Inv-loop μ-loop
 loop-again c = (omega arith, standing-yes (c .before .mark-band .ensures) (not-false (c .before .mark-band .result) (c .if1 .left)) _ (omega arith))
 
@@ -46,7 +40,6 @@ verify-solution-spec =
     loop-holds
     mark-band-requires
     returns
-    add-band
-    loop-less
+    (λ c. omega arith) (λ c. omega arith)
     loop-again
     returns-2)

@@ -21,24 +21,6 @@ loop-holds : tie.Need-loop-holds Inv-loop μ-loop
 unfolding doorsOf
 loop-holds c = fill-start _ 81 (replicate 81 0) refl
 
-element-copy-out-door : tie.Need-element-copy-out-door Inv-loop μ-loop
-element-copy-out-door c = omega arith
-
-door-requires : tie.Need-door-requires Inv-loop μ-loop
-door-requires c κs = search needs
-
-mul-all : tie.Need-mul-all Inv-loop μ-loop
-mul-all c = omega arith
-
-array-write-all : tie.Need-array-write-all Inv-loop μ-loop
-array-write-all c = omega arith
-
-add-cell : tie.Need-add-cell Inv-loop μ-loop
-add-cell c = omega arith
-
-loop-less : tie.Need-loop-less Inv-loop μ-loop
-loop-less c = omega arith
-
 loop-again : tie.Need-loop-again Inv-loop μ-loop
 loop-again c =
     let l = c .before .before .before .loop in
@@ -54,11 +36,6 @@ doors-spec =
     Inv-loop
     μ-loop
     loop-holds
-    element-copy-out-door
-    door-requires
-    mul-all
-    array-write-all
-    add-cell
-    loop-less
+    (λ c. omega arith) (search needs) (λ c. omega arith) (λ c. omega arith) (λ c. omega arith) (λ c. omega arith)
     loop-again
     returns)

@@ -25,21 +25,6 @@ loop-holds : tie.Need-loop-holds Inv-loop μ-loop
 unfolding joinedSets turn
 loop-holds c = (omega arith, refl)
 
-mul-join : tie.Need-mul-join Inv-loop μ-loop
-mul-join c = omega arith
-
-element-copy-out-join : tie.Need-element-copy-out-join Inv-loop μ-loop
-element-copy-out-join c = omega arith
-
-join-requires : tie.Need-join-requires Inv-loop μ-loop
-join-requires c κs = search needs
-
-add-nth : tie.Need-add-nth Inv-loop μ-loop
-add-nth c = omega arith
-
-loop-less : tie.Need-loop-less Inv-loop μ-loop
-loop-less c = omega arith
-
 loop-again : tie.Need-loop-again Inv-loop μ-loop
 unfolding turn
 loop-again c =
@@ -56,10 +41,6 @@ join-sets-spec =
     Inv-loop
     μ-loop
     loop-holds
-    mul-join
-    element-copy-out-join
-    join-requires
-    add-nth
-    loop-less
+    (λ c. omega arith) (λ c. omega arith) (search needs) (λ c. omega arith) (λ c. omega arith)
     loop-again
     returns)

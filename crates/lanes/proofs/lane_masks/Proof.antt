@@ -18,30 +18,6 @@ loop-holds : tie.Need-loop-holds Inv-loop μ-loop
 unfolding laneMasks
 loop-holds c = fill-start _ 9 (replicate 9 0) refl
 
-mul-held : tie.Need-mul-held Inv-loop μ-loop
-mul-held c = omega arith
-
-add-held : tie.Need-add-held Inv-loop μ-loop
-add-held c = omega arith
-
-mul-held-2 : tie.Need-mul-held-2 Inv-loop μ-loop
-mul-held-2 c = omega arith
-
-element-copy-out-held : tie.Need-element-copy-out-held Inv-loop μ-loop
-element-copy-out-held c = omega arith
-
-mul-nine : tie.Need-mul-nine Inv-loop μ-loop
-mul-nine c = omega arith
-
-array-write-nine : tie.Need-array-write-nine Inv-loop μ-loop
-array-write-nine c = omega arith
-
-add-place : tie.Need-add-place Inv-loop μ-loop
-add-place c = omega arith
-
-loop-less : tie.Need-loop-less Inv-loop μ-loop
-loop-less c = omega arith
-
 loop-again : tie.Need-loop-again Inv-loop μ-loop
 loop-again c =
     let l = c .before .before .loop in
@@ -57,13 +33,7 @@ lane-masks-spec =
     Inv-loop
     μ-loop
     loop-holds
-    mul-held
-    add-held
-    mul-held-2
-    element-copy-out-held
-    mul-nine
-    array-write-nine
-    add-place
-    loop-less
+    (λ c. omega arith) (λ c. omega arith) (λ c. omega arith) (λ c. omega arith) (λ c. omega arith) (λ c. omega arith)
+    (λ c. omega arith) (λ c. omega arith)
     loop-again
     returns)

@@ -22,12 +22,6 @@ loop-holds c = (omega arith, partly-start (c .args .masks .now) (c .pre))
 put-row-requires : tie.Need-put-row-requires Inv-loop μ-loop
 put-row-requires c κs = (omega arith, c .before .before .loop .inv .1)
 
-add-row : tie.Need-add-row Inv-loop μ-loop
-add-row c = omega arith
-
-loop-less : tie.Need-loop-less Inv-loop μ-loop
-loop-less c = omega arith
-
 loop-again : tie.Need-loop-again Inv-loop μ-loop
 loop-again c = (omega arith, partly-to (omega arith) (c .put-row .ensures))
 
@@ -37,4 +31,11 @@ returns c = partly-end (partly-to (omega arith) (c .before .loop .inv .1))
 pub lay-spec : {M : Type 1} → statement M
 lay-spec =
     tie.close
-    (tie.spec Inv-loop μ-loop loop-holds put-row-requires add-row loop-less loop-again returns)
+    (tie.spec
+    Inv-loop
+    μ-loop
+    loop-holds
+    put-row-requires
+    (λ c. omega arith) (λ c. omega arith)
+    loop-again
+    returns)

@@ -9,18 +9,6 @@ use Rattle.lanes.specs.code.Lanes.{putAt}
 use Rattle.lanes.proofs.lay_cell.Statement.{statement}
 use Rattle.lanes.proofs.lay_cell.Tie as tie
 
-row-of-requires : tie.Need-row-of-requires
-row-of-requires c κs = search needs
-
-col-of-requires : tie.Need-col-of-requires
-col-of-requires c κs = search needs
-
-mul-put : tie.Need-mul-put
-mul-put c = search needs
-
-element-copy-out-put : tie.Need-element-copy-out-put
-element-copy-out-put c = search needs
-
 put-requires : tie.Need-put-requires
 put-requires c κs = (omega (arith, c .before .before .row-of .ensures), omega (arith, c .before .col-of .ensures))
 
@@ -34,5 +22,4 @@ returns c =
 
 pub lay-cell-spec : {M : Type 1} → statement M
 lay-cell-spec =
-    tie.close
-    (tie.spec row-of-requires col-of-requires mul-put element-copy-out-put put-requires returns)
+    tie.close (tie.spec (search needs) (search needs) (search needs) (search needs) put-requires returns)

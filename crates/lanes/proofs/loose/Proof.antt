@@ -18,24 +18,6 @@ loop-holds : tie.Need-loop-holds Inv-loop μ-loop
 unfolding looseSets
 loop-holds c = fill-start _ 16 (replicate 16 0) refl
 
-add-loose-lane : tie.Need-add-loose-lane Inv-loop μ-loop
-add-loose-lane c = omega arith
-
-loose-lane-requires : tie.Need-loose-lane-requires Inv-loop μ-loop
-loose-lane-requires c κs = omega arith
-
-mul-sets : tie.Need-mul-sets Inv-loop μ-loop
-mul-sets c = omega arith
-
-array-write-sets : tie.Need-array-write-sets Inv-loop μ-loop
-array-write-sets c = omega arith
-
-add-nth : tie.Need-add-nth Inv-loop μ-loop
-add-nth c = omega arith
-
-loop-less : tie.Need-loop-less Inv-loop μ-loop
-loop-less c = omega arith
-
 loop-again : tie.Need-loop-again Inv-loop μ-loop
 loop-again c =
     let l = c .before .before .loop in
@@ -51,11 +33,6 @@ loose-spec =
     Inv-loop
     μ-loop
     loop-holds
-    add-loose-lane
-    loose-lane-requires
-    mul-sets
-    array-write-sets
-    add-nth
-    loop-less
+    (λ c. omega arith) (λ c. omega arith) (λ c. omega arith) (λ c. omega arith) (λ c. omega arith) (λ c. omega arith)
     loop-again
     returns)

@@ -25,42 +25,6 @@ loop-holds : tie.Need-loop-holds Inv-loop μ-loop
 unfolding looseOf turn
 loop-holds c = (omega arith, refl)
 
-mul-meet : tie.Need-mul-meet Inv-loop μ-loop
-mul-meet c = omega arith
-
-add-meet : tie.Need-add-meet Inv-loop μ-loop
-add-meet c = omega arith
-
-mul-meet-2 : tie.Need-mul-meet-2 Inv-loop μ-loop
-mul-meet-2 c = omega arith
-
-element-copy-out-meet : tie.Need-element-copy-out-meet Inv-loop μ-loop
-element-copy-out-meet c = omega arith
-
-mul-meet-3 : tie.Need-mul-meet-3 Inv-loop μ-loop
-mul-meet-3 c = omega arith
-
-add-meet-2 : tie.Need-add-meet-2 Inv-loop μ-loop
-add-meet-2 c = omega arith
-
-mul-meet-4 : tie.Need-mul-meet-4 Inv-loop μ-loop
-mul-meet-4 c = omega arith
-
-element-copy-out-meet-2 : tie.Need-element-copy-out-meet-2 Inv-loop μ-loop
-element-copy-out-meet-2 c = omega arith
-
-meet-requires : tie.Need-meet-requires Inv-loop μ-loop
-meet-requires c κs = search needs
-
-join-requires : tie.Need-join-requires Inv-loop μ-loop
-join-requires c κs = search needs
-
-add-place : tie.Need-add-place Inv-loop μ-loop
-add-place c = omega arith
-
-loop-less : tie.Need-loop-less Inv-loop μ-loop
-loop-less c = omega arith
-
 loop-again : tie.Need-loop-again Inv-loop μ-loop
 unfolding turn
 loop-again c =
@@ -80,17 +44,7 @@ loose-lane-spec =
     Inv-loop
     μ-loop
     loop-holds
-    mul-meet
-    add-meet
-    mul-meet-2
-    element-copy-out-meet
-    mul-meet-3
-    add-meet-2
-    mul-meet-4
-    element-copy-out-meet-2
-    meet-requires
-    join-requires
-    add-place
-    loop-less
+    (λ c. omega arith) (λ c. omega arith) (λ c. omega arith) (λ c. omega arith) (λ c. omega arith) (λ c. omega arith)
+    (λ c. omega arith) (λ c. omega arith) (search needs) (search needs) (λ c. omega arith) (λ c. omega arith)
     loop-again
     returns)

@@ -11,63 +11,6 @@ use Rattle.lanes.proofs.put.Reads as reads
 use Rattle.lanes.proofs.put.Lts as lts
 use Rattle.candidates.proofs.masks.meet.Reads as meet-reads
 
-meet-requires : tie.Need-meet-requires
-meet-requires c κs = search needs
-
-mul-lanes : tie.Need-mul-lanes
-mul-lanes c = search needs
-
-add-lanes : tie.Need-add-lanes
-add-lanes c = search needs
-
-mul-lanes-2 : tie.Need-mul-lanes-2
-mul-lanes-2 c = search needs
-
-element-write-lanes : tie.Need-element-write-lanes
-element-write-lanes c = search needs
-
-mul-lanes-3 : tie.Need-mul-lanes-3
-mul-lanes-3 c = search needs
-
-add-lanes-2 : tie.Need-add-lanes-2
-add-lanes-2 c = search needs
-
-add-lanes-3 : tie.Need-add-lanes-3
-add-lanes-3 c = search needs
-
-mul-lanes-4 : tie.Need-mul-lanes-4
-mul-lanes-4 c = search needs
-
-element-write-lanes-2 : tie.Need-element-write-lanes-2
-element-write-lanes-2 c = search needs
-
-mul-lanes-5 : tie.Need-mul-lanes-5
-mul-lanes-5 c = search needs
-
-add-lanes-4 : tie.Need-add-lanes-4
-add-lanes-4 c = search needs
-
-mul-lanes-6 : tie.Need-mul-lanes-6
-mul-lanes-6 c = search needs
-
-add-lanes-5 : tie.Need-add-lanes-5
-add-lanes-5 c = search needs
-
-mul-lanes-7 : tie.Need-mul-lanes-7
-mul-lanes-7 c = search needs
-
-add-lanes-6 : tie.Need-add-lanes-6
-add-lanes-6 c = search needs
-
-add-lanes-7 : tie.Need-add-lanes-7
-add-lanes-7 c = search needs
-
-mul-lanes-8 : tie.Need-mul-lanes-8
-mul-lanes-8 c = search needs
-
-element-write-lanes-3 : tie.Need-element-write-lanes-3
-element-write-lanes-3 c = search needs
-
 returns : tie.Need-returns
 returns c =
     let a = c .before .args in
@@ -78,23 +21,7 @@ pub put-spec : {M : Type 1} → statement M
 put-spec =
     tie.close
     (tie.spec
-    meet-requires
-    mul-lanes
-    add-lanes
-    mul-lanes-2
-    element-write-lanes
-    mul-lanes-3
-    add-lanes-2
-    add-lanes-3
-    mul-lanes-4
-    element-write-lanes-2
-    mul-lanes-5
-    add-lanes-4
-    mul-lanes-6
-    add-lanes-5
-    mul-lanes-7
-    add-lanes-6
-    add-lanes-7
-    mul-lanes-8
-    element-write-lanes-3
+    (search needs) (search needs) (search needs) (search needs) (search needs) (search needs) (search needs)
+    (search needs) (search needs) (search needs) (search needs) (search needs) (search needs) (search needs)
+    (search needs) (search needs) (search needs) (search needs) (search needs)
     returns)

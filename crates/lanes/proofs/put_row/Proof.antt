@@ -24,26 +24,8 @@ loop-holds c =
     let e : 9 * a .row ≡ 9 * a .row + 0 = omega arith in
     (omega arith, subst (λ (i : ℕ). Partly (a .masks .now) i (a .lanes .now)) e (c .pre .1))
 
-mul-put : tie.Need-mul-put Inv-loop μ-loop
-mul-put c = omega arith
-
-add-put : tie.Need-add-put Inv-loop μ-loop
-add-put c = omega arith
-
-mul-put-2 : tie.Need-mul-put-2 Inv-loop μ-loop
-mul-put-2 c = omega arith
-
-element-copy-out-put : tie.Need-element-copy-out-put Inv-loop μ-loop
-element-copy-out-put c = omega arith
-
 put-requires : tie.Need-put-requires Inv-loop μ-loop
 put-requires c κs = (omega arith, omega arith)
-
-add-col : tie.Need-add-col Inv-loop μ-loop
-add-col c = omega arith
-
-loop-less : tie.Need-loop-less Inv-loop μ-loop
-loop-less c = omega arith
 
 loop-again : tie.Need-loop-again Inv-loop μ-loop
 loop-again c =
@@ -65,12 +47,8 @@ put-row-spec =
     Inv-loop
     μ-loop
     loop-holds
-    mul-put
-    add-put
-    mul-put-2
-    element-copy-out-put
+    (λ c. omega arith) (λ c. omega arith) (λ c. omega arith) (λ c. omega arith)
     put-requires
-    add-col
-    loop-less
+    (λ c. omega arith) (λ c. omega arith)
     loop-again
     returns)

@@ -5,18 +5,6 @@ use Rattle.lanes.specs.code.Lanes.{laid}
 use Rattle.locked.proofs.claiming.Statement.{statement}
 use Rattle.locked.proofs.claiming.Tie as tie
 
-doors-requires : tie.Need-doors-requires
-doors-requires c κs = search needs
-
-lanes-of-requires : tie.Need-lanes-of-requires
-lanes-of-requires c κs = search needs
-
-lanes-of-requires-2 : tie.Need-lanes-of-requires-2
-lanes-of-requires-2 c κs = search needs
-
-slice-aggregate-claiming-lanes : tie.Need-slice-aggregate-claiming-lanes
-slice-aggregate-claiming-lanes c = search needs
-
 claiming-lanes-requires : tie.Need-claiming-lanes-requires
 claiming-lanes-requires c κs =
     let second = c .before .before .before .before in
@@ -27,4 +15,5 @@ returns : tie.Need-returns
 returns c = c .before .claiming-lanes .ensures .0
 
 pub claiming-spec : {M : Type 1} → statement M
-claiming-spec = tie.close (tie.spec doors-requires lanes-of-requires lanes-of-requires-2 slice-aggregate-claiming-lanes claiming-lanes-requires returns)
+claiming-spec =
+    tie.close (tie.spec (search needs) (search needs) (search needs) (search needs) claiming-lanes-requires returns)

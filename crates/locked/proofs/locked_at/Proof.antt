@@ -5,15 +5,6 @@ use Rattle.locked.proofs.LockedLosses.{log-lost, log-kept}
 use Rattle.locked.proofs.locked_at.Statement.{statement}
 use Rattle.locked.proofs.locked_at.Tie as tie
 
-take-met-requires : tie.Need-take-met-requires
-take-met-requires c κs = search needs
-
-note-met-requires : tie.Need-note-met-requires
-note-met-requires c κs = search needs
-
-same-length : tie.Need-same-length
-same-length c = search needs
-
 returns : tie.Need-returns
 returns c =
     let branch = c .before .before .before .before in
@@ -37,4 +28,5 @@ returns-2 c =
     )
 
 pub locked-at-spec : {M : Type 1} → statement M
-locked-at-spec = tie.close (tie.spec take-met-requires note-met-requires same-length returns returns-2)
+locked-at-spec =
+    tie.close (tie.spec (search needs) (search needs) (search needs) returns returns-2)

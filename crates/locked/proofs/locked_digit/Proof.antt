@@ -28,9 +28,6 @@ Inv-loop givens masks₀ log₀ unit digit held count nth₀ masks log nth =
 abbrev μ-loop : tie.MeasureT-loop
 μ-loop givens masks₀ log₀ unit digit held count nth₀ masks log nth = count - nth
 
-meetings-requires : tie.Need-meetings-requires Inv-loop μ-loop
-meetings-requires c κs = search needs
-
 loop-holds : tie.Need-loop-holds Inv-loop μ-loop
 unfolding meetTurns digitInstances
 loop-holds c =
@@ -51,12 +48,6 @@ locked-at-requires c κs =
     let counted = c .before .before .before .before in
     let start = counted .before .before in
     (start .pre .0, start .pre .1, omega (arith, counted .meetings .ensures), l .inv .1)
-
-add-nth : tie.Need-add-nth Inv-loop μ-loop
-add-nth c = omega arith
-
-loop-less : tie.Need-loop-less Inv-loop μ-loop
-loop-less c = omega arith
 
 loop-again : tie.Need-loop-again Inv-loop μ-loop
 unfolding each
@@ -96,11 +87,10 @@ locked-digit-spec =
     (tie.spec
     Inv-loop
     μ-loop
-    meetings-requires
+    (search needs)
     loop-holds
     locked-at-requires
-    add-nth
-    loop-less
+    (λ c. omega arith) (λ c. omega arith)
     loop-again
     same-length
     returns)

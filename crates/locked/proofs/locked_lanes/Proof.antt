@@ -25,12 +25,6 @@ Inv-loop givens masks₀ log₀ doors lanes first end boxes rests₀ unit₀ mas
 abbrev μ-loop : tie.MeasureT-loop
 μ-loop givens masks₀ log₀ doors lanes first end boxes rests₀ unit₀ masks log rests unit = end - unit
 
-put-rests-requires : tie.Need-put-rests-requires Inv-loop μ-loop
-put-rests-requires c κs = search needs
-
-first-due-requires : tie.Need-first-due-requires Inv-loop μ-loop
-first-due-requires c κs = search needs
-
 returns : tie.Need-returns Inv-loop μ-loop
 returns c =
     let asked = c .before in
@@ -53,9 +47,6 @@ loop-holds c =
     let w = first-skips (a .givens .now) (a .masks .now) (a .log .now) (start .pre .1) (start .pre .0) (put .put-rests .ensures) (asked .first-due .ensures) in
     (w .0, w .2 .0, w .1, w .2 .1)
 
-all-masks-requires : tie.Need-all-masks-requires Inv-loop μ-loop
-all-masks-requires c κs = search needs
-
 due-now-requires : tie.Need-due-now-requires Inv-loop μ-loop
 due-now-requires c κs = omega (arith, c .before .before .before .before .before .before .before .before .before .before .before .before .before .pre .1 .most)
 
@@ -70,12 +61,6 @@ locked-unit-requires c κs =
       read .all-masks .ensures,
       now-skips (start .args .givens .now) (l .masks) (l .unit) (start .pre .1) (l .inv .0) (omega arith) (l .inv .2) (read .all-masks .ensures) (asked .due-now .ensures .0) (asked .due-now .ensures .1) .1,
     )
-
-add-unit : tie.Need-add-unit Inv-loop μ-loop
-add-unit c = omega arith
-
-loop-less : tie.Need-loop-less Inv-loop μ-loop
-loop-less c = omega arith
 
 loop-again : tie.Need-loop-again Inv-loop μ-loop
 loop-again c =
@@ -130,15 +115,13 @@ locked-lanes-spec =
     (tie.spec
     Inv-loop
     μ-loop
-    put-rests-requires
-    first-due-requires
+    (search needs) (search needs)
     returns
     loop-holds
-    all-masks-requires
+    (search needs)
     due-now-requires
     locked-unit-requires
-    add-unit
-    loop-less
+    (λ c. omega arith) (λ c. omega arith)
     loop-again
     lay-requires
     same-length

@@ -27,12 +27,6 @@ loop-holds : tie.Need-loop-holds Inv-loop μ-loop
 unfolding unitInstances
 loop-holds c = (going-start (digits-parted (c .before .args .givens .now) (c .before .args .unit)) (c .before .args .masks .now), refl)
 
-has-digit-requires : tie.Need-has-digit-requires Inv-loop μ-loop
-has-digit-requires c κs = search needs
-
-places-of-requires : tie.Need-places-of-requires Inv-loop μ-loop
-places-of-requires c κs = search needs
-
 locked-digit-requires : tie.Need-locked-digit-requires Inv-loop μ-loop
 locked-digit-requires c κs =
     let found = c .before .before in
@@ -42,12 +36,6 @@ locked-digit-requires c κs =
       omega arith,
       held-still (start .args .unit) (l .digit) (start .pre .0) (found .places-of .ensures) (start .pre .1) (l .inv .0 .same (l .digit) (omega arith) (omega arith)),
     )
-
-add-digit : tie.Need-add-digit Inv-loop μ-loop
-add-digit c = omega arith
-
-loop-less : tie.Need-loop-less Inv-loop μ-loop
-loop-less c = omega arith
 
 loop-again : tie.Need-loop-again Inv-loop μ-loop
 loop-again c =
@@ -86,11 +74,9 @@ locked-unit-spec =
     Inv-loop
     μ-loop
     loop-holds
-    has-digit-requires
-    places-of-requires
+    (search needs) (search needs)
     locked-digit-requires
-    add-digit
-    loop-less
+    (λ c. omega arith) (λ c. omega arith)
     loop-again
     same-length
     returns)

@@ -13,30 +13,15 @@ use Rattle.locked.proofs.LockedTurns.{instance-bytes}
 use Rattle.locked.proofs.note_met.Statement.{statement}
 use Rattle.locked.proofs.note_met.Tie as tie
 
-add-note : tie.Need-add-note
-add-note c = search needs
-
-met-unit-requires : tie.Need-met-unit-requires
-met-unit-requires c κs = search needs
-
 note-requires : tie.Need-note-requires
 note-requires c κs =
     let start = c .before .before .before .before in
     omega (arith, met-below (start .args .unit) (start .args .nth) (start .pre .0) (start .pre .2), c .met-unit .ensures)
 
-add-note-2 : tie.Need-add-note-2
-add-note-2 c = search needs
-
-met-unit-requires-2 : tie.Need-met-unit-requires-2
-met-unit-requires-2 c κs = search needs
-
 note-requires-2 : tie.Need-note-requires-2
 note-requires-2 c κs =
     let start = c .before .before .before .before in
     omega (arith, met-below (start .args .unit) (start .args .nth) (start .pre .0) (start .pre .2), c .met-unit2 .ensures)
-
-same-length : tie.Need-same-length
-same-length c = search needs
 
 returns : tie.Need-returns
 returns c =
@@ -47,9 +32,6 @@ returns c =
     c .before .before .note .ensures
     ∙ ap (λ (bs : List ℕ). noted bs (a .log .now))
     (instance-bytes (a .unit) (a .digit) (a .nth) (start .pre .0) (start .pre .2) (sym (cond-true (ltb (a .unit) 18) 4 3 (lt-ltb (a .unit) 18 (branch .if1 .taken)))) (called .met-unit .ensures))
-
-same-length-2 : tie.Need-same-length-2
-same-length-2 c = search needs
 
 returns-2 : tie.Need-returns-2
 returns-2 c =
@@ -65,13 +47,11 @@ pub note-met-spec : {M : Type 1} → statement M
 note-met-spec =
     tie.close
     (tie.spec
-    add-note
-    met-unit-requires
+    (search needs) (search needs)
     note-requires
-    add-note-2
-    met-unit-requires-2
+    (search needs) (search needs)
     note-requires-2
-    same-length
+    (search needs)
     returns
-    same-length-2
+    (search needs)
     returns-2)

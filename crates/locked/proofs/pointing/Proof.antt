@@ -5,18 +5,6 @@ use Rattle.lanes.specs.code.Lanes.{laid}
 use Rattle.locked.proofs.pointing.Statement.{statement}
 use Rattle.locked.proofs.pointing.Tie as tie
 
-doors-requires : tie.Need-doors-requires
-doors-requires c κs = search needs
-
-lanes-of-requires : tie.Need-lanes-of-requires
-lanes-of-requires c κs = search needs
-
-lanes-of-requires-2 : tie.Need-lanes-of-requires-2
-lanes-of-requires-2 c κs = search needs
-
-slice-aggregate-pointing-lanes : tie.Need-slice-aggregate-pointing-lanes
-slice-aggregate-pointing-lanes c = search needs
-
 pointing-lanes-requires : tie.Need-pointing-lanes-requires
 pointing-lanes-requires c κs =
     let second = c .before .before .before .before in
@@ -27,4 +15,5 @@ returns : tie.Need-returns
 returns c = c .before .pointing-lanes .ensures .0
 
 pub pointing-spec : {M : Type 1} → statement M
-pointing-spec = tie.close (tie.spec doors-requires lanes-of-requires lanes-of-requires-2 slice-aggregate-pointing-lanes pointing-lanes-requires returns)
+pointing-spec =
+    tie.close (tie.spec (search needs) (search needs) (search needs) (search needs) pointing-lanes-requires returns)

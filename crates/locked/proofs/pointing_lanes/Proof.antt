@@ -13,9 +13,6 @@ use Rattle.locked.proofs.pointing_lanes.Tie as tie
 locked-lanes-requires : tie.Need-locked-lanes-requires
 locked-lanes-requires c κs = (c .before .before .before .before .pre, record { low = omega arith; rise = omega arith; most = omega arith; each = λ u h l. le-ltb u 18 h })
 
-same-length : tie.Need-same-length
-same-length c = search needs
-
 returns : tie.Need-returns
 returns c =
     let a = c .before .before .before .before .before .before .before .args in
@@ -25,4 +22,5 @@ returns c =
     )
 
 pub pointing-lanes-spec : {M : Type 1} → statement M
-pointing-lanes-spec = tie.close (tie.spec locked-lanes-requires same-length returns)
+pointing-lanes-spec =
+    tie.close (tie.spec locked-lanes-requires (search needs) returns)

@@ -6,27 +6,6 @@ use Rattle.locked.proofs.LockedLosses.{told-none}
 use Rattle.locked.proofs.take_met.Statement.{statement}
 use Rattle.locked.proofs.take_met.Tie as tie
 
-met-places-requires : tie.Need-met-places-requires
-met-places-requires c κs = search needs
-
-lose-requires : tie.Need-lose-requires
-lose-requires c κs = search needs
-
-is-none-requires : tie.Need-is-none-requires
-is-none-requires c κs = search needs
-
-met-unit-requires : tie.Need-met-unit-requires
-met-unit-requires c κs = search needs
-
-outside-requires : tie.Need-outside-requires
-outside-requires c κs = search needs
-
-digit-mask-requires : tie.Need-digit-mask-requires
-digit-mask-requires c κs = search needs
-
-take-places-requires : tie.Need-take-places-requires
-take-places-requires c κs = search needs
-
 returns : tie.Need-returns
 returns c =
     let called = c .before in
@@ -51,12 +30,6 @@ pub take-met-spec : {M : Type 1} → statement M
 take-met-spec =
     tie.close
     (tie.spec
-    met-places-requires
-    lose-requires
-    is-none-requires
-    met-unit-requires
-    outside-requires
-    digit-mask-requires
-    take-places-requires
+    (search needs) (search needs) (search needs) (search needs) (search needs) (search needs) (search needs)
     returns
     returns-2)

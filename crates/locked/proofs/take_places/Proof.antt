@@ -33,21 +33,6 @@ loop-holds : tie.Need-loop-holds Inv-loop μ-loop
 unfolding losePlaces turn
 loop-holds c = (omega arith, refl, (less-refl (c .args .masks .now), told-none (c .args .masks .now)))
 
-has-digit-requires : tie.Need-has-digit-requires Inv-loop μ-loop
-has-digit-requires c κs = search needs
-
-unit-cell-requires : tie.Need-unit-cell-requires Inv-loop μ-loop
-unit-cell-requires c κs = search needs
-
-take-at-requires : tie.Need-take-at-requires Inv-loop μ-loop
-take-at-requires c κs = search needs
-
-add-place : tie.Need-add-place Inv-loop μ-loop
-add-place c = omega arith
-
-loop-less : tie.Need-loop-less Inv-loop μ-loop
-loop-less c = omega arith
-
 loop-again : tie.Need-loop-again Inv-loop μ-loop
 unfolding turn
 loop-again c =
@@ -85,10 +70,6 @@ take-places-spec =
     Inv-loop
     μ-loop
     loop-holds
-    has-digit-requires
-    unit-cell-requires
-    take-at-requires
-    add-place
-    loop-less
+    (search needs) (search needs) (search needs) (λ c. omega arith) (λ c. omega arith)
     loop-again
     returns)

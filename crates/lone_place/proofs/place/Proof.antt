@@ -5,18 +5,6 @@ use Rattle.lanes.specs.code.Lanes.{laid}
 use Rattle.lone_place.proofs.place.Statement.{statement}
 use Rattle.lone_place.proofs.place.Tie as tie
 
-doors-requires : tie.Need-doors-requires
-doors-requires c κs = search needs
-
-lanes-of-requires : tie.Need-lanes-of-requires
-lanes-of-requires c κs = search needs
-
-lanes-of-requires-2 : tie.Need-lanes-of-requires-2
-lanes-of-requires-2 c κs = search needs
-
-slice-aggregate-place-lanes : tie.Need-slice-aggregate-place-lanes
-slice-aggregate-place-lanes c = search needs
-
 place-lanes-requires : tie.Need-place-lanes-requires
 place-lanes-requires c κs =
     let second = c .before .before .before .before in
@@ -27,4 +15,5 @@ returns : tie.Need-returns
 returns c = c .before .place-lanes .ensures .0
 
 pub place-spec : {M : Type 1} → statement M
-place-spec = tie.close (tie.spec doors-requires lanes-of-requires lanes-of-requires-2 slice-aggregate-place-lanes place-lanes-requires returns)
+place-spec =
+    tie.close (tie.spec (search needs) (search needs) (search needs) (search needs) place-lanes-requires returns)

@@ -5,18 +5,6 @@ use Rattle.lanes.specs.code.Lanes.{laid}
 use Rattle.pair_cross.proofs.cross.Statement.{statement}
 use Rattle.pair_cross.proofs.cross.Tie as tie
 
-doors-requires : tie.Need-doors-requires
-doors-requires c κs = search needs
-
-lanes-of-requires : tie.Need-lanes-of-requires
-lanes-of-requires c κs = search needs
-
-lanes-of-requires-2 : tie.Need-lanes-of-requires-2
-lanes-of-requires-2 c κs = search needs
-
-slice-aggregate-cross-lanes : tie.Need-slice-aggregate-cross-lanes
-slice-aggregate-cross-lanes c = search needs
-
 cross-lanes-requires : tie.Need-cross-lanes-requires
 cross-lanes-requires c κs =
     let second = c .before .before .before .before in
@@ -27,4 +15,5 @@ returns : tie.Need-returns
 returns c = c .before .cross-lanes .ensures .0
 
 pub cross-spec : {M : Type 1} → statement M
-cross-spec = tie.close (tie.spec doors-requires lanes-of-requires lanes-of-requires-2 slice-aggregate-cross-lanes cross-lanes-requires returns)
+cross-spec =
+    tie.close (tie.spec (search needs) (search needs) (search needs) (search needs) cross-lanes-requires returns)

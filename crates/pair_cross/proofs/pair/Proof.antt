@@ -5,18 +5,6 @@ use Rattle.lanes.specs.code.Lanes.{laid}
 use Rattle.pair_cross.proofs.pair.Statement.{statement}
 use Rattle.pair_cross.proofs.pair.Tie as tie
 
-doors-requires : tie.Need-doors-requires
-doors-requires c κs = search needs
-
-lanes-of-requires : tie.Need-lanes-of-requires
-lanes-of-requires c κs = search needs
-
-lanes-of-requires-2 : tie.Need-lanes-of-requires-2
-lanes-of-requires-2 c κs = search needs
-
-slice-aggregate-pair-lanes : tie.Need-slice-aggregate-pair-lanes
-slice-aggregate-pair-lanes c = search needs
-
 pair-lanes-requires : tie.Need-pair-lanes-requires
 pair-lanes-requires c κs =
     let second = c .before .before .before .before in
@@ -27,4 +15,5 @@ returns : tie.Need-returns
 returns c = c .before .pair-lanes .ensures .0
 
 pub pair-spec : {M : Type 1} → statement M
-pair-spec = tie.close (tie.spec doors-requires lanes-of-requires lanes-of-requires-2 slice-aggregate-pair-lanes pair-lanes-requires returns)
+pair-spec =
+    tie.close (tie.spec (search needs) (search needs) (search needs) (search needs) pair-lanes-requires returns)

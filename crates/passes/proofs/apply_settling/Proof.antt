@@ -22,15 +22,6 @@ entries-size c = search needs
 masks-size : (c : tie.After-masks) → length (c .before .before .before .args .board .masks) ≡ 81
 masks-size c = search needs
 
-slice-aggregate-settle-handed : tie.Need-slice-aggregate-settle-handed
-slice-aggregate-settle-handed c = search needs
-
-settle-handed-requires : tie.Need-settle-handed-requires
-settle-handed-requires c κs = search needs
-
-steps-of-requires : tie.Need-steps-of-requires
-steps-of-requires c κs = search needs
-
 returns : tie.Need-returns
 unfolding countsDone countsLeft
 returns c =
@@ -48,4 +39,5 @@ returns c =
     }
 
 pub apply-settling-spec : {M : Type 1} → statement M
-apply-settling-spec = tie.close (tie.spec slice-aggregate-settle-handed settle-handed-requires steps-of-requires returns)
+apply-settling-spec =
+    tie.close (tie.spec (search needs) (search needs) (search needs) returns)

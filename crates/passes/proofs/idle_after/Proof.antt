@@ -5,17 +5,12 @@ use Rattle.candidates.proofs.Tests.{cond-true, cond-false}
 use Rattle.passes.proofs.idle_after.Statement.{statement}
 use Rattle.passes.proofs.idle_after.Tie as tie
 
-changed-requires : tie.Need-changed-requires
-changed-requires c κs = search needs
-
 returns : tie.Need-returns
 returns c = sym (cond-true _ _ _ (sym (c .before .changed .ensures) ∙ c .if1 .taken))
-
-add-result : tie.Need-add-result
-add-result c = search needs
 
 returns-2 : tie.Need-returns-2
 returns-2 c = sym (cond-false _ _ _ (sym (c .before .changed .ensures) ∙ c .if1 .left))
 
 pub idle-after-spec : {M : Type 1} → statement M
-idle-after-spec = tie.close (tie.spec changed-requires returns add-result returns-2)
+idle-after-spec =
+    tie.close (tie.spec (search needs) returns (search needs) returns-2)

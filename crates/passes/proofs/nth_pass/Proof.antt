@@ -16,35 +16,11 @@ use Rattle.passes.proofs.nth_pass.Tie as tie
 by-kind : (g m l : List ℕ) {m₁ l₁ s : List ℕ} {j k : Kind} → j ≡ k → (m₁ ≡ pass g j m) × ((s ≡ laid m₁) × (l₁ ≡ logAfter g (instances j) m l)) → (m₁ ≡ pass g k m) × ((s ≡ laid m₁) × (l₁ ≡ logAfter g (instances k) m l))
 by-kind g m l {m₁} {l₁} {s} e w = subst (λ (k : Kind). (m₁ ≡ pass g k m) × ((s ≡ laid m₁) × (l₁ ≡ logAfter g (instances k) m l))) e w
 
-lone-lanes-requires : tie.Need-lone-lanes-requires
-lone-lanes-requires c κs = search needs
-
-place-lanes-requires : tie.Need-place-lanes-requires
-place-lanes-requires c κs = search needs
-
-pair-lanes-requires : tie.Need-pair-lanes-requires
-pair-lanes-requires c κs = search needs
-
-pointing-lanes-requires : tie.Need-pointing-lanes-requires
-pointing-lanes-requires c κs = search needs
-
-claiming-lanes-requires : tie.Need-claiming-lanes-requires
-claiming-lanes-requires c κs = search needs
-
-cross-lanes-requires : tie.Need-cross-lanes-requires
-cross-lanes-requires c κs = search needs
-
-same-length : tie.Need-same-length
-same-length c = search needs
-
 returns : tie.Need-returns
 unfolding nthKind
 returns c =
     let a = c .before .before .before .before .before .before .before .before .args in
     by-kind (a .givens .now) (a .masks .now) (a .log .now) (ap nthKind (sym (c .before .before .before .before .before .before .match .keys1))) (c .before .before .lone-lanes .ensures)
-
-same-length-2 : tie.Need-same-length-2
-same-length-2 c = search needs
 
 returns-2 : tie.Need-returns-2
 unfolding nthKind
@@ -52,17 +28,11 @@ returns-2 c =
     let a = c .before .before .before .before .before .before .before .before .args in
     by-kind (a .givens .now) (a .masks .now) (a .log .now) (ap nthKind (sym (c .before .before .before .before .before .before .match .keys2))) (c .before .before .place-lanes .ensures)
 
-same-length-3 : tie.Need-same-length-3
-same-length-3 c = search needs
-
 returns-3 : tie.Need-returns-3
 unfolding nthKind
 returns-3 c =
     let a = c .before .before .before .before .before .before .before .before .args in
     by-kind (a .givens .now) (a .masks .now) (a .log .now) (ap nthKind (sym (c .before .before .before .before .before .before .match .keys3))) (c .before .before .pair-lanes .ensures)
-
-same-length-4 : tie.Need-same-length-4
-same-length-4 c = search needs
 
 returns-4 : tie.Need-returns-4
 unfolding nthKind
@@ -70,17 +40,11 @@ returns-4 c =
     let a = c .before .before .before .before .before .before .before .before .args in
     by-kind (a .givens .now) (a .masks .now) (a .log .now) (ap nthKind (sym (c .before .before .before .before .before .before .match .keys4))) (c .before .before .pointing-lanes .ensures)
 
-same-length-5 : tie.Need-same-length-5
-same-length-5 c = search needs
-
 returns-5 : tie.Need-returns-5
 unfolding nthKind
 returns-5 c =
     let a = c .before .before .before .before .before .before .before .before .args in
     by-kind (a .givens .now) (a .masks .now) (a .log .now) (ap nthKind (sym (c .before .before .before .before .before .before .match .keys5))) (c .before .before .claiming-lanes .ensures)
-
-same-length-6 : tie.Need-same-length-6
-same-length-6 c = search needs
 
 returns-6 : tie.Need-returns-6
 returns-6 c =
@@ -94,21 +58,16 @@ pub nth-pass-spec : {M : Type 1} → statement M
 nth-pass-spec =
     tie.close
     (tie.spec
-    lone-lanes-requires
-    place-lanes-requires
-    pair-lanes-requires
-    pointing-lanes-requires
-    claiming-lanes-requires
-    cross-lanes-requires
-    same-length
+    (λ c κs. search needs) (λ c κs. search needs) (λ c κs. search needs) (λ c κs. search needs)
+    (λ c κs. search needs) (λ c κs. search needs) (search needs)
     returns
-    same-length-2
+    (search needs)
     returns-2
-    same-length-3
+    (search needs)
     returns-3
-    same-length-4
+    (search needs)
     returns-4
-    same-length-5
+    (search needs)
     returns-5
-    same-length-6
+    (search needs)
     returns-6)

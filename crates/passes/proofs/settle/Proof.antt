@@ -13,34 +13,10 @@ use Rattle.passes.proofs.Tallies.{tally-start, tally-counts, tally-left
 use Rattle.passes.proofs.settle.Statement.{statement}
 use Rattle.passes.proofs.settle.Tie as tie
 
-total-requires : tie.Need-total-requires
-total-requires c κs = search needs
-
 sweep-on-requires : tie.Need-sweep-on-requires
 sweep-on-requires c κs =
     let t = c .before .before .before in
     tally-start (t .before .before .before .args .masks .now) (t .total .ensures) (record { fits = t .total .ok })
-
-array-read-t15 : tie.Need-array-read-t15
-array-read-t15 c = search needs
-
-array-read-t18 : tie.Need-array-read-t18
-array-read-t18 c = search needs
-
-array-read-t21 : tie.Need-array-read-t21
-array-read-t21 c = search needs
-
-array-read-t24 : tie.Need-array-read-t24
-array-read-t24 c = search needs
-
-array-read-t27 : tie.Need-array-read-t27
-array-read-t27 c = search needs
-
-array-read-t30 : tie.Need-array-read-t30
-array-read-t30 c = search needs
-
-array-read-t15-2 : tie.Need-array-read-t15-2
-array-read-t15-2 c = search needs
 
 six : (s : tie.Start) → length (passCounts (s .args .givens .now) (s .args .masks .now)) ≡ 6
 unfolding passCounts
@@ -60,9 +36,6 @@ sub-t30 c =
     let a = t .before .before .before .args in
     omega (arith, left-total o, t .total .ensures, ap total (o .sweep-on .ensures .1 .0), settle-fewer (a .givens .now) 730 (a .masks .now))
 
-same-length : tie.Need-same-length
-same-length c = search needs
-
 returns : tie.Need-returns
 returns c =
     let o = c .before .before .before in
@@ -76,15 +49,9 @@ pub settle-spec : {M : Type 1} → statement M
 settle-spec =
     tie.close
     (tie.spec
-    total-requires
+    (search needs)
     sweep-on-requires
-    array-read-t15
-    array-read-t18
-    array-read-t21
-    array-read-t24
-    array-read-t27
-    array-read-t30
-    array-read-t15-2
+    (search needs) (search needs) (search needs) (search needs) (search needs) (search needs) (search needs)
     sub-t30
-    same-length
+    (search needs)
     returns)

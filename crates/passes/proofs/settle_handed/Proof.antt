@@ -32,20 +32,8 @@ logBack b l a = valueOr l (map (λ _. logAfter (S.givens b) (settlingInstances (
 countsBack : S.Board → List ℕ → Answer Outcome → List ℕ
 countsBack b k a = valueOr k (map (λ _. passCounts (S.givens b) (b .masks)) a)
 
-givens-of-requires : tie.Need-givens-of-requires
-givens-of-requires c κs = search needs
-
 check-given-requires : tie.Need-check-given-requires
 check-given-requires c κs = c .before .before .givens-of .ensures
-
-enum-known-stop : tie.Need-enum-known-stop
-enum-known-stop c = search needs
-
-enum-told : tie.Need-enum-told
-enum-told c = search needs
-
-settle-requires : tie.Need-settle-requires
-settle-requires c κs = search needs
 
 returns : tie.Need-returns
 unfolding masksBack logBack logLeft countsBack countsLeft
@@ -55,9 +43,6 @@ returns c =
     let b = handed (a .clues .now) (a .entries .now) (a .masks .now) in
     let e = answers settlingCall b (told (k .check-given .ensures) (c .before .stop .given .1)) in
     (ap (map countsOf) e, (ap (masksBack b) e, (ap (logBack b (a .log .now)) e, ap (countsBack b (a .counts .now)) e)))
-
-same-length : tie.Need-same-length
-same-length c = search needs
 
 returns-2 : tie.Need-returns-2
 unfolding outcome counted masksBack logBack logLeft countsBack countsLeft
@@ -85,4 +70,12 @@ returns-2 c =
     )
 
 pub settle-handed-spec : {M : Type 1} → statement M
-settle-handed-spec = tie.close (tie.spec givens-of-requires check-given-requires enum-known-stop enum-told settle-requires returns same-length returns-2)
+settle-handed-spec =
+    tie.close
+    (tie.spec
+    (search needs)
+    check-given-requires
+    (search needs) (search needs) (search needs)
+    returns
+    (search needs)
+    returns-2)

@@ -72,12 +72,6 @@ tally-pass-requires c κs =
     let tally = l .loop .inv .4 in
     (omega arith, omega (arith, ap total (p .nth-pass .ensures .0), pass-fewer (l .before .before .args .givens .now) (l .loop .nth) (l .loop .masks), tally .left), tally .few)
 
-add-nth : tie.Need-add-nth Inv-loop μ-loop
-add-nth c = omega arith
-
-loop-less : tie.Need-loop-less Inv-loop μ-loop
-loop-less c = omega arith
-
 loop-again : tie.Need-loop-again Inv-loop μ-loop
 unfolding pass
 loop-again c =
@@ -99,12 +93,6 @@ loop-again c =
       tally .0,
       turn-done (tallyTurn g) 6 w (omega arith) (tally .1) (inv .5),
     )
-
-element-copy-out-is-over : tie.Need-element-copy-out-is-over Inv-loop μ-loop
-element-copy-out-is-over c = search needs
-
-is-over-requires : tie.Need-is-over-requires Inv-loop μ-loop
-is-over-requires c κs = search needs
 
 -- the pass of the loop's number
 within : (p : tie.After-nth-pass Inv-loop μ-loop) → p .before .before .before .before .before .before .before .loop .nth < 6
@@ -168,12 +156,10 @@ sweep-spec =
     nth-pass-requires
     idle-after-requires
     tally-pass-requires
-    element-copy-out-is-over
-    is-over-requires
+    (search needs) (search needs)
     same-length-2
     returns-2
-    add-nth
-    loop-less
+    (λ c. omega arith) (λ c. omega arith)
     loop-again
     same-length-3
     returns-3)

@@ -27,15 +27,6 @@ Inv-loop givens masks₀ log₀ tally₀ doors lanes₀ idle₀ sweeps₀ masks 
 abbrev μ-loop : tie.MeasureT-loop
 μ-loop givens masks₀ log₀ tally₀ doors lanes₀ idle₀ sweeps₀ masks log tally lanes idle sweeps = 730 - sweeps
 
-doors-requires : tie.Need-doors-requires Inv-loop μ-loop
-doors-requires c κs = search needs
-
-lanes-of-requires : tie.Need-lanes-of-requires Inv-loop μ-loop
-lanes-of-requires c κs = search needs
-
-lanes-of-requires-2 : tie.Need-lanes-of-requires-2 Inv-loop μ-loop
-lanes-of-requires-2 c κs = search needs
-
 loop-holds : tie.Need-loop-holds Inv-loop μ-loop
 unfolding settlingInstances passCounts
 loop-holds c =
@@ -47,9 +38,6 @@ sweep-requires c κs =
     let l = c .before .before .before .before .before .before in
     let doors = l .before .before .before in
     (record { doors = doors .lanes-of .ensures ∙ ap laid (doors .before .before .doors .ensures); masks = l .loop .inv .1 }, l .loop .inv .2, l .loop .inv .3, l .loop .inv .7)
-
-add-sweeps : tie.Need-add-sweeps Inv-loop μ-loop
-add-sweeps c = omega arith
 
 same-length : tie.Need-same-length Inv-loop μ-loop
 same-length c =
@@ -67,9 +55,6 @@ returns c =
     let tally = swept .1 .1 .1 in
     let counted = counts-stop g (l .loop .sweeps) (l .loop .masks) (omega arith) (swept .0) (l .loop .inv .7) (tally .1) (l .loop .inv .8) (c .if1 .taken) in
     (omega (arith, ap (λ (x : Sweeps). x .sweeps) s, l .loop .inv .4), (sym (ap (λ (x : Sweeps). x .left) s) ∙ l .loop .inv .5, (noted, counts-over g (tally .0) counted)))
-
-loop-less : tie.Need-loop-less Inv-loop μ-loop
-loop-less c = omega arith
 
 loop-again : tie.Need-loop-again Inv-loop μ-loop
 loop-again c =
@@ -102,15 +87,13 @@ sweep-on-spec =
     (tie.spec
     Inv-loop
     μ-loop
-    doors-requires
-    lanes-of-requires
-    lanes-of-requires-2
+    (search needs) (search needs) (search needs)
     loop-holds
     sweep-requires
-    add-sweeps
+    (λ c. omega arith)
     same-length
     returns
-    loop-less
+    (λ c. omega arith)
     loop-again
     same-length-2
     returns-2)

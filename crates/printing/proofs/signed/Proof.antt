@@ -43,12 +43,6 @@ kept c =
     let f = c .before .fits .n in
     rw (toZ-ofZ f) (itself (c .before .args .n) f (rw (toZ-ofZ f) at (c .if1 .left)))
 
-slice-aggregate-word : tie.Need-slice-aggregate-word
-slice-aggregate-word c = search needs
-
-word-requires : tie.Need-word-requires
-word-requires c κs = search needs
-
 sub-print-decimal : tie.Need-sub-print-decimal
 sub-print-decimal c = negated (c .before .before) .fits
 
@@ -62,32 +56,17 @@ add-print-decimal c =
     let size = negated (c .before .before) in
     rw (toZ-ofZ (size .fits)) (record { fits = omega (arith, size .small) })
 
-print-decimal-requires : tie.Need-print-decimal-requires
-print-decimal-requires c κs = search needs
-
-returns : tie.Need-returns
-returns c = search needs
-
 cast-number : tie.Need-cast-number
 cast-number c = (kept c .positive, fits-natAbs tt (kept c .fits))
-
-number-requires : tie.Need-number-requires
-number-requires c κs = search needs
-
-returns-2 : tie.Need-returns-2
-returns-2 c = search needs
 
 pub signed-spec : {M : Type 1} → statement M
 signed-spec =
     tie.close
     (tie.spec
-    slice-aggregate-word
-    word-requires
+    (search needs) (search needs)
     sub-print-decimal
     cast-print-decimal
     add-print-decimal
-    print-decimal-requires
-    returns
+    (search needs) (λ c. search needs)
     cast-number
-    number-requires
-    returns-2)
+    (search needs) (λ c. search needs))

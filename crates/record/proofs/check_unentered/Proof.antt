@@ -17,16 +17,10 @@ use Rattle.board.proofs.Answered.{clues-few}
 use Rattle.record.proofs.check_unentered.Statement.{statement}
 use Rattle.record.proofs.check_unentered.Tie as tie
 
-count-clues-requires : tie.Need-count-clues-requires
-count-clues-requires c κs = search needs
-
 returns : tie.Need-returns
 returns c =
     let a = c .before .before .args in
     sym (cond-true (eqb (clueCount (givensOf (a .entries .now)) cells) 0) (gives tt) _ (eq-eqb (clueCount (givensOf (a .entries .now)) cells) 0 (omega (arith, c .before .count-clues .ensures, c .if1 .taken))))
-
-count-clues-requires-2 : tie.Need-count-clues-requires-2
-count-clues-requires-2 c κs = search needs
 
 -- at most a clue a cell
 few : (c : tie.After-count-clues2) → c .count-clues2 .result < 82
@@ -52,12 +46,4 @@ returns-2 c =
 
 pub check-unentered-spec : {M : Type 1} → statement M
 check-unentered-spec =
-    tie.close
-    (tie.spec
-    count-clues-requires
-    returns
-    count-clues-requires-2
-    mul-t5
-    add-t6
-    cast-t7
-    returns-2)
+    tie.close (tie.spec (search needs) returns (search needs) mul-t5 add-t6 cast-t7 returns-2)

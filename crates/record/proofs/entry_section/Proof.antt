@@ -11,21 +11,6 @@ use borrow.Author.Needs.{needs}
 use Rattle.record.proofs.entry_section.Statement.{statement}
 use Rattle.record.proofs.entry_section.Tie as tie
 
-enum-told : tie.Need-enum-told
-enum-told c = search needs
-
-enum-told-2 : tie.Need-enum-told-2
-enum-told-2 c = search needs
-
-givens-of-requires : tie.Need-givens-of-requires
-givens-of-requires c κs = search needs
-
-open-sets-requires : tie.Need-open-sets-requires
-open-sets-requires c κs = search needs
-
-read-section-requires : tie.Need-read-section-requires
-read-section-requires c κs = search needs
-
 returns : tie.Need-returns
 returns c =
     let s = c .before .before .before in
@@ -45,4 +30,7 @@ returns-2 c =
 pub entry-section-spec : {M : Type 1} → statement M
 entry-section-spec =
     tie.close
-    (tie.spec enum-told enum-told-2 givens-of-requires open-sets-requires read-section-requires returns returns-2)
+    (tie.spec
+    (search needs) (search needs) (λ c κs. search needs) (λ c κs. search needs) (λ c κs. search needs)
+    returns
+    returns-2)

@@ -6,21 +6,6 @@ use borrow.Author.Needs.{needs}
 use Rattle.record.proofs.move_back.Statement.{statement}
 use Rattle.record.proofs.move_back.Tie as tie
 
-read-in-requires : tie.Need-read-in-requires
-read-in-requires c κs = search needs
-
-check-unentered-requires : tie.Need-check-unentered-requires
-check-unentered-requires c κs = search needs
-
-then-requires : tie.Need-then-requires
-then-requires c κs = search needs
-
-write-checked-requires : tie.Need-write-checked-requires
-write-checked-requires c κs = search needs
-
-same-length : tie.Need-same-length
-same-length c = search needs
-
 returns : tie.Need-returns
 returns c =
     let w = c .before .before in
@@ -35,5 +20,4 @@ returns c =
 
 pub move-back-spec : {M : Type 1} → statement M
 move-back-spec =
-    tie.close
-    (tie.spec read-in-requires check-unentered-requires then-requires write-checked-requires same-length returns)
+    tie.close (tie.spec (search needs) (search needs) (search needs) (search needs) (search needs) returns)

@@ -6,15 +6,6 @@ use borrow.Author.Needs.{needs}
 use Rattle.record.proofs.move_record.Statement.{statement}
 use Rattle.record.proofs.move_record.Tie as tie
 
-read-in-requires : tie.Need-read-in-requires
-read-in-requires c κs = search needs
-
-write-checked-requires : tie.Need-write-checked-requires
-write-checked-requires c κs = search needs
-
-same-length : tie.Need-same-length
-same-length c = search needs
-
 returns : tie.Need-returns
 returns c =
     let w = c .before .before in
@@ -24,4 +15,4 @@ returns c =
 
 pub move-record-spec : {M : Type 1} → statement M
 move-record-spec =
-    tie.close (tie.spec read-in-requires write-checked-requires same-length returns)
+    tie.close (tie.spec (search needs) (search needs) (search needs) returns)

@@ -8,33 +8,12 @@ use borrow.Author.Needs.{needs}
 use Rattle.record.proofs.read_entered.Statement.{statement}
 use Rattle.record.proofs.read_entered.Tie as tie
 
-entry-section-requires : tie.Need-entry-section-requires
-entry-section-requires c κs = search needs
-
-enum-known-reading : tie.Need-enum-known-reading
-enum-known-reading c = search needs
-
-enum-told : tie.Need-enum-told
-enum-told c = search needs
-
-refused-requires : tie.Need-refused-requires
-refused-requires c κs = search needs
-
 returns : tie.Need-returns
 returns c =
     let is = c .before .enum-told .given .1 in
     let r = c .before .before .before in
     let a = r .before .before .before .before .args in
     refused-beside is (from-entered (a .form) (a .t2) (a .bytes .now) (a .start) (section-told is (r .entry-section .last .1 .1 .1 .1 .0) (r .entry-section .ensures))) (c .refused .ensures)
-
-digits-in-requires : tie.Need-digits-in-requires
-digits-in-requires c κs = search needs
-
-clues-from-requires : tie.Need-clues-from-requires
-clues-from-requires c κs = search needs
-
-read-removed-requires : tie.Need-read-removed-requires
-read-removed-requires c κs = search needs
 
 returns-2 : tie.Need-returns-2
 returns-2 c =
@@ -52,12 +31,7 @@ pub read-entered-spec : {M : Type 1} → statement M
 read-entered-spec =
     tie.close
     (tie.spec
-    entry-section-requires
-    enum-known-reading
-    enum-told
-    refused-requires
+    (search needs) (search needs) (search needs) (search needs)
     returns
-    digits-in-requires
-    clues-from-requires
-    read-removed-requires
+    (search needs) (search needs) (search needs)
     returns-2)

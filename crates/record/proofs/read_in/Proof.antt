@@ -8,33 +8,12 @@ use borrow.Author.Needs.{needs}
 use Rattle.record.proofs.read_in.Statement.{statement}
 use Rattle.record.proofs.read_in.Tie as tie
 
-read-section-requires : tie.Need-read-section-requires
-read-section-requires c κs = search needs
-
-enum-known-reading : tie.Need-enum-known-reading
-enum-known-reading c = search needs
-
-enum-told : tie.Need-enum-told
-enum-told c = search needs
-
-refused-requires : tie.Need-refused-requires
-refused-requires c κs = search needs
-
 returns : tie.Need-returns
 returns c =
     let is = c .before .enum-told .given .1 in
     let r = c .before .before .before in
     let a = r .before .before .before .before .args in
     refused-beside is (from-clues (a .form) (a .bytes .now) (section-told is (r .read-section .last .1 .1 .1 .1 .0) (r .read-section .ensures))) (c .refused .ensures)
-
-digits-in-requires : tie.Need-digits-in-requires
-digits-in-requires c κs = search needs
-
-clues-from-requires : tie.Need-clues-from-requires
-clues-from-requires c κs = search needs
-
-read-entered-requires : tie.Need-read-entered-requires
-read-entered-requires c κs = search needs
 
 returns-2 : tie.Need-returns-2
 returns-2 c =
@@ -52,12 +31,7 @@ pub read-in-spec : {M : Type 1} → statement M
 read-in-spec =
     tie.close
     (tie.spec
-    read-section-requires
-    enum-known-reading
-    enum-told
-    refused-requires
+    (search needs) (search needs) (search needs) (search needs)
     returns
-    digits-in-requires
-    clues-from-requires
-    read-entered-requires
+    (search needs) (search needs) (search needs)
     returns-2)

@@ -16,27 +16,6 @@ use borrow.Author.Needs.{needs}
 use Rattle.record.proofs.read_removed.Statement.{statement}
 use Rattle.record.proofs.read_removed.Tie as tie
 
-givens-of-requires : tie.Need-givens-of-requires
-givens-of-requires c κs = search needs
-
-fresh-masks-requires : tie.Need-fresh-masks-requires
-fresh-masks-requires c κs = search needs
-
-open-sets-requires : tie.Need-open-sets-requires
-open-sets-requires c κs = search needs
-
-read-section-requires : tie.Need-read-section-requires
-read-section-requires c κs = search needs
-
-enum-known-reading : tie.Need-enum-known-reading
-enum-known-reading c = search needs
-
-enum-told : tie.Need-enum-told
-enum-told c = search needs
-
-refused-requires : tie.Need-refused-requires
-refused-requires c κs = search needs
-
 -- where the function began
 start : (c : tie.After-read-section) → tie.Start
 start c = c .before .before .before .before .before .before .before .before .before .before .before .before
@@ -67,12 +46,6 @@ returns c =
     let a = start r .args in
     refused-beside is (from-removed (a .t1) (a .t2) (a .bytes .now) (a .start) (section-told is (r .read-section .last .1 .1 .1 .1 .0) (is-section r))) (c .refused .ensures)
 
-cast-t26 : tie.Need-cast-t26
-cast-t26 c = search needs
-
-refused-requires-2 : tie.Need-refused-requires-2
-refused-requires-2 c κs = search needs
-
 returns-2 : tie.Need-returns-2
 unfolding start
 returns-2 c =
@@ -83,9 +56,6 @@ returns-2 c =
     (placed RecordBytes (omega (arith, start r .good .1 .1 .0 .1))
     ∙ removed-over (a .t1) (a .t2) (a .bytes .now) (a .start) (section-told (t .reading .given .1) (r .read-section .last .1 .1 .1 .1 .0) (is-section r)) (c .before .if1 .taken))
     (c .refused2 .ensures)
-
-lacking-sets-requires : tie.Need-lacking-sets-requires
-lacking-sets-requires c κs = search needs
 
 returns-3 : tie.Need-returns-3
 unfolding start
@@ -104,16 +74,9 @@ pub read-removed-spec : {M : Type 1} → statement M
 read-removed-spec =
     tie.close
     (tie.spec
-    givens-of-requires
-    fresh-masks-requires
-    open-sets-requires
-    read-section-requires
-    enum-known-reading
-    enum-told
-    refused-requires
+    (search needs) (search needs) (search needs) (search needs) (search needs) (search needs) (search needs)
     returns
-    cast-t26
-    refused-requires-2
+    (search needs) (search needs)
     returns-2
-    lacking-sets-requires
+    (search needs)
     returns-3)

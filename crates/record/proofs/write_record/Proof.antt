@@ -10,15 +10,6 @@ use borrow.Author.Needs.{needs}
 use Rattle.record.proofs.write_record.Statement.{statement}
 use Rattle.record.proofs.write_record.Tie as tie
 
-check-requires : tie.Need-check-requires
-check-requires c κs = search needs
-
-write-checked-requires : tie.Need-write-checked-requires
-write-checked-requires c κs = search needs
-
-same-length : tie.Need-same-length
-same-length c = search needs
-
 returns : tie.Need-returns
 unfolding writeOf
 returns c =
@@ -31,4 +22,4 @@ returns c =
 
 pub write-record-spec : {M : Type 1} → statement M
 write-record-spec =
-    tie.close (tie.spec check-requires write-checked-requires same-length returns)
+    tie.close (tie.spec (search needs) (search needs) (search needs) returns)

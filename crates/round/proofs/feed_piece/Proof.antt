@@ -29,33 +29,6 @@ goes c =
     let used = cuts-say .used (l .loop .now) rest more in
     (omega (arith, is, used .0), omega (arith, is, size, used .1, l .loop .inv))
 
-loop-holds : tie.Need-loop-holds Inv-loop μ-loop
-loop-holds c = omega arith
-
-sub-feed : tie.Need-sub-feed Inv-loop μ-loop
-sub-feed c = omega arith
-
-part-feed-start : tie.Need-part-feed-start Inv-loop μ-loop
-part-feed-start c = omega arith
-
-part-feed-end : tie.Need-part-feed-end Inv-loop μ-loop
-part-feed-end c = omega arith
-
-feed-requires : tie.Need-feed-requires Inv-loop μ-loop
-feed-requires c κs = search needs
-
-sub-hand-out : tie.Need-sub-hand-out Inv-loop μ-loop
-sub-hand-out c = omega arith
-
-part-hand-out-start : tie.Need-part-hand-out-start Inv-loop μ-loop
-part-hand-out-start c = omega arith
-
-part-hand-out-end : tie.Need-part-hand-out-end Inv-loop μ-loop
-part-hand-out-end c = omega arith
-
-hand-out-requires : tie.Need-hand-out-requires Inv-loop μ-loop
-hand-out-requires c κs = search needs
-
 add-at : tie.Need-add-at Inv-loop μ-loop
 add-at c = omega (arith, goes (c .before .before .before .before .before) .1)
 
@@ -65,25 +38,15 @@ loop-less c = omega (arith, goes (c .before .before .before .before .before) .0,
 loop-again : tie.Need-loop-again Inv-loop μ-loop
 loop-again c = omega (arith, goes (c .before .before .before .before .before) .1)
 
-returns : tie.Need-returns Inv-loop μ-loop
-returns c = search needs
-
 pub feed-piece-spec : {M : Type 1} → statement M
 feed-piece-spec =
     tie.close
     (tie.spec
     Inv-loop
     μ-loop
-    loop-holds
-    sub-feed
-    part-feed-start
-    part-feed-end
-    feed-requires
-    sub-hand-out
-    part-hand-out-start
-    part-hand-out-end
-    hand-out-requires
+    (λ c. omega arith) (λ c. omega arith) (λ c. omega arith) (λ c. omega arith) (search needs) (λ c. omega arith)
+    (λ c. omega arith) (λ c. omega arith) (search needs)
     add-at
     loop-less
     loop-again
-    returns)
+    (λ c. search needs))

@@ -11,15 +11,6 @@ slice-aggregate-write-all c =
     let a = e .before .before .args in
     sym (length-take-le (a .count) (a .bytes .now) (e .if1 .taken))
 
-write-all-requires : tie.Need-write-all-requires
-write-all-requires c κs = search needs
-
-returns : tie.Need-returns
-returns c = search needs
-
-returns-2 : tie.Need-returns-2
-returns-2 c = search needs
-
 pub write-first-spec : {M : Type 1} → statement M
 write-first-spec =
-    tie.close (tie.spec slice-aggregate-write-all write-all-requires returns returns-2)
+    tie.close (tie.spec slice-aggregate-write-all (search needs) (λ c. search needs) (λ c. search needs))

@@ -9,24 +9,6 @@ use borrow.Author.Needs.{needs}
 use Rattle.scorecard.proofs.main.Statement.{statement}
 use Rattle.scorecard.proofs.main.Tie as tie
 
-buffer-requires : tie.Need-buffer-requires
-buffer-requires c κs = search needs
-
-slice-aggregate-read-full : tie.Need-slice-aggregate-read-full
-slice-aggregate-read-full c = search needs
-
-read-full-requires : tie.Need-read-full-requires
-read-full-requires c κs = search needs
-
-array-share-prefix-input : tie.Need-array-share-prefix-input
-array-share-prefix-input c = search needs
-
-slice-aggregate-print : tie.Need-slice-aggregate-print
-slice-aggregate-print c = search needs
-
-print-requires : tie.Need-print-requires
-print-requires c κs = search needs
-
 -- the lent bytes are as many as before
 within : (c : tie.After-print) → c .print .result ≤ length (c .print .last .1 .0)
 within c = omega (arith, c .print .ensures .2, simp over-length at (ap length (c .print .ensures .1)))
@@ -39,23 +21,11 @@ slice-aggregate-write-all c =
     let p = c .before in
     sym (length-take-le (p .print .result) (p .print .last .1 .0) (within p))
 
-write-all-requires : tie.Need-write-all-requires
-write-all-requires c κs = search needs
-
-returns : tie.Need-returns
-returns c = search needs
-
 pub main-spec : {M : Type 1} → statement M
 main-spec =
     tie.close
     (tie.spec
-    buffer-requires
-    slice-aggregate-read-full
-    read-full-requires
-    array-share-prefix-input
-    slice-aggregate-print
-    print-requires
+    (search needs) (search needs) (search needs) (search needs) (search needs) (search needs)
     array-share-prefix-out
     slice-aggregate-write-all
-    write-all-requires
-    returns)
+    (search needs) (λ c. search needs))

@@ -12,18 +12,6 @@ use borrow.Author.Needs.{needs}
 use Rattle.scorecard.proofs.print.Statement.{statement}
 use Rattle.scorecard.proofs.print.Tie as tie
 
-write-card-requires : tie.Need-write-card-requires
-write-card-requires c κs = search needs
-
-enum-known-answer : tie.Need-enum-known-answer
-enum-known-answer c = search needs
-
-enum-told : tie.Need-enum-told
-enum-told c = search needs
-
-write-refusal-requires : tie.Need-write-refusal-requires
-write-refusal-requires c κs = search needs
-
 returns : tie.Need-returns
 returns c =
     let told = c .before .before in
@@ -45,11 +33,4 @@ returns-2 c =
 
 pub print-spec : {M : Type 1} → statement M
 print-spec =
-    tie.close
-    (tie.spec
-    write-card-requires
-    enum-known-answer
-    enum-told
-    write-refusal-requires
-    returns
-    returns-2)
+    tie.close (tie.spec (search needs) (search needs) (search needs) (search needs) returns returns-2)

@@ -13,12 +13,6 @@ use Rattle.steps.specs.StepLists.{stepsIn}
 use Rattle.step_lists.proofs.check_count.Statement.{statement}
 use Rattle.step_lists.proofs.check_count.Tie as tie
 
-count-steps-requires : tie.Need-count-steps-requires
-count-steps-requires c κs = search needs
-
-cast-t4 : tie.Need-cast-t4
-cast-t4 c = search needs
-
 returns : tie.Need-returns
 returns c =
     let n = stepsIn (c .before .before .args .bytes) in
@@ -31,4 +25,5 @@ returns-2 c =
     sym (cond-true (leb n 729) (gives tt) (stop (TooManySteps (pos n))) (le-leb n 729 (omega (arith, c .before .count-steps .ensures, c .if1 .left))))
 
 pub check-count-spec : {M : Type 1} → statement M
-check-count-spec = tie.close (tie.spec count-steps-requires cast-t4 returns returns-2)
+check-count-spec =
+    tie.close (tie.spec (search needs) (search needs) returns returns-2)

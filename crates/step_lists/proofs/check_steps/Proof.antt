@@ -8,21 +8,6 @@ use Rattle.step_lists.proofs.Checks.{as-it-was, came-back, checked, fro
 use Rattle.step_lists.proofs.check_steps.Statement.{statement}
 use Rattle.step_lists.proofs.check_steps.Tie as tie
 
-check-requires : tie.Need-check-requires
-check-requires c κs = search needs
-
-check-count-requires : tie.Need-check-count-requires
-check-count-requires c κs = search needs
-
-then-requires : tie.Need-then-requires
-then-requires c κs = search needs
-
-enum-told : tie.Need-enum-told
-enum-told c = search needs
-
-enum-told-2 : tie.Need-enum-told-2
-enum-told-2 c = search needs
-
 returns : tie.Need-returns
 returns c =
     let a = c .before .before .before .before .before .before .before .before .before .before .before .before .args in
@@ -33,12 +18,6 @@ returns c =
     let e = refused-before b bs first done (c .enum-told2 .given .1) b in
     record { answer = e; board = as-it-was b first ∙ ap (valueOr b) e }
 
-givens-of-requires : tie.Need-givens-of-requires
-givens-of-requires c κs = search needs
-
-fresh-masks-requires : tie.Need-fresh-masks-requires
-fresh-masks-requires c κs = search needs
-
 follow-steps-requires : tie.Need-follow-steps-requires
 follow-steps-requires c κs =
     let a = c .before .before .before .before .before .before .before .before .before .before .before .before .before .before .before .before .before .before .args in
@@ -47,12 +26,6 @@ follow-steps-requires c κs =
     let first = c .before .before .before .before .before .before .before .before .then .result in
     let done = checked b bs (c .before .before .before .before .before .before .before .before .before .before .check .result) (c .before .before .before .before .before .before .before .before .before .check-count .result) first (c .before .before .before .before .before .before .before .before .then .ensures) (c .before .before .before .before .before .before .before .before .before .before .check .ensures) (c .before .before .before .before .before .before .before .before .before .check-count .ensures) in
     few-steps b bs first done (c .before .before .before .before .before .before .enum-told .given .1)
-
-enum-told-3 : tie.Need-enum-told-3
-enum-told-3 c = search needs
-
-enum-told-4 : tie.Need-enum-told-4
-enum-told-4 c = search needs
 
 returns-2 : tie.Need-returns-2
 returns-2 c =
@@ -82,16 +55,10 @@ pub check-steps-spec : {M : Type 1} → statement M
 check-steps-spec =
     tie.close
     (tie.spec
-    check-requires
-    check-count-requires
-    then-requires
-    enum-told
-    enum-told-2
+    (search needs) (search needs) (search needs) (search needs) (search needs)
     returns
-    givens-of-requires
-    fresh-masks-requires
+    (search needs) (search needs)
     follow-steps-requires
-    enum-told-3
-    enum-told-4
+    (search needs) (search needs)
     returns-2
     returns-3)

@@ -25,9 +25,6 @@ Inv-loop givens start steps count masks₀ index₀ masks index =
 abbrev μ-loop : tie.MeasureT-loop
 μ-loop givens start steps count masks₀ index₀ masks index = count - index
 
-count-steps-requires : tie.Need-count-steps-requires Inv-loop μ-loop
-count-steps-requires c κs = search needs
-
 -- at most 729 steps
 few : (c : tie.After-count-steps Inv-loop μ-loop) → c .count-steps .result ≤ 729
 few c = omega (arith, c .count-steps .ensures, c .before .before .pre)
@@ -42,9 +39,6 @@ mul-take-at c = omega (arith, few (c .before .before .before))
 
 take-at-requires : tie.Need-take-at-requires Inv-loop μ-loop
 take-at-requires c κs = omega (arith, few (c .before .before .before))
-
-changed-requires : tie.Need-changed-requires Inv-loop μ-loop
-changed-requires c κs = search needs
 
 cast-t15 : tie.Need-cast-t15 Inv-loop μ-loop
 cast-t15 c = omega (arith, few (c .before .before .before .before .before .before))
@@ -61,9 +55,6 @@ returns c =
 
 add-index : tie.Need-add-index Inv-loop μ-loop
 add-index c = omega (arith, few (c .before .before .before .before .before .before))
-
-loop-less : tie.Need-loop-less Inv-loop μ-loop
-loop-less c = omega arith
 
 loop-again : tie.Need-loop-again Inv-loop μ-loop
 loop-again c =
@@ -88,14 +79,14 @@ follow-steps-spec =
     (tie.spec
     Inv-loop
     μ-loop
-    count-steps-requires
+    (search needs)
     loop-holds
     mul-take-at
     take-at-requires
-    changed-requires
+    (search needs)
     cast-t15
     returns
     add-index
-    loop-less
+    (λ c. omega arith)
     loop-again
     returns-2)

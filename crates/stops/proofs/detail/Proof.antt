@@ -13,89 +13,8 @@ use Rattle.stops.proofs.detail.Tie as tie
 beside : {s t : Stop} {y z : ℤ} → s ≡ t → y ≡ z → rowOf t .detail ≡ z → y ≡ rowOf s .detail
 beside is back row = back ∙ sym row ∙ sym (ap (λ (s : Stop). rowOf s .detail) is)
 
-enum-known-stop : tie.Need-enum-known-stop
-enum-known-stop c = search needs
-
-enum-known-stop-2 : tie.Need-enum-known-stop-2
-enum-known-stop-2 c = search needs
-
-enum-known-stop-3 : tie.Need-enum-known-stop-3
-enum-known-stop-3 c = search needs
-
-enum-known-stop-4 : tie.Need-enum-known-stop-4
-enum-known-stop-4 c = search needs
-
 cast-result : tie.Need-cast-result
 cast-result c = widens {z = c .before .stop4 .given .0 .0} (record { sfits = c .known-told4 .given .0 .1 })
-
-enum-known-stop-5 : tie.Need-enum-known-stop-5
-enum-known-stop-5 c = search needs
-
-cast-result-2 : tie.Need-cast-result-2
-cast-result-2 c = search needs
-
-enum-known-stop-6 : tie.Need-enum-known-stop-6
-enum-known-stop-6 c = search needs
-
-enum-known-stop-7 : tie.Need-enum-known-stop-7
-enum-known-stop-7 c = search needs
-
-enum-known-stop-8 : tie.Need-enum-known-stop-8
-enum-known-stop-8 c = search needs
-
-enum-known-stop-9 : tie.Need-enum-known-stop-9
-enum-known-stop-9 c = search needs
-
-enum-known-stop-10 : tie.Need-enum-known-stop-10
-enum-known-stop-10 c = search needs
-
-enum-known-stop-11 : tie.Need-enum-known-stop-11
-enum-known-stop-11 c = search needs
-
-enum-known-stop-12 : tie.Need-enum-known-stop-12
-enum-known-stop-12 c = search needs
-
-enum-known-stop-13 : tie.Need-enum-known-stop-13
-enum-known-stop-13 c = search needs
-
-enum-known-stop-14 : tie.Need-enum-known-stop-14
-enum-known-stop-14 c = search needs
-
-cast-result-3 : tie.Need-cast-result-3
-cast-result-3 c = search needs
-
-enum-known-stop-15 : tie.Need-enum-known-stop-15
-enum-known-stop-15 c = search needs
-
-cast-result-4 : tie.Need-cast-result-4
-cast-result-4 c = search needs
-
-enum-known-stop-16 : tie.Need-enum-known-stop-16
-enum-known-stop-16 c = search needs
-
-cast-result-5 : tie.Need-cast-result-5
-cast-result-5 c = search needs
-
-enum-known-stop-17 : tie.Need-enum-known-stop-17
-enum-known-stop-17 c = search needs
-
-enum-known-stop-18 : tie.Need-enum-known-stop-18
-enum-known-stop-18 c = search needs
-
-enum-known-stop-19 : tie.Need-enum-known-stop-19
-enum-known-stop-19 c = search needs
-
-enum-known-stop-20 : tie.Need-enum-known-stop-20
-enum-known-stop-20 c = search needs
-
-cast-result-6 : tie.Need-cast-result-6
-cast-result-6 c = search needs
-
-enum-told : tie.Need-enum-told
-enum-told c = search needs
-
-enum-told-2 : tie.Need-enum-told-2
-enum-told-2 c = search needs
 
 returns : tie.Need-returns
 returns c = beside (c .before .stop .given .1) (search needs) refl
@@ -167,34 +86,12 @@ pub detail-spec : {M : Type 1} → statement M
 detail-spec =
     tie.close
     (tie.spec
-    enum-known-stop
-    enum-known-stop-2
-    enum-known-stop-3
-    enum-known-stop-4
+    (search needs) (search needs) (search needs) (search needs)
     cast-result
-    enum-known-stop-5
-    cast-result-2
-    enum-known-stop-6
-    enum-known-stop-7
-    enum-known-stop-8
-    enum-known-stop-9
-    enum-known-stop-10
-    enum-known-stop-11
-    enum-known-stop-12
-    enum-known-stop-13
-    enum-known-stop-14
-    cast-result-3
-    enum-known-stop-15
-    cast-result-4
-    enum-known-stop-16
-    cast-result-5
-    enum-known-stop-17
-    enum-known-stop-18
-    enum-known-stop-19
-    enum-known-stop-20
-    cast-result-6
-    enum-told
-    enum-told-2
+    (search needs) (search needs) (search needs) (search needs) (search needs) (search needs) (search needs)
+    (search needs) (search needs) (search needs) (search needs) (search needs) (search needs) (search needs)
+    (search needs) (search needs) (search needs) (search needs) (search needs) (search needs) (search needs)
+    (search needs) (search needs)
     returns
     returns-2
     returns-3

@@ -6,12 +6,6 @@ use Rattle.stops.specs.declared.Check.{Check}
 use Rattle.stops.proofs.written.Statement.{statement}
 use Rattle.stops.proofs.written.Tie as tie
 
-enum-known-check : tie.Need-enum-known-check
-enum-known-check c = search needs
-
-enum-told : tie.Need-enum-told
-enum-told c = search needs
-
 returns : tie.Need-returns
 returns c =
     let n = c .before .before .before .args .count in
@@ -23,4 +17,5 @@ returns-2 c =
     ap (λ (k : Check). passing (checkAnswer k) n) (sym (c .enum-told .given .1))
 
 pub written-spec : {M : Type 1} → statement M
-written-spec = tie.close (tie.spec enum-known-check enum-told returns returns-2)
+written-spec =
+    tie.close (tie.spec (search needs) (search needs) returns returns-2)

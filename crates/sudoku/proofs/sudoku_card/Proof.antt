@@ -14,9 +14,6 @@ use Rattle.sudoku.specs.code.Fitting.{Fitting}
 use Rattle.sudoku.proofs.sudoku_card.Statement.{statement}
 use Rattle.sudoku.proofs.sudoku_card.Tie as tie
 
-write-card-requires : tie.Need-write-card-requires
-write-card-requires c κs = search needs
-
 of-writing-requires : tie.Need-of-writing-requires
 of-writing-requires c κs = subst (λ (x : Answer ℕ). Fitting (map pos x)) (sym (c .write-card .ensures .0)) (card-fits (c .before .before .before .args .input .now))
 
@@ -28,4 +25,5 @@ returns c =
     (c .of-writing .ensures ∙ ap (λ (a : Answer ℕ). coded (map pos a) 0) (e .0) ∙ ap (λ (a : Answer ℤ). coded a 0) (map-map pos (λ (card : Card). length (cardBytes card)) a), e .1)
 
 pub sudoku-card-spec : {M : Type 1} → statement M
-sudoku-card-spec = tie.close (tie.spec write-card-requires of-writing-requires returns)
+sudoku-card-spec =
+    tie.close (tie.spec (search needs) of-writing-requires returns)

@@ -9,15 +9,6 @@ use Rattle.sudoku.proofs.Cases.{coded-value, kept-part}
 use Rattle.sudoku.proofs.sudoku_check_steps.Statement.{statement}
 use Rattle.sudoku.proofs.sudoku_check_steps.Tie as tie
 
-check-steps-requires : tie.Need-check-steps-requires
-check-steps-requires c κs = search needs
-
-of-check-requires : tie.Need-of-check-requires
-of-check-requires c κs = search needs
-
-put-masks-requires : tie.Need-put-masks-requires
-put-masks-requires c κs = search needs
-
 returns : tie.Need-returns
 returns c =
     let o = c .before .before .before in
@@ -30,4 +21,4 @@ returns c =
 
 pub sudoku-check-steps-spec : {M : Type 1} → statement M
 sudoku-check-steps-spec =
-    tie.close (tie.spec check-steps-requires of-check-requires put-masks-requires returns)
+    tie.close (tie.spec (search needs) (search needs) (search needs) returns)

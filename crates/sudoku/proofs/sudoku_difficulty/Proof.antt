@@ -8,9 +8,6 @@ use Rattle.sudoku.proofs.FigureParts.{figure-fits}
 use Rattle.sudoku.proofs.sudoku_difficulty.Statement.{statement}
 use Rattle.sudoku.proofs.sudoku_difficulty.Tie as tie
 
-difficulty-requires : tie.Need-difficulty-requires
-difficulty-requires c κs = search needs
-
 of-rating-requires : tie.Need-of-rating-requires
 of-rating-requires c κs =
     let a = c .before .before .before .before .args in
@@ -20,4 +17,5 @@ returns : tie.Need-returns
 returns c = c .of-rating .ensures ∙ ap figureCode (c .before .difficulty .ensures)
 
 pub sudoku-difficulty-spec : {M : Type 1} → statement M
-sudoku-difficulty-spec = tie.close (tie.spec difficulty-requires of-rating-requires returns)
+sudoku-difficulty-spec =
+    tie.close (tie.spec (search needs) of-rating-requires returns)

@@ -10,12 +10,6 @@ use Rattle.sudoku.proofs.Pencilled.{pencil-put}
 use Rattle.sudoku.proofs.sudoku_enter.Statement.{statement}
 use Rattle.sudoku.proofs.sudoku_enter.Tie as tie
 
-enter-requires : tie.Need-enter-requires
-enter-requires c κs = search needs
-
-put-pencilled-requires : tie.Need-put-pencilled-requires
-put-pencilled-requires c κs = search needs
-
 returns : tie.Need-returns
 returns c =
     let d = c .before .before .before .before in
@@ -26,4 +20,5 @@ returns c =
     pencil-put (enter (a .cell) (a .digit)) b r (subst (λ (z : ℤ). Enters (enter (a .cell) z) b r) (toZ-ofZ (s .fits .digit)) (d .enter .ensures)) (c .put-pencilled .ensures)
 
 pub sudoku-enter-spec : {M : Type 1} → statement M
-sudoku-enter-spec = tie.close (tie.spec enter-requires put-pencilled-requires returns)
+sudoku-enter-spec =
+    tie.close (tie.spec (search needs) (search needs) returns)

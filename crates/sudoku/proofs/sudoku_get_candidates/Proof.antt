@@ -8,15 +8,6 @@ use Rattle.sudoku.specs.Codes.{coded, noNumber}
 use Rattle.sudoku.proofs.sudoku_get_candidates.Statement.{statement}
 use Rattle.sudoku.proofs.sudoku_get_candidates.Tie as tie
 
-get-candidates-requires : tie.Need-get-candidates-requires
-get-candidates-requires c κs = search needs
-
-of-check-requires : tie.Need-of-check-requires
-of-check-requires c κs = search needs
-
-put-masks-requires : tie.Need-put-masks-requires
-put-masks-requires c κs = search needs
-
 returns : tie.Need-returns
 returns c =
     let o = c .before .before .before in
@@ -27,4 +18,4 @@ returns c =
 
 pub sudoku-get-candidates-spec : {M : Type 1} → statement M
 sudoku-get-candidates-spec =
-    tie.close (tie.spec get-candidates-requires of-check-requires put-masks-requires returns)
+    tie.close (tie.spec (search needs) (search needs) (search needs) returns)

@@ -12,17 +12,11 @@ use Rattle.sudoku.proofs.Fitting.{move-fits}
 use Rattle.sudoku.proofs.sudoku_move_record.Statement.{statement}
 use Rattle.sudoku.proofs.sudoku_move_record.Tie as tie
 
-move-either-requires : tie.Need-move-either-requires
-move-either-requires c κs = search needs
-
 of-writing-requires : tie.Need-of-writing-requires
 of-writing-requires c κs =
     let w = c .before .before in
     let a = w .before .before .before .before .args in
     subst (λ (x : Answer ℕ). Fitting (map pos x)) (sym (w .move-either .ensures .0)) (move-fits (movedFrom (a .back)) (a .bytes .now) (length (a .moved .now)))
-
-same-length : tie.Need-same-length
-same-length c = search needs
 
 returns : tie.Need-returns
 returns c =
@@ -31,4 +25,4 @@ returns c =
 
 pub sudoku-move-record-spec : {M : Type 1} → statement M
 sudoku-move-record-spec =
-    tie.close (tie.spec move-either-requires of-writing-requires same-length returns)
+    tie.close (tie.spec (search needs) of-writing-requires (search needs) returns)

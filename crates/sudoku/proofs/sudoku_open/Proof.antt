@@ -10,18 +10,6 @@ use Rattle.sudoku.proofs.Cases.{coded-value, kept-part}
 use Rattle.sudoku.proofs.sudoku_open.Statement.{statement}
 use Rattle.sudoku.proofs.sudoku_open.Tie as tie
 
-new-requires : tie.Need-new-requires
-new-requires c κs = search needs
-
-clue-number-requires : tie.Need-clue-number-requires
-clue-number-requires c κs = search needs
-
-of-check-requires : tie.Need-of-check-requires
-of-check-requires c κs = search needs
-
-put-masks-requires : tie.Need-put-masks-requires
-put-masks-requires c κs = search needs
-
 returns : tie.Need-returns
 returns c =
     let o = c .before .before .before in
@@ -36,5 +24,4 @@ returns c =
 
 pub sudoku-open-spec : {M : Type 1} → statement M
 sudoku-open-spec =
-    tie.close
-    (tie.spec new-requires clue-number-requires of-check-requires put-masks-requires returns)
+    tie.close (tie.spec (search needs) (search needs) (search needs) (search needs) returns)

@@ -8,15 +8,6 @@ use Rattle.sudoku.specs.Codes.{coded, noNumber}
 use Rattle.sudoku.proofs.sudoku_original_puzzle.Statement.{statement}
 use Rattle.sudoku.proofs.sudoku_original_puzzle.Tie as tie
 
-original-puzzle-requires : tie.Need-original-puzzle-requires
-original-puzzle-requires c κs = search needs
-
-of-check-requires : tie.Need-of-check-requires
-of-check-requires c κs = search needs
-
-put-clues-requires : tie.Need-put-clues-requires
-put-clues-requires c κs = search needs
-
 returns : tie.Need-returns
 returns c =
     let o = c .before .before .before in
@@ -27,4 +18,4 @@ returns c =
 
 pub sudoku-original-puzzle-spec : {M : Type 1} → statement M
 sudoku-original-puzzle-spec =
-    tie.close (tie.spec original-puzzle-requires of-check-requires put-clues-requires returns)
+    tie.close (tie.spec (search needs) (search needs) (search needs) returns)

@@ -10,24 +10,6 @@ use Rattle.sudoku.proofs.Cases.{coded-value, kept-part}
 use Rattle.sudoku.proofs.sudoku_read_record.Statement.{statement}
 use Rattle.sudoku.proofs.sudoku_read_record.Tie as tie
 
-read-record-requires : tie.Need-read-record-requires
-read-record-requires c κs = search needs
-
-clue-number-requires : tie.Need-clue-number-requires
-clue-number-requires c κs = search needs
-
-of-check-requires : tie.Need-of-check-requires
-of-check-requires c κs = search needs
-
-put-clues-requires : tie.Need-put-clues-requires
-put-clues-requires c κs = search needs
-
-put-clues-requires-2 : tie.Need-put-clues-requires-2
-put-clues-requires-2 c κs = search needs
-
-put-masks-requires : tie.Need-put-masks-requires
-put-masks-requires c κs = search needs
-
 returns : tie.Need-returns
 returns c =
     let entered = c .before .before .before in
@@ -49,10 +31,5 @@ pub sudoku-read-record-spec : {M : Type 1} → statement M
 sudoku-read-record-spec =
     tie.close
     (tie.spec
-    read-record-requires
-    clue-number-requires
-    of-check-requires
-    put-clues-requires
-    put-clues-requires-2
-    put-masks-requires
+    (search needs) (search needs) (search needs) (search needs) (search needs) (search needs)
     returns)

@@ -6,12 +6,6 @@ use Rattle.sudoku.proofs.Pencilled.{pencil-put}
 use Rattle.sudoku.proofs.sudoku_rub_out.Statement.{statement}
 use Rattle.sudoku.proofs.sudoku_rub_out.Tie as tie
 
-rub-out-requires : tie.Need-rub-out-requires
-rub-out-requires c κs = search needs
-
-put-pencilled-requires : tie.Need-put-pencilled-requires
-put-pencilled-requires c κs = search needs
-
 returns : tie.Need-returns
 returns c =
     let d = c .before .before .before .before in
@@ -19,4 +13,5 @@ returns c =
     pencil-put (rubOut (a .cell)) (handed (a .clues .now) (a .entries .now) (a .masks .now)) (d .rub-out .result) (d .rub-out .ensures) (c .put-pencilled .ensures)
 
 pub sudoku-rub-out-spec : {M : Type 1} → statement M
-sudoku-rub-out-spec = tie.close (tie.spec rub-out-requires put-pencilled-requires returns)
+sudoku-rub-out-spec =
+    tie.close (tie.spec (search needs) (search needs) returns)

@@ -10,17 +10,11 @@ use Rattle.sudoku.specs.code.Parts.{RunFits}
 use Rattle.sudoku.proofs.sudoku_run.Statement.{statement}
 use Rattle.sudoku.proofs.sudoku_run.Tie as tie
 
-replay-requires : tie.Need-replay-requires
-replay-requires c κs = search needs
-
 of-replaying-requires : tie.Need-of-replaying-requires
 of-replaying-requires c κs =
     let r = c .before in
     let a = r .before .before .before .before .args in
     subst RunFits (sym (r .replay .ensures .answer)) (replay-fits (a .clues .now) (a .entries .now) (a .steps .now) (omega arith))
-
-put-run-requires : tie.Need-put-run-requires
-put-run-requires c κs = search needs
 
 returns : tie.Need-returns
 returns c =
@@ -31,4 +25,4 @@ returns c =
 
 pub sudoku-run-spec : {M : Type 1} → statement M
 sudoku-run-spec =
-    tie.close (tie.spec replay-requires of-replaying-requires put-run-requires returns)
+    tie.close (tie.spec (search needs) of-replaying-requires (search needs) returns)

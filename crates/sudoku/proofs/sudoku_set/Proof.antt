@@ -6,13 +6,11 @@ use Rattle.sudoku.specs.Sets.{setCall}
 use Rattle.sudoku.proofs.sudoku_set.Statement.{statement}
 use Rattle.sudoku.proofs.sudoku_set.Tie as tie
 
-set-call-requires : tie.Need-set-call-requires
-set-call-requires c κs = search needs
-
 returns : tie.Need-returns
 returns c =
     let s = c .before in
     c .set-call .ensures ∙ ap (setCall (s .args .call) (s .args .mask)) (toZ-ofZ (s .fits .digit))
 
 pub sudoku-set-spec : {M : Type 1} → statement M
-sudoku-set-spec = tie.close (tie.spec set-call-requires returns)
+sudoku-set-spec =
+    tie.close (tie.spec (search needs) returns)

@@ -9,12 +9,6 @@ use Rattle.sudoku.specs.Codes.{coded}
 use Rattle.sudoku.proofs.sudoku_trial_round.Statement.{statement}
 use Rattle.sudoku.proofs.sudoku_trial_round.Tie as tie
 
-trial-round-requires : tie.Need-trial-round-requires
-trial-round-requires c κs = search needs
-
-put-grid-requires : tie.Need-put-grid-requires
-put-grid-requires c κs = search needs
-
 returns : tie.Need-returns
 returns c =
     let p = c .before .before .before .before .before in
@@ -23,4 +17,5 @@ returns c =
     (w .0 ∙ ap (λ (a : Answer (List ℤ)). coded (map clueNumber a) 0) e, w .1 ∙ ap (valueOr (p .before .args .clues .now)) e)
 
 pub sudoku-trial-round-spec : {M : Type 1} → statement M
-sudoku-trial-round-spec = tie.close (tie.spec trial-round-requires put-grid-requires returns)
+sudoku-trial-round-spec =
+    tie.close (tie.spec (search needs) (search needs) returns)

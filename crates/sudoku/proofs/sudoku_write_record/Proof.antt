@@ -12,17 +12,11 @@ use Rattle.sudoku.specs.code.Fitting.{Fitting}
 use Rattle.sudoku.proofs.sudoku_write_record.Statement.{statement}
 use Rattle.sudoku.proofs.sudoku_write_record.Tie as tie
 
-write-record-requires : tie.Need-write-record-requires
-write-record-requires c κs = search needs
-
 of-writing-requires : tie.Need-of-writing-requires
 of-writing-requires c κs =
     let w = c .before .before in
     let a = w .before .before .before .before .before .before .args in
     subst (λ (x : Answer ℕ). Fitting (map pos x)) (sym (w .write-record .ensures .0)) (record-fits (handed (a .clues .now) (a .entries .now) (a .masks .now)) (length (a .bytes .now)))
-
-same-length : tie.Need-same-length
-same-length c = search needs
 
 returns : tie.Need-returns
 returns c =
@@ -31,4 +25,4 @@ returns c =
 
 pub sudoku-write-record-spec : {M : Type 1} → statement M
 sudoku-write-record-spec =
-    tie.close (tie.spec write-record-requires of-writing-requires same-length returns)
+    tie.close (tie.spec (search needs) of-writing-requires (search needs) returns)

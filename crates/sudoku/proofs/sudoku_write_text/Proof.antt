@@ -12,17 +12,11 @@ use Rattle.sudoku.specs.code.Fitting.{Fitting}
 use Rattle.sudoku.proofs.sudoku_write_text.Statement.{statement}
 use Rattle.sudoku.proofs.sudoku_write_text.Tie as tie
 
-write-text-requires : tie.Need-write-text-requires
-write-text-requires c κs = search needs
-
 of-writing-requires : tie.Need-of-writing-requires
 of-writing-requires c κs =
     let w = c .before .before in
     let a = w .before .before .before .args in
     subst (λ (x : Answer ℕ). Fitting (map pos x)) (sym (w .write-text .ensures .0)) (text-fits 81 (a .clues .now) (length (a .text .now)) (omega arith))
-
-same-length : tie.Need-same-length
-same-length c = search needs
 
 returns : tie.Need-returns
 returns c =
@@ -31,4 +25,4 @@ returns c =
 
 pub sudoku-write-text-spec : {M : Type 1} → statement M
 sudoku-write-text-spec =
-    tie.close (tie.spec write-text-requires of-writing-requires same-length returns)
+    tie.close (tie.spec (search needs) of-writing-requires (search needs) returns)

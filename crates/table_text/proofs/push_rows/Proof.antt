@@ -33,18 +33,6 @@ loop-holds c =
     let t = tape (a .text .now) (a .at) in
     (omega arith, ap (λ (n : ℕ). each (turn (a .table)) (range n 0) t) (sub-zero (a .rows)) ∙ rows-each (λ row. inRow (scopeOf (a .table) row)) (upTo (a .rows)) t)
 
-scope-of-requires : tie.Need-scope-of-requires Inv-loop μ-loop
-scope-of-requires c κs = search needs
-
-push-row-requires : tie.Need-push-row-requires Inv-loop μ-loop
-push-row-requires c κs = search needs
-
-add-row : tie.Need-add-row Inv-loop μ-loop
-add-row c = omega arith
-
-loop-less : tie.Need-loop-less Inv-loop μ-loop
-loop-less c = omega arith
-
 loop-again : tie.Need-loop-again Inv-loop μ-loop
 unfolding turn
 loop-again c =
@@ -68,9 +56,6 @@ push-rows-spec =
     Inv-loop
     μ-loop
     loop-holds
-    scope-of-requires
-    push-row-requires
-    add-row
-    loop-less
+    (search needs) (search needs) (λ c. omega arith) (λ c. omega arith)
     loop-again
     returns)

@@ -6,18 +6,6 @@ use Rattle.table_text.proofs.Texts.{table-joined}
 use Rattle.table_text.proofs.push_table.Statement.{statement}
 use Rattle.table_text.proofs.push_table.Tie as tie
 
-push-word-requires : tie.Need-push-word-requires
-push-word-requires c κs = search needs
-
-push-rows-requires : tie.Need-push-rows-requires
-push-rows-requires c κs = search needs
-
-slice-aggregate-push-word : tie.Need-slice-aggregate-push-word
-slice-aggregate-push-word c = search needs
-
-push-word-requires-2 : tie.Need-push-word-requires-2
-push-word-requires-2 c κs = search needs
-
 returns : tie.Need-returns
 returns c =
     let rows = c .before .before .before in
@@ -27,10 +15,4 @@ returns c =
 
 pub push-table-spec : {M : Type 1} → statement M
 push-table-spec =
-    tie.close
-    (tie.spec
-    push-word-requires
-    push-rows-requires
-    slice-aggregate-push-word
-    push-word-requires-2
-    returns)
+    tie.close (tie.spec (search needs) (search needs) (search needs) (search needs) returns)

@@ -6,12 +6,6 @@ use Rattle.table_text.specs.declared.Table.{Table}
 use Rattle.table_text.proofs.scope_of.Statement.{statement}
 use Rattle.table_text.proofs.scope_of.Tie as tie
 
-enum-told : tie.Need-enum-told
-enum-told c = search needs
-
-enum-told-2 : tie.Need-enum-told-2
-enum-told-2 c = search needs
-
 returns : tie.Need-returns
 returns c = sym (ap (λ (t : Table). scopeOf t (c .before .before .args .row)) (c .enum-told .given .1))
 
@@ -19,4 +13,5 @@ returns-2 : tie.Need-returns-2
 returns-2 c = sym (ap (λ (t : Table). scopeOf t (c .before .before .args .row)) (c .enum-told2 .given .1))
 
 pub scope-of-spec : {M : Type 1} → statement M
-scope-of-spec = tie.close (tie.spec enum-told enum-told-2 returns returns-2)
+scope-of-spec =
+    tie.close (tie.spec (search needs) (search needs) returns returns-2)

@@ -13,18 +13,6 @@ use Rattle.table_text.proofs.Texts.{both-tables, text-length}
 use Rattle.table_text.proofs.write_tables.Statement.{statement}
 use Rattle.table_text.proofs.write_tables.Tie as tie
 
-slice-aggregate-push-table : tie.Need-slice-aggregate-push-table
-slice-aggregate-push-table c = search needs
-
-push-table-requires : tie.Need-push-table-requires
-push-table-requires c κs = search needs
-
-slice-aggregate-push-table-2 : tie.Need-slice-aggregate-push-table-2
-slice-aggregate-push-table-2 c = search needs
-
-push-table-requires-2 : tie.Need-push-table-requires-2
-push-table-requires-2 c κs = search needs
-
 returns : tie.Need-returns
 returns c =
     let units = c .before .before .before in
@@ -38,10 +26,4 @@ returns c =
 
 pub write-tables-spec : {M : Type 1} → statement M
 write-tables-spec =
-    tie.close
-    (tie.spec
-    slice-aggregate-push-table
-    push-table-requires
-    slice-aggregate-push-table-2
-    push-table-requires-2
-    returns)
+    tie.close (tie.spec (search needs) (search needs) (search needs) (search needs) returns)

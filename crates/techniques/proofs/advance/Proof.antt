@@ -8,9 +8,6 @@ use Rattle.techniques.proofs.ReportLists.{singles-few, stands}
 use Rattle.techniques.proofs.advance.Statement.{statement}
 use Rattle.techniques.proofs.advance.Tie as tie
 
-advance-into-requires : tie.Need-advance-into-requires
-advance-into-requires c κs = search needs
-
 returns : tie.Need-returns
 unfolding outcome
 returns c =
@@ -21,4 +18,5 @@ returns c =
     ((s .0, s .1 .0 ∙ stands (nakedSingles g m ++ hiddenSingles g m) (singles-few g m)), s .1 .1)
 
 pub advance-spec : {M : Type 1} → statement M
-advance-spec = tie.close (tie.spec advance-into-requires returns)
+advance-spec =
+    tie.close (tie.spec (search needs) returns)

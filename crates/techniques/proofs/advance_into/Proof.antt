@@ -12,15 +12,6 @@ use Rattle.techniques.proofs.ReportLists.{singles-few, some-found}
 use Rattle.techniques.proofs.advance_into.Statement.{statement}
 use Rattle.techniques.proofs.advance_into.Tie as tie
 
-singles-into-requires : tie.Need-singles-into-requires
-singles-into-requires c κs = search needs
-
-advances-requires : tie.Need-advances-requires
-advances-requires c κs = search needs
-
-renew-requires : tie.Need-renew-requires
-renew-requires c κs = search needs
-
 returns : tie.Need-returns
 unfolding outcome
 returns c =
@@ -37,4 +28,4 @@ returns c =
 
 pub advance-into-spec : {M : Type 1} → statement M
 advance-into-spec =
-    tie.close (tie.spec singles-into-requires advances-requires renew-requires returns)
+    tie.close (tie.spec (search needs) (search needs) (search needs) returns)

@@ -13,12 +13,6 @@ returns c =
     let a = c .before .args in
     sym (ap (λ (t : Bool). t || changed (a .masks .now) (nakedPairs (a .givens .now) (a .masks .now))) (lt-ltb 0 (a .count) (c .if1 .taken)))
 
-naked-pairs-requires : tie.Need-naked-pairs-requires
-naked-pairs-requires c κs = search needs
-
-changed-requires : tie.Need-changed-requires
-changed-requires c κs = search needs
-
 returns-2 : tie.Need-returns-2
 returns-2 c =
     let a = c .before .before .before .before .before .args in
@@ -27,9 +21,4 @@ returns-2 c =
 
 pub advances-spec : {M : Type 1} → statement M
 advances-spec =
-    tie.close
-    (tie.spec
-    returns
-    naked-pairs-requires
-    changed-requires
-    returns-2)
+    tie.close (tie.spec returns (search needs) (search needs) returns-2)

@@ -31,30 +31,6 @@ counted : (rs : List Report) → length rs ≤ 324 → (cs ds : List ℕ) {made 
     → (made ≡ isSome rs) × (stored xs ys k ≡ append rs (stored cs ds 0))
 counted rs few cs ds {xs = xs} {ys = ys} flag same e = (flag ∙ some-found rs few cs ds e, ap (stored xs ys) same ∙ e)
 
-enum-told : tie.Need-enum-told
-enum-told c = search needs
-
-naked-singles-requires : tie.Need-naked-singles-requires
-naked-singles-requires c κs = omega arith
-
-of-count-requires : tie.Need-of-count-requires
-of-count-requires c κs = search needs
-
-enum-told-2 : tie.Need-enum-told-2
-enum-told-2 c = search needs
-
-hidden-singles-requires : tie.Need-hidden-singles-requires
-hidden-singles-requires c κs = omega arith
-
-of-count-requires-2 : tie.Need-of-count-requires-2
-of-count-requires-2 c κs = search needs
-
-enum-told-3 : tie.Need-enum-told-3
-enum-told-3 c = search needs
-
-advance-into-requires : tie.Need-advance-into-requires
-advance-into-requires c κs = search needs
-
 returns : tie.Need-returns
 unfolding outcome
 returns c =
@@ -89,14 +65,8 @@ pub find-into-spec : {M : Type 1} → statement M
 find-into-spec =
     tie.close
     (tie.spec
-    enum-told
-    naked-singles-requires
-    of-count-requires
-    enum-told-2
-    hidden-singles-requires
-    of-count-requires-2
-    enum-told-3
-    advance-into-requires
+    (search needs) (λ c. omega arith) (search needs) (search needs) (λ c. omega arith) (search needs) (search needs)
+    (search needs)
     returns
     returns-2
     returns-3)

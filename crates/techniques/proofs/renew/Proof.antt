@@ -6,9 +6,6 @@ use Rattle.steps.specs.Boards.{fresh}
 use Rattle.techniques.proofs.renew.Statement.{statement}
 use Rattle.techniques.proofs.renew.Tie as tie
 
-fresh-masks-requires : tie.Need-fresh-masks-requires
-fresh-masks-requires c κs = search needs
-
 returns : tie.Need-returns
 returns c =
     let a = c .before .before .args in
@@ -21,8 +18,4 @@ returns-2 c =
 
 pub renew-spec : {M : Type 1} → statement M
 renew-spec =
-    tie.close
-    (tie.spec
-    fresh-masks-requires
-    returns
-    returns-2)
+    tie.close (tie.spec (search needs) returns returns-2)

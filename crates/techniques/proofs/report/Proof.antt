@@ -12,9 +12,6 @@ use Rattle.techniques.proofs.ReportLists.{answered-few, stands}
 use Rattle.techniques.proofs.report.Statement.{statement}
 use Rattle.techniques.proofs.report.Tie as tie
 
-report-handed-requires : tie.Need-report-handed-requires
-report-handed-requires c κs = search needs
-
 returns : tie.Need-returns
 returns c =
     let a = c .before .before .before .before .before .before .before .before .before .args in
@@ -28,4 +25,5 @@ returns c =
     }
 
 pub report-spec : {M : Type 1} → statement M
-report-spec = tie.close (tie.spec report-handed-requires returns)
+report-spec =
+    tie.close (tie.spec (search needs) returns)

@@ -19,20 +19,8 @@ use Rattle.techniques.proofs.report_handed.Tie as tie
 reported : Reports → Answer Outcome → Reports
 reported q a = append (valueOr [] (map (λ o. o .reports) a)) q
 
-givens-of-requires : tie.Need-givens-of-requires
-givens-of-requires c κs = search needs
-
 check-given-requires : tie.Need-check-given-requires
 check-given-requires c κs = c .before .before .givens-of .ensures
-
-enum-known-stop : tie.Need-enum-known-stop
-enum-known-stop c = search needs
-
-enum-told : tie.Need-enum-told
-enum-told c = search needs
-
-find-into-requires : tie.Need-find-into-requires
-find-into-requires c κs = search needs
 
 returns : tie.Need-returns
 unfolding reported append each
@@ -68,10 +56,8 @@ pub report-handed-spec : {M : Type 1} → statement M
 report-handed-spec =
     tie.close
     (tie.spec
-    givens-of-requires
+    (search needs)
     check-given-requires
-    enum-known-stop
-    enum-told
-    find-into-requires
+    (search needs) (search needs) (search needs)
     returns
     returns-2)

@@ -9,18 +9,6 @@ use Rattle.text.specs.Texts.{cellClue}
 use Rattle.text.proofs.byte_clue.Statement.{statement}
 use Rattle.text.proofs.byte_clue.Tie as tie
 
-text-byte-requires : tie.Need-text-byte-requires
-text-byte-requires c κs = search needs
-
-enum-known-digit : tie.Need-enum-known-digit
-enum-known-digit c = search needs
-
-cast-result : tie.Need-cast-result
-cast-result c = search needs
-
-enum-told : tie.Need-enum-told
-enum-told c = search needs
-
 returns : tie.Need-returns
 returns c =
     toZ-pos w32 {n = c .before .digit .given .0 .0} (omega arith)
@@ -31,5 +19,4 @@ returns-2 c = ap cellClue (ap textCell (sym (c .enum-told .given .1)) ∙ c .bef
 
 pub byte-clue-spec : {M : Type 1} → statement M
 byte-clue-spec =
-    tie.close
-    (tie.spec text-byte-requires enum-known-digit cast-result enum-told returns returns-2)
+    tie.close (tie.spec (search needs) (search needs) (search needs) (search needs) returns returns-2)

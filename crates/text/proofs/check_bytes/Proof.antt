@@ -21,9 +21,6 @@ Inv-loop text index₀ index = first (λ i. isOther (getD text i 0)) (range (81 
 abbrev μ-loop : tie.MeasureT-loop
 μ-loop text index₀ index = 81 - index
 
-any-other-requires : tie.Need-any-other-requires Inv-loop μ-loop
-any-other-requires c κs = search needs
-
 returns : tie.Need-returns Inv-loop μ-loop
 returns c = unflagged OtherByte (firstOther (c .before .before .before .args .text .now)) (c .before .any-other .ensures) (c .if1 .taken)
 
@@ -31,26 +28,11 @@ loop-holds : tie.Need-loop-holds Inv-loop μ-loop
 unfolding cells
 loop-holds c = refl
 
-byte-at-requires : tie.Need-byte-at-requires Inv-loop μ-loop
-byte-at-requires c κs = search needs
-
-is-other-requires : tie.Need-is-other-requires Inv-loop μ-loop
-is-other-requires c κs = search needs
-
-cast-t8 : tie.Need-cast-t8 Inv-loop μ-loop
-cast-t8 c = search needs
-
 returns-2 : tie.Need-returns-2 Inv-loop μ-loop
 returns-2 c =
     let l = c .before .before .before .before .loop in
     found-stop OtherByte (omega arith)
     (found _ 81 (l .index) (l .inv) (omega arith) (c .before .is-other .ensures ∙ ap isOther (c .before .before .byte-at .ensures)) (c .if2 .taken))
-
-add-index : tie.Need-add-index Inv-loop μ-loop
-add-index c = omega arith
-
-loop-less : tie.Need-loop-less Inv-loop μ-loop
-loop-less c = omega arith
 
 loop-again : tie.Need-loop-again Inv-loop μ-loop
 loop-again c =
@@ -66,14 +48,11 @@ check-bytes-spec =
     (tie.spec
     Inv-loop
     μ-loop
-    any-other-requires
+    (search needs)
     returns
     loop-holds
-    byte-at-requires
-    is-other-requires
-    cast-t8
+    (search needs) (search needs) (search needs)
     returns-2
-    add-index
-    loop-less
+    (λ c. omega arith) (λ c. omega arith)
     loop-again
     returns-3)

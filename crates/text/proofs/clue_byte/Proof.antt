@@ -12,9 +12,6 @@ use Rattle.steps.proofs.Check.{digit-small}
 use Rattle.text.proofs.clue_byte.Statement.{statement}
 use Rattle.text.proofs.clue_byte.Tie as tie
 
-given-digit-requires : tie.Need-given-digit-requires
-given-digit-requires c κs = search needs
-
 digit : (c : tie.After-given-digit) → c .given-digit .result ≡ digitOf (c .before .args .clue)
 digit c = c .given-digit .ensures ∙ ap digitOf (toZ-ofZ (c .before .fits .clue))
 
@@ -33,4 +30,5 @@ returns-2 c =
     ∙ sym (cond-false (eqb (digitOf z) 0) 46 (digitOf z + 48) (ne-eqb (digitOf z) 0 (λ e. c .if1 .left (digit (c .before) ∙ e))))
 
 pub clue-byte-spec : {M : Type 1} → statement M
-clue-byte-spec = tie.close (tie.spec given-digit-requires returns add-result returns-2)
+clue-byte-spec =
+    tie.close (tie.spec (search needs) returns add-result returns-2)

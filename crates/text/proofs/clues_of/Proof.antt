@@ -22,24 +22,6 @@ loop-holds : tie.Need-loop-holds Inv-loop μ-loop
 unfolding cells
 loop-holds c = fill-start _ 81 (replicate 81 (pos 0)) refl
 
-byte-at-requires : tie.Need-byte-at-requires Inv-loop μ-loop
-byte-at-requires c κs = search needs
-
-byte-clue-requires : tie.Need-byte-clue-requires Inv-loop μ-loop
-byte-clue-requires c κs = search needs
-
-mul-clues : tie.Need-mul-clues Inv-loop μ-loop
-mul-clues c = omega arith
-
-array-set-from-clues : tie.Need-array-set-from-clues Inv-loop μ-loop
-array-set-from-clues c = omega arith
-
-add-index : tie.Need-add-index Inv-loop μ-loop
-add-index c = omega arith
-
-loop-less : tie.Need-loop-less Inv-loop μ-loop
-loop-less c = omega arith
-
 loop-again : tie.Need-loop-again Inv-loop μ-loop
 loop-again c =
     let l = c .before .before .before .loop in
@@ -56,11 +38,6 @@ clues-of-spec =
     Inv-loop
     μ-loop
     loop-holds
-    byte-at-requires
-    byte-clue-requires
-    mul-clues
-    array-set-from-clues
-    add-index
-    loop-less
+    (search needs) (search needs) (λ c. omega arith) (λ c. omega arith) (λ c. omega arith) (λ c. omega arith)
     loop-again
     returns)

@@ -14,22 +14,10 @@ use Rattle.text.proofs.Texts.{wrong-length, right-length}
 use Rattle.text.proofs.parse_string.Statement.{statement}
 use Rattle.text.proofs.parse_string.Tie as tie
 
-cast-t6 : tie.Need-cast-t6
-cast-t6 c = search needs
-
 returns : tie.Need-returns
 returns c =
     let e = ap (λ (z : ℤ). stop (TextLength z)) (small (omega arith)) ∙ wrong-length (c .before .before .args .text .now) (c .if1 .taken) in
     (e, ap (valueOr noClues) e)
-
-check-bytes-requires : tie.Need-check-bytes-requires
-check-bytes-requires c κs = search needs
-
-enum-told : tie.Need-enum-told
-enum-told c = search needs
-
-enum-told-2 : tie.Need-enum-told-2
-enum-told-2 c = search needs
 
 returns-2 : tie.Need-returns-2
 returns-2 c =
@@ -39,9 +27,6 @@ returns-2 c =
       refused-beside (k .check-bytes .result) (k .check-bytes .ensures) (c .enum-told2 .given .1) noClues (cluesOf t) ∙ e,
       ap (λ (a : Answer (Unit {0})). valueOr noClues (passing a (cluesOf t))) (told (k .check-bytes .ensures) (c .enum-told2 .given .1)) ∙ ap (valueOr noClues) e,
     )
-
-clues-of-requires : tie.Need-clues-of-requires
-clues-of-requires c κs = search needs
 
 returns-3 : tie.Need-returns-3
 returns-3 c =
@@ -57,11 +42,9 @@ pub parse-string-spec : {M : Type 1} → statement M
 parse-string-spec =
     tie.close
     (tie.spec
-    cast-t6
+    (search needs)
     returns
-    check-bytes-requires
-    enum-told
-    enum-told-2
+    (search needs) (search needs) (search needs)
     returns-2
-    clues-of-requires
+    (search needs)
     returns-3)

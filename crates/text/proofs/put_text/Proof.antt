@@ -25,23 +25,8 @@ loop-holds : tie.Need-loop-holds Inv-loop μ-loop
 unfolding cells
 loop-holds c = (refl, fill-front (λ i. clueByte (getD (c .before .args .grid .now) i (pos 0))) 81 (c .before .args .out .now) (c .before .pre))
 
-mul-clue-byte : tie.Need-mul-clue-byte Inv-loop μ-loop
-mul-clue-byte c = omega arith
-
-element-copy-out-clue-byte : tie.Need-element-copy-out-clue-byte Inv-loop μ-loop
-element-copy-out-clue-byte c = omega arith
-
-clue-byte-requires : tie.Need-clue-byte-requires Inv-loop μ-loop
-clue-byte-requires c κs = search needs
-
 slice-write-out : tie.Need-slice-write-out Inv-loop μ-loop
 slice-write-out c = omega (arith, c .before .before .before .loop .inv .0, c .before .before .before .before .before .pre)
-
-add-cell : tie.Need-add-cell Inv-loop μ-loop
-add-cell c = omega arith
-
-loop-less : tie.Need-loop-less Inv-loop μ-loop
-loop-less c = omega arith
 
 loop-again : tie.Need-loop-again Inv-loop μ-loop
 loop-again c =
@@ -66,12 +51,9 @@ put-text-spec =
     Inv-loop
     μ-loop
     loop-holds
-    mul-clue-byte
-    element-copy-out-clue-byte
-    clue-byte-requires
+    (λ c. omega arith) (λ c. omega arith) (search needs)
     slice-write-out
-    add-cell
-    loop-less
+    (λ c. omega arith) (λ c. omega arith)
     loop-again
     same-length
     returns)

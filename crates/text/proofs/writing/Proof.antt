@@ -9,19 +9,10 @@ use Rattle.text.proofs.Texts.{too-short, long-enough}
 use Rattle.text.proofs.writing.Statement.{statement}
 use Rattle.text.proofs.writing.Tie as tie
 
-cast-t6 : tie.Need-cast-t6
-cast-t6 c = search needs
-
 returns : tie.Need-returns
 returns c =
     let a = c .before .args in
     ap (λ (z : ℤ). stop (TooFewBytes z)) (small (c .before .pre)) ∙ too-short (a .needed) (a .grid .now) (a .lent) (c .if1 .taken)
-
-check-clues-requires : tie.Need-check-clues-requires
-check-clues-requires c κs = search needs
-
-written-requires : tie.Need-written-requires
-written-requires c κs = search needs
 
 returns-2 : tie.Need-returns-2
 returns-2 c =
@@ -31,4 +22,5 @@ returns-2 c =
     ∙ long-enough (a .needed) (a .grid .now) (a .lent) (k .before .if1 .left)
 
 pub writing-spec : {M : Type 1} → statement M
-writing-spec = tie.close (tie.spec cast-t6 returns check-clues-requires written-requires returns-2)
+writing-spec =
+    tie.close (tie.spec (search needs) returns (search needs) (search needs) returns-2)

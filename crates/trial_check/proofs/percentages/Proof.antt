@@ -14,21 +14,6 @@ abbrev μ-loop : tie.MeasureT-loop
 loop-holds : tie.Need-loop-holds Inv-loop μ-loop
 loop-holds c = tt
 
-mul-show : tie.Need-mul-show Inv-loop μ-loop
-mul-show c = omega arith
-
-array-read-show : tie.Need-array-read-show Inv-loop μ-loop
-array-read-show c = omega arith
-
-show-requires : tie.Need-show-requires Inv-loop μ-loop
-show-requires c κs = search needs
-
-add-i : tie.Need-add-i Inv-loop μ-loop
-add-i c = omega arith
-
-loop-less : tie.Need-loop-less Inv-loop μ-loop
-loop-less c = omega arith
-
 loop-again : tie.Need-loop-again Inv-loop μ-loop
 loop-again c = tt
 
@@ -42,10 +27,6 @@ percentages-spec =
     Inv-loop
     μ-loop
     loop-holds
-    mul-show
-    array-read-show
-    show-requires
-    add-i
-    loop-less
+    (λ c. omega arith) (λ c. omega arith) (search needs) (λ c. omega arith) (λ c. omega arith)
     loop-again
     returns)

@@ -14,21 +14,6 @@ abbrev μ-loop : tie.MeasureT-loop
 loop-holds : tie.Need-loop-holds Inv-loop μ-loop
 loop-holds c = tt
 
-mul-percentages : tie.Need-mul-percentages Inv-loop μ-loop
-mul-percentages c = omega arith
-
-array-read-percentages : tie.Need-array-read-percentages Inv-loop μ-loop
-array-read-percentages c = omega arith
-
-percentages-requires : tie.Need-percentages-requires Inv-loop μ-loop
-percentages-requires c κs = search needs
-
-add-i : tie.Need-add-i Inv-loop μ-loop
-add-i c = omega arith
-
-loop-less : tie.Need-loop-less Inv-loop μ-loop
-loop-less c = omega arith
-
 loop-again : tie.Need-loop-again Inv-loop μ-loop
 loop-again c = tt
 
@@ -42,10 +27,6 @@ starts-spec =
     Inv-loop
     μ-loop
     loop-holds
-    mul-percentages
-    array-read-percentages
-    percentages-requires
-    add-i
-    loop-less
+    (λ c. omega arith) (λ c. omega arith) (search needs) (λ c. omega arith) (λ c. omega arith)
     loop-again
     returns)

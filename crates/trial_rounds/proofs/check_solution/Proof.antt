@@ -7,9 +7,6 @@ use Rattle.stops.specs.declared.Stop.the-variants.{BadSolution}
 use Rattle.trial_rounds.proofs.check_solution.Statement.{statement}
 use Rattle.trial_rounds.proofs.check_solution.Tie as tie
 
-verify-solution-requires : tie.Need-verify-solution-requires
-verify-solution-requires c κs = search needs
-
 returns : tie.Need-returns
 returns c = ap (λ (t : Bool). cond t (gives tt) (stop BadSolution)) (sym (c .if1 .taken) ∙ c .before .verify-solution .ensures)
 
@@ -17,4 +14,5 @@ returns-2 : tie.Need-returns-2
 returns-2 c = ap (λ (t : Bool). cond t (gives tt) (stop BadSolution)) (sym (c .if1 .left) ∙ c .before .verify-solution .ensures)
 
 pub check-solution-spec : {M : Type 1} → statement M
-check-solution-spec = tie.close (tie.spec verify-solution-requires returns returns-2)
+check-solution-spec =
+    tie.close (tie.spec (search needs) returns returns-2)

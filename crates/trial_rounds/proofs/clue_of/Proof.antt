@@ -7,9 +7,6 @@ use mir.Facts.{toZ-ofZ}
 use Rattle.trial_rounds.proofs.clue_of.Statement.{statement}
 use Rattle.trial_rounds.proofs.clue_of.Tie as tie
 
-is-kept-requires : tie.Need-is-kept-requires
-is-kept-requires c κs = search needs
-
 returns : tie.Need-returns
 returns c =
     let s = c .before .before in
@@ -19,4 +16,5 @@ returns-2 : tie.Need-returns-2
 returns-2 c = ap (λ (t : Bool). cond t (c .before .before .args .digit) (pos 0)) (sym (c .if1 .left) ∙ c .before .is-kept .ensures)
 
 pub clue-of-spec : {M : Type 1} → statement M
-clue-of-spec = tie.close (tie.spec is-kept-requires returns returns-2)
+clue-of-spec =
+    tie.close (tie.spec (search needs) returns returns-2)

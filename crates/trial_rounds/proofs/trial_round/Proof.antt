@@ -8,15 +8,6 @@ use Rattle.trial_rounds.specs.Rounds.{roundClues, roundOf}
 use Rattle.trial_rounds.proofs.trial_round.Statement.{statement}
 use Rattle.trial_rounds.proofs.trial_round.Tie as tie
 
-check-requires : tie.Need-check-requires
-check-requires c κs = search needs
-
-enum-told : tie.Need-enum-told
-enum-told c = search needs
-
-enum-told-2 : tie.Need-enum-told-2
-enum-told-2 c = search needs
-
 returns : tie.Need-returns
 unfolding roundOf
 returns c =
@@ -28,9 +19,6 @@ returns c =
       answer = refused-beside (k .check .result) (k .check .ensures) (c .enum-told2 .given .1) noClues clues;
       clues = ap (λ (x : Answer (Unit {0})). valueOr noClues (passing x clues)) is;
     }
-
-round-clues-requires : tie.Need-round-clues-requires
-round-clues-requires c κs = search needs
 
 returns-2 : tie.Need-returns-2
 unfolding roundOf
@@ -47,5 +35,4 @@ returns-2 c =
 
 pub trial-round-spec : {M : Type 1} → statement M
 trial-round-spec =
-    tie.close
-    (tie.spec check-requires enum-told enum-told-2 returns round-clues-requires returns-2)
+    tie.close (tie.spec (search needs) (search needs) (search needs) returns (search needs) returns-2)

@@ -7,18 +7,6 @@ use Rattle.board.specs.Boards.{cellMask}
 use Rattle.board.proofs.Board.cell_mask.Statement.{statement}
 use Rattle.board.proofs.Board.cell_mask.Tie as tie
 
-check-requires : tie.Need-check-requires
-check-requires c κs = search needs
-
-enum-known-stop : tie.Need-enum-known-stop
-enum-known-stop c = search needs
-
-enum-told : tie.Need-enum-told
-enum-told c = search needs
-
-mask-of-requires : tie.Need-mask-of-requires
-mask-of-requires c κs = search needs
-
 returns : tie.Need-returns
 returns c =
     let k = c .before .before .before in
@@ -35,5 +23,4 @@ returns-2 c =
 
 pub cell-mask-spec : {M : Type 1} → statement M
 cell-mask-spec =
-    tie.close
-    (tie.spec check-requires enum-known-stop enum-told mask-of-requires returns returns-2)
+    tie.close (tie.spec (search needs) (search needs) (search needs) (search needs) returns returns-2)

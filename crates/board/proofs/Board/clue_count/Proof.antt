@@ -9,18 +9,6 @@ use Rattle.board.specs.Boards.{clueCount}
 use Rattle.board.proofs.Board.clue_count.Statement.{statement}
 use Rattle.board.proofs.Board.clue_count.Tie as tie
 
-check-requires : tie.Need-check-requires
-check-requires c κs = search needs
-
-enum-known-stop : tie.Need-enum-known-stop
-enum-known-stop c = search needs
-
-enum-told : tie.Need-enum-told
-enum-told c = search needs
-
-count-clues-requires : tie.Need-count-clues-requires
-count-clues-requires c κs = search needs
-
 returns : tie.Need-returns
 returns c =
     let k = c .before .before .before in
@@ -37,11 +25,4 @@ returns-2 c =
 
 pub clue-count-spec : {M : Type 1} → statement M
 clue-count-spec =
-    tie.close
-    (tie.spec
-    check-requires
-    enum-known-stop
-    enum-told
-    count-clues-requires
-    returns
-    returns-2)
+    tie.close (tie.spec (search needs) (search needs) (search needs) (search needs) returns returns-2)

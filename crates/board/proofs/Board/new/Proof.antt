@@ -8,12 +8,6 @@ use Rattle.board.proofs.Answered.{opens}
 use Rattle.board.proofs.Board.new.Statement.{statement}
 use Rattle.board.proofs.Board.new.Tie as tie
 
-check-clues-requires : tie.Need-check-clues-requires
-check-clues-requires c κs = search needs
-
-open-after-requires : tie.Need-open-after-requires
-open-after-requires c κs = search needs
-
 returns : tie.Need-returns
 unfolding openOf
 returns c =
@@ -23,4 +17,4 @@ returns c =
 
 pub new-spec : {M : Type 1} → statement M
 new-spec =
-    tie.close (tie.spec check-clues-requires open-after-requires returns)
+    tie.close (tie.spec (search needs) (search needs) returns)

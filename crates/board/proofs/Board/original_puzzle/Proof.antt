@@ -7,15 +7,6 @@ use Rattle.board.specs.Boards.{noClues}
 use Rattle.board.proofs.Board.original_puzzle.Statement.{statement}
 use Rattle.board.proofs.Board.original_puzzle.Tie as tie
 
-check-requires : tie.Need-check-requires
-check-requires c κs = search needs
-
-enum-told : tie.Need-enum-told
-enum-told c = search needs
-
-enum-told-2 : tie.Need-enum-told-2
-enum-told-2 c = search needs
-
 returns : tie.Need-returns
 returns c =
     let k = c .before .before in
@@ -29,4 +20,5 @@ returns-2 c =
     (k .check .ensures, ap (λ (a : Answer (Unit {0})). valueOr noClues (passing a z)) (told (k .check .ensures) (c .enum-told .given .1)))
 
 pub original-puzzle-spec : {M : Type 1} → statement M
-original-puzzle-spec = tie.close (tie.spec check-requires enum-told enum-told-2 returns returns-2)
+original-puzzle-spec =
+    tie.close (tie.spec (search needs) (search needs) (search needs) returns returns-2)

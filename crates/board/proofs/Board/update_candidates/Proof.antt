@@ -11,21 +11,6 @@ use Rattle.board.proofs.Checks.{checks}
 use Rattle.board.proofs.Board.update_candidates.Statement.{statement}
 use Rattle.board.proofs.Board.update_candidates.Tie as tie
 
-givens-of-requires : tie.Need-givens-of-requires
-givens-of-requires c κs = search needs
-
-fresh-masks-requires : tie.Need-fresh-masks-requires
-fresh-masks-requires c κs = search needs
-
-check-beside-requires : tie.Need-check-beside-requires
-check-beside-requires c κs = search needs
-
-enum-told : tie.Need-enum-told
-enum-told c = search needs
-
-enum-told-2 : tie.Need-enum-told-2
-enum-told-2 c = search needs
-
 -- the board that was handed over
 handed-in : tie.After-check-beside → Board
 handed-in c = boardOf (c .before .before .before .before .before .before .before .before .before .before .before .before .before .before .args .self)
@@ -54,12 +39,4 @@ returns-2 c =
 
 pub update-candidates-spec : {M : Type 1} → statement M
 update-candidates-spec =
-    tie.close
-    (tie.spec
-    givens-of-requires
-    fresh-masks-requires
-    check-beside-requires
-    enum-told
-    enum-told-2
-    returns
-    returns-2)
+    tie.close (tie.spec (search needs) (search needs) (search needs) (search needs) (search needs) returns returns-2)

@@ -10,18 +10,6 @@ use Rattle.board.proofs.Answered.{opens}
 use Rattle.board.proofs.Board.with_entries.Statement.{statement}
 use Rattle.board.proofs.Board.with_entries.Tie as tie
 
-check-clues-requires : tie.Need-check-clues-requires
-check-clues-requires c κs = search needs
-
-check-entries-requires : tie.Need-check-entries-requires
-check-entries-requires c κs = search needs
-
-then-requires : tie.Need-then-requires
-then-requires c κs = search needs
-
-open-after-requires : tie.Need-open-after-requires
-open-after-requires c κs = search needs
-
 returns : tie.Need-returns
 unfolding openWithOf
 returns c =
@@ -38,4 +26,4 @@ returns c =
 
 pub with-entries-spec : {M : Type 1} → statement M
 with-entries-spec =
-    tie.close (tie.spec check-clues-requires check-entries-requires then-requires open-after-requires returns)
+    tie.close (tie.spec (search needs) (search needs) (search needs) (search needs) returns)

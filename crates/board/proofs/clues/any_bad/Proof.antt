@@ -27,21 +27,6 @@ loop-holds : tie.Need-loop-holds Inv-loop μ-loop
 unfolding cells
 loop-holds c = refl
 
-mul-is-bad : tie.Need-mul-is-bad Inv-loop μ-loop
-mul-is-bad c = omega arith
-
-element-copy-out-is-bad : tie.Need-element-copy-out-is-bad Inv-loop μ-loop
-element-copy-out-is-bad c = omega arith
-
-is-bad-requires : tie.Need-is-bad-requires Inv-loop μ-loop
-is-bad-requires c κs = search needs
-
-add-cell : tie.Need-add-cell Inv-loop μ-loop
-add-cell c = omega arith
-
-loop-less : tie.Need-loop-less Inv-loop μ-loop
-loop-less c = omega arith
-
 loop-again : tie.Need-loop-again Inv-loop μ-loop
 loop-again c =
     let l = c .before .before .before in
@@ -60,10 +45,6 @@ any-bad-spec =
     Inv-loop
     μ-loop
     loop-holds
-    mul-is-bad
-    element-copy-out-is-bad
-    is-bad-requires
-    add-cell
-    loop-less
+    (λ c. omega arith) (λ c. omega arith) (search needs) (λ c. omega arith) (λ c. omega arith)
     loop-again
     returns)

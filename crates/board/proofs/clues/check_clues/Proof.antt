@@ -24,9 +24,6 @@ Inv-loop clues cell₀ cell = first (λ c. badClue (getD clues c (pos 0))) (rang
 abbrev μ-loop : tie.MeasureT-loop
 μ-loop clues cell₀ cell = 81 - cell
 
-any-bad-requires : tie.Need-any-bad-requires Inv-loop μ-loop
-any-bad-requires c κs = search needs
-
 returns : tie.Need-returns Inv-loop μ-loop
 returns c =
     let a = c .before .before .args in
@@ -36,18 +33,6 @@ loop-holds : tie.Need-loop-holds Inv-loop μ-loop
 unfolding cells
 loop-holds c = refl
 
-mul-is-bad : tie.Need-mul-is-bad Inv-loop μ-loop
-mul-is-bad c = omega arith
-
-element-copy-out-is-bad : tie.Need-element-copy-out-is-bad Inv-loop μ-loop
-element-copy-out-is-bad c = omega arith
-
-is-bad-requires : tie.Need-is-bad-requires Inv-loop μ-loop
-is-bad-requires c κs = search needs
-
-cast-t11 : tie.Need-cast-t11 Inv-loop μ-loop
-cast-t11 c = search needs
-
 test : (c : tie.After-is-bad Inv-loop μ-loop) → c .is-bad .result ≡ badClue (getD (c .before .before .before .before .before .before .args .clues .now) (c .before .before .before .loop .cell) (pos 0))
 test c =
     let l = c .before .before .before in
@@ -56,12 +41,6 @@ test c =
 
 returns-2 : tie.Need-returns-2 Inv-loop μ-loop
 returns-2 c = found-stop BadClue (omega arith) (found _ 81 (c .before .before .before .before .loop .cell) (c .before .before .before .before .loop .inv) (omega arith) (test (c .before)) (c .if2 .taken))
-
-add-cell : tie.Need-add-cell Inv-loop μ-loop
-add-cell c = omega arith
-
-loop-less : tie.Need-loop-less Inv-loop μ-loop
-loop-less c = omega arith
 
 loop-again : tie.Need-loop-again Inv-loop μ-loop
 loop-again c = passed _ 81 (c .before .before .before .before .loop .cell) (c .before .before .before .before .loop .inv) (omega arith) (test (c .before)) (c .if2 .left)
@@ -75,15 +54,11 @@ check-clues-spec =
     (tie.spec
     Inv-loop
     μ-loop
-    any-bad-requires
+    (search needs)
     returns
     loop-holds
-    mul-is-bad
-    element-copy-out-is-bad
-    is-bad-requires
-    cast-t11
+    (λ c. omega arith) (λ c. omega arith) (search needs) (search needs)
     returns-2
-    add-cell
-    loop-less
+    (λ c. omega arith) (λ c. omega arith)
     loop-again
     returns-3)

@@ -23,24 +23,6 @@ loop-holds : tie.Need-loop-holds Inv-loop μ-loop
 unfolding givensOf cells
 loop-holds c = fill-start _ 81 (replicate 81 0) refl
 
-mul-given-digit : tie.Need-mul-given-digit Inv-loop μ-loop
-mul-given-digit c = omega arith
-
-element-copy-out-given-digit : tie.Need-element-copy-out-given-digit Inv-loop μ-loop
-element-copy-out-given-digit c = omega arith
-
-given-digit-requires : tie.Need-given-digit-requires Inv-loop μ-loop
-given-digit-requires c κs = search needs
-
-array-write-givens : tie.Need-array-write-givens Inv-loop μ-loop
-array-write-givens c = omega arith
-
-add-cell : tie.Need-add-cell Inv-loop μ-loop
-add-cell c = omega arith
-
-loop-less : tie.Need-loop-less Inv-loop μ-loop
-loop-less c = omega arith
-
 loop-again : tie.Need-loop-again Inv-loop μ-loop
 loop-again c =
     let l = c .before .before .before in
@@ -57,11 +39,6 @@ givens-of-spec =
     Inv-loop
     μ-loop
     loop-holds
-    mul-given-digit
-    element-copy-out-given-digit
-    given-digit-requires
-    array-write-givens
-    add-cell
-    loop-less
+    (λ c. omega arith) (λ c. omega arith) (search needs) (λ c. omega arith) (λ c. omega arith) (λ c. omega arith)
     loop-again
     returns)

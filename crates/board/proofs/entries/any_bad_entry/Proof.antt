@@ -28,27 +28,6 @@ loop-holds : tie.Need-loop-holds Inv-loop μ-loop
 unfolding cells
 loop-holds c = refl
 
-mul-is-bad-entry : tie.Need-mul-is-bad-entry Inv-loop μ-loop
-mul-is-bad-entry c = omega arith
-
-element-copy-out-is-bad-entry : tie.Need-element-copy-out-is-bad-entry Inv-loop μ-loop
-element-copy-out-is-bad-entry c = omega arith
-
-mul-is-bad-entry-2 : tie.Need-mul-is-bad-entry-2 Inv-loop μ-loop
-mul-is-bad-entry-2 c = omega arith
-
-element-copy-out-is-bad-entry-2 : tie.Need-element-copy-out-is-bad-entry-2 Inv-loop μ-loop
-element-copy-out-is-bad-entry-2 c = omega arith
-
-is-bad-entry-requires : tie.Need-is-bad-entry-requires Inv-loop μ-loop
-is-bad-entry-requires c κs = search needs
-
-add-cell : tie.Need-add-cell Inv-loop μ-loop
-add-cell c = omega arith
-
-loop-less : tie.Need-loop-less Inv-loop μ-loop
-loop-less c = omega arith
-
 loop-again : tie.Need-loop-again Inv-loop μ-loop
 loop-again c =
     let l = c .before .before .before .before in
@@ -71,12 +50,7 @@ any-bad-entry-spec =
     Inv-loop
     μ-loop
     loop-holds
-    mul-is-bad-entry
-    element-copy-out-is-bad-entry
-    mul-is-bad-entry-2
-    element-copy-out-is-bad-entry-2
-    is-bad-entry-requires
-    add-cell
-    loop-less
+    (λ c. omega arith) (λ c. omega arith) (λ c. omega arith) (λ c. omega arith) (search needs) (λ c. omega arith)
+    (λ c. omega arith)
     loop-again
     returns)

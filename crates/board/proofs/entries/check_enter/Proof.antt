@@ -44,9 +44,6 @@ module _ (k e : List ℤ) (c : ℕ) (z : ℤ) where
 returns : tie.Need-returns
 returns c = five _ _ _ _ (le-leb 81 (c .before .args .cell) (omega arith))
 
-given-digit-requires : tie.Need-given-digit-requires
-given-digit-requires c κs = search needs
-
 digit : (c : tie.After-given-digit) → c .given-digit .result ≡ digitOf (c .before .before .args .digit)
 digit c = c .given-digit .ensures ∙ ap digitOf (toZ-ofZ (c .before .before .fits .digit))
 
@@ -59,18 +56,12 @@ returns-2 c =
     ap refusedWith (toZ-ofZ (s .fits .digit))
     ∙ four _ _ _ _ (lt-leb 81 (s .args .cell) (omega arith)) (eq-eqb (digitOf (s .args .digit)) 0 (sym (digit (c .before)) ∙ c .if2 .taken))
 
-has-digit-requires : tie.Need-has-digit-requires
-has-digit-requires c κs = omega arith
-
 some : (c : tie.Else2) → noDigit (c .before .before .before .args .digit) ≡ false
 some c = ne-eqb (digitOf (c .before .before .before .args .digit)) 0 (λ e. c .if2 .left (digit (c .before) ∙ e))
 
 returns-3 : tie.Need-returns-3
 returns-3 c =
     twelve _ _ _ _ (lt-leb 81 (c .before .before .before .before .before .args .cell) (omega arith)) (some (c .before .before)) (sym (c .before .has-digit .ensures) ∙ c .if3 .taken)
-
-has-digit-requires-2 : tie.Need-has-digit-requires-2
-has-digit-requires-2 c κs = omega arith
 
 returns-4 : tie.Need-returns-4
 returns-4 c =
@@ -87,4 +78,12 @@ returns-5 c =
 pub check-enter-spec : {M : Type 1} → statement M
 check-enter-spec =
     tie.close
-    (tie.spec returns given-digit-requires returns-2 has-digit-requires returns-3 has-digit-requires-2 returns-4 returns-5)
+    (tie.spec
+    returns
+    (search needs)
+    returns-2
+    (λ c. omega arith)
+    returns-3
+    (λ c. omega arith)
+    returns-4
+    returns-5)

@@ -24,9 +24,6 @@ Inv-loop clues entries cell₀ cell = first (λ c. badEntry (getD clues c (pos 0
 abbrev μ-loop : tie.MeasureT-loop
 μ-loop clues entries cell₀ cell = 81 - cell
 
-any-bad-entry-requires : tie.Need-any-bad-entry-requires Inv-loop μ-loop
-any-bad-entry-requires c κs = search needs
-
 returns : tie.Need-returns Inv-loop μ-loop
 returns c =
     let a = c .before .before .args in
@@ -35,24 +32,6 @@ returns c =
 loop-holds : tie.Need-loop-holds Inv-loop μ-loop
 unfolding cells
 loop-holds c = refl
-
-mul-is-bad-entry : tie.Need-mul-is-bad-entry Inv-loop μ-loop
-mul-is-bad-entry c = omega arith
-
-element-copy-out-is-bad-entry : tie.Need-element-copy-out-is-bad-entry Inv-loop μ-loop
-element-copy-out-is-bad-entry c = omega arith
-
-mul-is-bad-entry-2 : tie.Need-mul-is-bad-entry-2 Inv-loop μ-loop
-mul-is-bad-entry-2 c = omega arith
-
-element-copy-out-is-bad-entry-2 : tie.Need-element-copy-out-is-bad-entry-2 Inv-loop μ-loop
-element-copy-out-is-bad-entry-2 c = omega arith
-
-is-bad-entry-requires : tie.Need-is-bad-entry-requires Inv-loop μ-loop
-is-bad-entry-requires c κs = search needs
-
-cast-t16 : tie.Need-cast-t16 Inv-loop μ-loop
-cast-t16 c = search needs
 
 test : (c : tie.After-is-bad-entry Inv-loop μ-loop)
     → c .is-bad-entry .result
@@ -68,12 +47,6 @@ returns-2 c =
     let l = c .before .before .before .before .before .loop in
     found-stop BadEntry (omega arith) (found _ 81 (l .cell) (l .inv) (omega arith) (test (c .before)) (c .if2 .taken))
 
-add-cell : tie.Need-add-cell Inv-loop μ-loop
-add-cell c = omega arith
-
-loop-less : tie.Need-loop-less Inv-loop μ-loop
-loop-less c = omega arith
-
 loop-again : tie.Need-loop-again Inv-loop μ-loop
 loop-again c =
     let l = c .before .before .before .before .before .loop in
@@ -88,17 +61,11 @@ check-entries-spec =
     (tie.spec
     Inv-loop
     μ-loop
-    any-bad-entry-requires
+    (search needs)
     returns
     loop-holds
-    mul-is-bad-entry
-    element-copy-out-is-bad-entry
-    mul-is-bad-entry-2
-    element-copy-out-is-bad-entry-2
-    is-bad-entry-requires
-    cast-t16
+    (λ c. omega arith) (λ c. omega arith) (λ c. omega arith) (λ c. omega arith) (search needs) (search needs)
     returns-2
-    add-cell
-    loop-less
+    (λ c. omega arith) (λ c. omega arith)
     loop-again
     returns-3)

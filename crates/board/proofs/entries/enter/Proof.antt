@@ -12,18 +12,6 @@ use Rattle.board.proofs.Entering.{enters}
 use Rattle.board.proofs.entries.enter.Statement.{statement}
 use Rattle.board.proofs.entries.enter.Tie as tie
 
-check-requires : tie.Need-check-requires
-check-requires c κs = search needs
-
-check-enter-requires : tie.Need-check-enter-requires
-check-enter-requires c κs = search needs
-
-then-requires : tie.Need-then-requires
-then-requires c κs = search needs
-
-put-entry-requires : tie.Need-put-entry-requires
-put-entry-requires c κs = search needs
-
 returns : tie.Need-returns
 returns c =
     let n = c .before .before in
@@ -40,5 +28,4 @@ returns c =
 
 pub enter-spec : {M : Type 1} → statement M
 enter-spec =
-    tie.close
-    (tie.spec check-requires check-enter-requires then-requires put-entry-requires returns)
+    tie.close (tie.spec (search needs) (search needs) (search needs) (search needs) returns)

@@ -7,15 +7,10 @@ use Rattle.board.specs.Boards.{handed}
 use Rattle.board.proofs.entries.fresh_board.Statement.{statement}
 use Rattle.board.proofs.entries.fresh_board.Tie as tie
 
-givens-of-requires : tie.Need-givens-of-requires
-givens-of-requires c κs = search needs
-
-fresh-masks-requires : tie.Need-fresh-masks-requires
-fresh-masks-requires c κs = search needs
-
 returns : tie.Need-returns
 unfolding openedWith
 returns c = ap (handed _ _) (c .fresh-masks .ensures ∙ ap fresh (c .before .before .givens-of .ensures))
 
 pub fresh-board-spec : {M : Type 1} → statement M
-fresh-board-spec = tie.close (tie.spec givens-of-requires fresh-masks-requires returns)
+fresh-board-spec =
+    tie.close (tie.spec (search needs) (search needs) returns)

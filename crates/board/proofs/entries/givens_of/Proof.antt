@@ -31,33 +31,6 @@ loop-holds : tie.Need-loop-holds Inv-loop μ-loop
 unfolding cells
 loop-holds c = fill-start _ 81 (replicate 81 0) refl ∙ joint-givens _ _
 
-mul-joint : tie.Need-mul-joint Inv-loop μ-loop
-mul-joint c = omega arith
-
-element-copy-out-joint : tie.Need-element-copy-out-joint Inv-loop μ-loop
-element-copy-out-joint c = omega arith
-
-mul-joint-2 : tie.Need-mul-joint-2 Inv-loop μ-loop
-mul-joint-2 c = omega arith
-
-element-copy-out-joint-2 : tie.Need-element-copy-out-joint-2 Inv-loop μ-loop
-element-copy-out-joint-2 c = omega arith
-
-joint-requires : tie.Need-joint-requires Inv-loop μ-loop
-joint-requires c κs = search needs
-
-given-digit-requires : tie.Need-given-digit-requires Inv-loop μ-loop
-given-digit-requires c κs = search needs
-
-array-write-givens : tie.Need-array-write-givens Inv-loop μ-loop
-array-write-givens c = omega arith
-
-add-cell : tie.Need-add-cell Inv-loop μ-loop
-add-cell c = omega arith
-
-loop-less : tie.Need-loop-less Inv-loop μ-loop
-loop-less c = omega arith
-
 loop-again : tie.Need-loop-again Inv-loop μ-loop
 loop-again c =
     let j = c .before in
@@ -77,14 +50,7 @@ givens-of-spec =
     Inv-loop
     μ-loop
     loop-holds
-    mul-joint
-    element-copy-out-joint
-    mul-joint-2
-    element-copy-out-joint-2
-    joint-requires
-    given-digit-requires
-    array-write-givens
-    add-cell
-    loop-less
+    (λ c. omega arith) (λ c. omega arith) (λ c. omega arith) (λ c. omega arith) (search needs) (search needs)
+    (λ c. omega arith) (λ c. omega arith) (λ c. omega arith)
     loop-again
     returns)

@@ -12,15 +12,6 @@ use Rattle.steps.specs.Boards.{digitOf}
 use Rattle.board.proofs.entries.has_digit.Statement.{statement}
 use Rattle.board.proofs.entries.has_digit.Tie as tie
 
-mul-given-digit : tie.Need-mul-given-digit
-mul-given-digit c = search needs
-
-element-copy-out-given-digit : tie.Need-element-copy-out-given-digit
-element-copy-out-given-digit c = search needs
-
-given-digit-requires : tie.Need-given-digit-requires
-given-digit-requires c κs = search needs
-
 returns : tie.Need-returns
 returns c =
     let s = c .before .before in
@@ -29,4 +20,4 @@ returns c =
 
 pub has-digit-spec : {M : Type 1} → statement M
 has-digit-spec =
-    tie.close (tie.spec mul-given-digit element-copy-out-given-digit given-digit-requires returns)
+    tie.close (tie.spec (search needs) (search needs) (search needs) returns)

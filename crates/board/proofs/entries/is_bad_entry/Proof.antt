@@ -12,15 +12,6 @@ use Rattle.steps.specs.Calls.{badClue, badEntry}
 use Rattle.board.proofs.entries.is_bad_entry.Statement.{statement}
 use Rattle.board.proofs.entries.is_bad_entry.Tie as tie
 
-is-bad-requires : tie.Need-is-bad-requires
-is-bad-requires c κs = search needs
-
-given-digit-requires : tie.Need-given-digit-requires
-given-digit-requires c κs = search needs
-
-given-digit-requires-2 : tie.Need-given-digit-requires-2
-given-digit-requires-2 c κs = search needs
-
 -- the three cases
 module _ (k e : ℤ) where
   bad : badClue e ≡ true → true ≡ badEntry k e
@@ -60,5 +51,4 @@ returns-3 c =
 
 pub is-bad-entry-spec : {M : Type 1} → statement M
 is-bad-entry-spec =
-    tie.close
-    (tie.spec is-bad-requires returns given-digit-requires returns-2 given-digit-requires-2 returns-3)
+    tie.close (tie.spec (search needs) returns (search needs) returns-2 (search needs) returns-3)

@@ -8,9 +8,6 @@ use Rattle.steps.specs.Boards.{digitOf, noDigit}
 use Rattle.board.proofs.entries.joint.Statement.{statement}
 use Rattle.board.proofs.entries.joint.Tie as tie
 
-given-digit-requires : tie.Need-given-digit-requires
-given-digit-requires c κs = search needs
-
 digit : (c : tie.After-given-digit) → c .given-digit .result ≡ digitOf (c .before .args .clue)
 digit c = c .given-digit .ensures ∙ ap digitOf (toZ-ofZ (c .before .fits .clue))
 
@@ -27,4 +24,5 @@ returns-2 c =
     toZ-ofZ (s .fits .clue) ∙ sym (cond-false (noDigit (s .args .clue)) (s .args .entry) (s .args .clue) (ne-eqb (digitOf (s .args .clue)) 0 (λ e. c .if1 .left (digit d ∙ e))))
 
 pub joint-spec : {M : Type 1} → statement M
-joint-spec = tie.close (tie.spec given-digit-requires returns returns-2)
+joint-spec =
+    tie.close (tie.spec (search needs) returns returns-2)

@@ -11,18 +11,6 @@ use Rattle.board.specs.Boards.{boardOf}
 use Rattle.board.proofs.entries.put_entry.Statement.{statement}
 use Rattle.board.proofs.entries.put_entry.Tie as tie
 
-enum-told : tie.Need-enum-told
-enum-told c = search needs
-
-enum-told-2 : tie.Need-enum-told-2
-enum-told-2 c = search needs
-
-with-entry-requires : tie.Need-with-entry-requires
-with-entry-requires c κs = search needs
-
-fresh-board-requires : tie.Need-fresh-board-requires
-fresh-board-requires c κs = search needs
-
 returns : tie.Need-returns
 returns c =
     let s = c .before .before .before .before in
@@ -41,5 +29,4 @@ returns-2 c =
 
 pub put-entry-spec : {M : Type 1} → statement M
 put-entry-spec =
-    tie.close
-    (tie.spec enum-told enum-told-2 returns with-entry-requires fresh-board-requires returns-2)
+    tie.close (tie.spec (search needs) (search needs) returns (search needs) (search needs) returns-2)

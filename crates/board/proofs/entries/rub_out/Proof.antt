@@ -8,18 +8,6 @@ use Rattle.board.proofs.Entering.{enters}
 use Rattle.board.proofs.entries.rub_out.Statement.{statement}
 use Rattle.board.proofs.entries.rub_out.Tie as tie
 
-check-requires : tie.Need-check-requires
-check-requires c κs = search needs
-
-check-rub-out-requires : tie.Need-check-rub-out-requires
-check-rub-out-requires c κs = search needs
-
-then-requires : tie.Need-then-requires
-then-requires c κs = search needs
-
-put-entry-requires : tie.Need-put-entry-requires
-put-entry-requires c κs = search needs
-
 returns : tie.Need-returns
 returns c =
     let n = c .before .before in
@@ -32,5 +20,4 @@ returns c =
 
 pub rub-out-spec : {M : Type 1} → statement M
 rub-out-spec =
-    tie.close
-    (tie.spec check-requires check-rub-out-requires then-requires put-entry-requires returns)
+    tie.close (tie.spec (search needs) (search needs) (search needs) (search needs) returns)

@@ -6,17 +6,9 @@ use lib.Seq.{set-out}
 use Rattle.board.proofs.entries.with_entry.Statement.{statement}
 use Rattle.board.proofs.entries.with_entry.Tie as tie
 
-mul-entries : tie.Need-mul-entries
-mul-entries c = search needs
-
-array-set-from-entries : tie.Need-array-set-from-entries
-array-set-from-entries c = search needs
-
-returns : tie.Need-returns
-returns c = search needs
-
 returns-2 : tie.Need-returns-2
 returns-2 c = sym (set-out (c .before .args .t1) (c .before .args .cell) (c .before .args .entry) (omega arith))
 
 pub with-entry-spec : {M : Type 1} → statement M
-with-entry-spec = tie.close (tie.spec mul-entries array-set-from-entries returns returns-2)
+with-entry-spec =
+    tie.close (tie.spec (search needs) (search needs) (λ c. search needs) returns-2)

@@ -9,16 +9,10 @@ use Rattle.board.specs.code.Fresh.{digitMask}
 use Rattle.board.proofs.fresh.fresh_mask.Statement.{statement}
 use Rattle.board.proofs.fresh.fresh_mask.Tie as tie
 
-given-mask-requires : tie.Need-given-mask-requires
-given-mask-requires c κs = search needs
-
 returns : tie.Need-returns
 returns c =
     let a = c .before .before .args in
     c .given-mask .ensures ∙ sym (cond-false (eqb (a .digit) 0) (minus 511 (a .seen)) (digitMask (a .digit)) (ne-eqb (a .digit) 0 (c .before .if1 .taken)))
-
-lose-requires : tie.Need-lose-requires
-lose-requires c κs = search needs
 
 returns-2 : tie.Need-returns-2
 returns-2 c =
@@ -27,4 +21,5 @@ returns-2 c =
     ∙ sym (cond-true (eqb (a .digit) 0) (minus 511 (a .seen)) (digitMask (a .digit)) (eq-eqb (a .digit) 0 (c .before .if1 .left)))
 
 pub fresh-mask-spec : {M : Type 1} → statement M
-fresh-mask-spec = tie.close (tie.spec given-mask-requires returns lose-requires returns-2)
+fresh-mask-spec =
+    tie.close (tie.spec (search needs) returns (search needs) returns-2)

@@ -19,21 +19,9 @@ Inv-loop givens sets masks₀ row₀ masks row = (row ≤ 9) × (each (freshRow 
 abbrev μ-loop : tie.MeasureT-loop
 μ-loop givens sets masks₀ row₀ masks row = 9 - row
 
-unit-sets-requires : tie.Need-unit-sets-requires Inv-loop μ-loop
-unit-sets-requires c κs = search needs
-
 loop-holds : tie.Need-loop-holds Inv-loop μ-loop
 loop-holds c =
     (omega arith, ap (λ (s : List ℕ). each (freshRow (c .before .args .givens .now) s) (range 9 0) (replicate 81 0)) (c .unit-sets .ensures) ∙ fresh-rows (c .before .args .givens .now))
-
-fresh-row-requires : tie.Need-fresh-row-requires Inv-loop μ-loop
-fresh-row-requires c κs = omega arith
-
-add-row : tie.Need-add-row Inv-loop μ-loop
-add-row c = omega arith
-
-loop-less : tie.Need-loop-less Inv-loop μ-loop
-loop-less c = omega arith
 
 loop-again : tie.Need-loop-again Inv-loop μ-loop
 loop-again c =
@@ -49,10 +37,8 @@ fresh-masks-spec =
     (tie.spec
     Inv-loop
     μ-loop
-    unit-sets-requires
+    (search needs)
     loop-holds
-    fresh-row-requires
-    add-row
-    loop-less
+    (λ c. omega arith) (λ c. omega arith) (λ c. omega arith)
     loop-again
     returns)

@@ -29,33 +29,6 @@ loop-holds : tie.Need-loop-holds Inv-loop μ-loop
 unfolding freshRow
 loop-holds c = (omega arith, refl)
 
-mul-cell : tie.Need-mul-cell Inv-loop μ-loop
-mul-cell c = search needs
-
-add-cell : tie.Need-add-cell Inv-loop μ-loop
-add-cell c = search needs
-
-element-copy-out-fresh-mask : tie.Need-element-copy-out-fresh-mask Inv-loop μ-loop
-element-copy-out-fresh-mask c = search needs
-
-seen-digits-requires : tie.Need-seen-digits-requires Inv-loop μ-loop
-seen-digits-requires c κs = search needs
-
-fresh-mask-requires : tie.Need-fresh-mask-requires Inv-loop μ-loop
-fresh-mask-requires c κs = search needs
-
-mul-masks : tie.Need-mul-masks Inv-loop μ-loop
-mul-masks c = search needs
-
-element-write-masks : tie.Need-element-write-masks Inv-loop μ-loop
-element-write-masks c = search needs
-
-add-col : tie.Need-add-col Inv-loop μ-loop
-add-col c = search needs
-
-loop-less : tie.Need-loop-less Inv-loop μ-loop
-loop-less c = omega arith
-
 loop-again : tie.Need-loop-again Inv-loop μ-loop
 loop-again c =
     let l = c .before .before .before .before in
@@ -80,14 +53,7 @@ fresh-row-spec =
     Inv-loop
     μ-loop
     loop-holds
-    mul-cell
-    add-cell
-    element-copy-out-fresh-mask
-    seen-digits-requires
-    fresh-mask-requires
-    mul-masks
-    element-write-masks
-    add-col
-    loop-less
+    (search needs) (search needs) (search needs) (search needs) (search needs) (search needs) (search needs)
+    (search needs) (λ c. omega arith)
     loop-again
     returns)

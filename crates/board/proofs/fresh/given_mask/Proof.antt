@@ -12,16 +12,11 @@ use Rattle.board.proofs.fresh.given_mask.Tie as tie
 returns : tie.Need-returns
 returns c = sym (cond-true (eqb (c .before .args .digit) 0) 0 _ (eq-eqb _ _ (c .if1 .taken)))
 
-sub-digit-mask : tie.Need-sub-digit-mask
-sub-digit-mask c = search needs
-
-digit-mask-requires : tie.Need-digit-mask-requires
-digit-mask-requires c κs = search needs
-
 returns-2 : tie.Need-returns-2
 returns-2 c =
     let d = c .before .before .args .digit in
     c .digit-mask .ensures ∙ sym (cond-false (eqb d 0) 0 (placeMask (d - 1)) (ne-eqb d 0 (c .before .if1 .left)))
 
 pub given-mask-spec : {M : Type 1} → statement M
-given-mask-spec = tie.close (tie.spec returns sub-digit-mask digit-mask-requires returns-2)
+given-mask-spec =
+    tie.close (tie.spec returns (search needs) (search needs) returns-2)

@@ -26,27 +26,6 @@ loop-holds : tie.Need-loop-holds Inv-loop μ-loop
 unfolding joinRow
 loop-holds c = (omega arith, refl)
 
-mul-digit : tie.Need-mul-digit Inv-loop μ-loop
-mul-digit c = search needs
-
-add-digit : tie.Need-add-digit Inv-loop μ-loop
-add-digit c = search needs
-
-element-copy-out-digit : tie.Need-element-copy-out-digit Inv-loop μ-loop
-element-copy-out-digit c = search needs
-
-given-mask-requires : tie.Need-given-mask-requires Inv-loop μ-loop
-given-mask-requires c κs = search needs
-
-join-units-requires : tie.Need-join-units-requires Inv-loop μ-loop
-join-units-requires c κs = search needs
-
-add-col : tie.Need-add-col Inv-loop μ-loop
-add-col c = search needs
-
-loop-less : tie.Need-loop-less Inv-loop μ-loop
-loop-less c = omega arith
-
 loop-again : tie.Need-loop-again Inv-loop μ-loop
 loop-again c =
     (omega arith, turn-done _ 9 k (omega arith) joined (c .before .before .before .loop .inv .1))
@@ -82,12 +61,6 @@ join-row-spec =
     Inv-loop
     μ-loop
     loop-holds
-    mul-digit
-    add-digit
-    element-copy-out-digit
-    given-mask-requires
-    join-units-requires
-    add-col
-    loop-less
+    (search needs) (search needs) (search needs) (search needs) (search needs) (search needs) (λ c. omega arith)
     loop-again
     returns)

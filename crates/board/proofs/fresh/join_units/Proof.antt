@@ -5,21 +5,6 @@ use Rattle.grid.proofs.Marks.{joined-three}
 use Rattle.board.proofs.fresh.join_units.Statement.{statement}
 use Rattle.board.proofs.fresh.join_units.Tie as tie
 
-join-at-requires : tie.Need-join-at-requires
-join-at-requires c κs = search needs
-
-add-join-at : tie.Need-add-join-at
-add-join-at c = search needs
-
-join-at-requires-2 : tie.Need-join-at-requires-2
-join-at-requires-2 c κs = search needs
-
-box-unit-requires : tie.Need-box-unit-requires
-box-unit-requires c κs = search needs
-
-join-at-requires-3 : tie.Need-join-at-requires-3
-join-at-requires-3 c κs = search needs
-
 returns : tie.Need-returns
 returns c =
     let col = c .before .before .before in
@@ -32,11 +17,4 @@ returns c =
 
 pub join-units-spec : {M : Type 1} → statement M
 join-units-spec =
-    tie.close
-    (tie.spec
-    join-at-requires
-    add-join-at
-    join-at-requires-2
-    box-unit-requires
-    join-at-requires-3
-    returns)
+    tie.close (tie.spec (search needs) (search needs) (search needs) (search needs) (search needs) returns)

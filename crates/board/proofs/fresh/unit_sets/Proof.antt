@@ -18,15 +18,6 @@ loop-holds : tie.Need-loop-holds Inv-loop μ-loop
 unfolding unitSets
 loop-holds c = (omega arith, refl)
 
-join-row-requires : tie.Need-join-row-requires Inv-loop μ-loop
-join-row-requires c κs = omega arith
-
-add-row : tie.Need-add-row Inv-loop μ-loop
-add-row c = omega arith
-
-loop-less : tie.Need-loop-less Inv-loop μ-loop
-loop-less c = omega arith
-
 loop-again : tie.Need-loop-again Inv-loop μ-loop
 loop-again c =
     let l = c .before .before .before in
@@ -38,4 +29,10 @@ returns c = turns-over _ 9 (c .before .loop .row) (c .loop-test .left) (c .befor
 pub unit-sets-spec : {M : Type 1} → statement M
 unit-sets-spec =
     tie.close
-    (tie.spec Inv-loop μ-loop loop-holds join-row-requires add-row loop-less loop-again returns)
+    (tie.spec
+    Inv-loop
+    μ-loop
+    loop-holds
+    (λ c. omega arith) (λ c. omega arith) (λ c. omega arith)
+    loop-again
+    returns)

@@ -91,40 +91,10 @@ loop-holds : tie.Need-loop-holds Inv-loop μ-loop
 unfolding cells onlyDigits
 loop-holds c = record { some = refl; one = refl; full = λ t. fill-start _ 81 (replicate 81 (pos 0)) refl }
 
-mul-mask : tie.Need-mul-mask Inv-loop μ-loop
-mul-mask c = omega arith
-
-element-copy-out-mask : tie.Need-element-copy-out-mask Inv-loop μ-loop
-element-copy-out-mask c = omega arith
-
-single-candidate-requires : tie.Need-single-candidate-requires Inv-loop μ-loop
-single-candidate-requires c κs = search needs
-
-enum-told : tie.Need-enum-told Inv-loop μ-loop
-enum-told c = search needs
-
 returns : tie.Need-returns Inv-loop μ-loop
 returns c =
     let s = c .before .before in
     dead (s .before .before .before .loop .inv) (omega arith) (single-tells _ (sym (c .enum-told .given .1) ∙ s .single-candidate .ensures))
-
-enum-told-2 : tie.Need-enum-told-2 Inv-loop μ-loop
-enum-told-2 c = search needs
-
-enum-known-digit : tie.Need-enum-known-digit Inv-loop μ-loop
-enum-known-digit c = search needs
-
-mul-digits : tie.Need-mul-digits Inv-loop μ-loop
-mul-digits c = omega arith
-
-array-set-from-digits : tie.Need-array-set-from-digits Inv-loop μ-loop
-array-set-from-digits c = omega arith
-
-add-cell : tie.Need-add-cell Inv-loop μ-loop
-add-cell c = omega arith
-
-loop-less : tie.Need-loop-less Inv-loop μ-loop
-loop-less c = omega arith
 
 loop-again : tie.Need-loop-again Inv-loop μ-loop
 loop-again c =
@@ -140,9 +110,6 @@ returns-2 c =
     let at = c .before .before in
     let w = over (at .loop .inv) (c .before .loop-test .left) in
     is-open _ (w .0) (w .1 ∙ not-true (at .loop .finished) (c .if1 .taken))
-
-verify-solution-requires : tie.Need-verify-solution-requires Inv-loop μ-loop
-verify-solution-requires c κs = search needs
 
 returns-3 : tie.Need-returns-3 Inv-loop μ-loop
 returns-3 c =
@@ -163,19 +130,11 @@ verdict-of-spec =
     Inv-loop
     μ-loop
     loop-holds
-    mul-mask
-    element-copy-out-mask
-    single-candidate-requires
-    enum-told
+    (λ c. omega arith) (λ c. omega arith) (search needs) (search needs)
     returns
-    enum-told-2
-    enum-known-digit
-    mul-digits
-    array-set-from-digits
-    add-cell
-    loop-less
+    (search needs) (search needs) (λ c. omega arith) (λ c. omega arith) (λ c. omega arith) (λ c. omega arith)
     loop-again
     returns-2
-    verify-solution-requires
+    (search needs)
     returns-3
     returns-4)

@@ -7,12 +7,6 @@ use Rattle.stops.specs.declared.Progress.{Progress}
 use Rattle.calls.proofs.answers.of_progress.Statement.{statement}
 use Rattle.calls.proofs.answers.of_progress.Tie as tie
 
-enum-known-progress : tie.Need-enum-known-progress
-enum-known-progress c = search needs
-
-enum-known-progress-2 : tie.Need-enum-known-progress-2
-enum-known-progress-2 c = search needs
-
 returns : tie.Need-returns
 returns c = ap (λ (p : Progress). some (progressAnswer p)) (sym (c .before .progress .given .1))
 
@@ -20,4 +14,5 @@ returns-2 : tie.Need-returns-2
 returns-2 c = ap (λ (p : Progress). some (progressAnswer p)) (sym (c .before .progress2 .given .1))
 
 pub of-progress-spec : {M : Type 1} → statement M
-of-progress-spec = tie.close (tie.spec enum-known-progress enum-known-progress-2 returns returns-2)
+of-progress-spec =
+    tie.close (tie.spec (search needs) (search needs) returns returns-2)

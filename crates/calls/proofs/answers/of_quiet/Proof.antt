@@ -9,12 +9,6 @@ use Rattle.calls.proofs.Arms.{quiet-reports, step-board}
 use Rattle.calls.proofs.answers.of_quiet.Statement.{statement}
 use Rattle.calls.proofs.answers.of_quiet.Tie as tie
 
-quiet-step-requires : tie.Need-quiet-step-requires
-quiet-step-requires c κs = search needs
-
-new-requires : tie.Need-new-requires
-new-requires c κs = search needs
-
 returns : tie.Need-returns
 returns c =
     let d = c .before in
@@ -31,4 +25,5 @@ returns c =
     }
 
 pub of-quiet-spec : {M : Type 1} → statement M
-of-quiet-spec = tie.close (tie.spec quiet-step-requires new-requires returns)
+of-quiet-spec =
+    tie.close (tie.spec (search needs) (search needs) returns)

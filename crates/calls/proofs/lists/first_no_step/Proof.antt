@@ -24,22 +24,10 @@ loop-holds : tie.Need-loop-holds Inv-loop μ-loop
 unfolding firstNoStep
 loop-holds c = simp sub-zero
 
-shared-slice-read-is-step : tie.Need-shared-slice-read-is-step Inv-loop μ-loop
-shared-slice-read-is-step c = omega arith
-
-is-step-requires : tie.Need-is-step-requires Inv-loop μ-loop
-is-step-requires c κs = search needs
-
 returns : tie.Need-returns Inv-loop μ-loop
 returns c =
     let at = c .before .before .before .before in
     found _ (length (at .before .before .args .steps .now)) (at .loop .index) (at .loop .inv) (omega arith) (ap not (c .before .is-step .ensures)) (c .if1 .taken)
-
-add-index : tie.Need-add-index Inv-loop μ-loop
-add-index c = omega arith
-
-loop-less : tie.Need-loop-less Inv-loop μ-loop
-loop-less c = omega arith
 
 loop-again : tie.Need-loop-again Inv-loop μ-loop
 loop-again c =
@@ -56,10 +44,8 @@ first-no-step-spec =
     Inv-loop
     μ-loop
     loop-holds
-    shared-slice-read-is-step
-    is-step-requires
+    (λ c. omega arith) (search needs)
     returns
-    add-index
-    loop-less
+    (λ c. omega arith) (λ c. omega arith)
     loop-again
     returns-2)

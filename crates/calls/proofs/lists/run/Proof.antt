@@ -24,23 +24,8 @@ Inv-loop steps clues entries masks₀ givens index₀ masks index =
 abbrev μ-loop : tie.MeasureT-loop
 μ-loop steps clues entries masks₀ givens index₀ masks index = length steps - index
 
-givens-of-requires : tie.Need-givens-of-requires Inv-loop μ-loop
-givens-of-requires c κs = search needs
-
 loop-holds : tie.Need-loop-holds Inv-loop μ-loop
 loop-holds c = (admitted-good _ (c .before .before .before .before .before .before .before .pre), refl)
-
-shared-slice-read-step-masks : tie.Need-shared-slice-read-step-masks Inv-loop μ-loop
-shared-slice-read-step-masks c = omega arith
-
-step-masks-requires : tie.Need-step-masks-requires Inv-loop μ-loop
-step-masks-requires c κs = search needs
-
-add-index : tie.Need-add-index Inv-loop μ-loop
-add-index c = omega arith
-
-loop-less : tie.Need-loop-less Inv-loop μ-loop
-loop-less c = omega arith
 
 loop-again : tie.Need-loop-again Inv-loop μ-loop
 loop-again c =
@@ -69,11 +54,8 @@ run-spec =
     (tie.spec
     Inv-loop
     μ-loop
-    givens-of-requires
+    (search needs)
     loop-holds
-    shared-slice-read-step-masks
-    step-masks-requires
-    add-index
-    loop-less
+    (λ c. omega arith) (search needs) (λ c. omega arith) (λ c. omega arith)
     loop-again
     returns)

@@ -9,51 +9,6 @@ use Rattle.calls.proofs.Unchecked.{masks-are, masks-stay}
 use Rattle.calls.proofs.lists.step_masks.Statement.{statement}
 use Rattle.calls.proofs.lists.step_masks.Tie as tie
 
-fresh-masks-requires : tie.Need-fresh-masks-requires
-fresh-masks-requires c κs = search needs
-
-eliminate-requires : tie.Need-eliminate-requires
-eliminate-requires c κs = search needs
-
-eliminate-requires-2 : tie.Need-eliminate-requires-2
-eliminate-requires-2 c κs = search needs
-
-eliminate-requires-3 : tie.Need-eliminate-requires-3
-eliminate-requires-3 c κs = search needs
-
-advance-requires : tie.Need-advance-requires
-advance-requires c κs = search needs
-
-eliminate-requires-4 : tie.Need-eliminate-requires-4
-eliminate-requires-4 c κs = search needs
-
-eliminate-requires-5 : tie.Need-eliminate-requires-5
-eliminate-requires-5 c κs = search needs
-
-eliminate-requires-6 : tie.Need-eliminate-requires-6
-eliminate-requires-6 c κs = search needs
-
-eliminate-requires-7 : tie.Need-eliminate-requires-7
-eliminate-requires-7 c κs = search needs
-
-eliminate-requires-8 : tie.Need-eliminate-requires-8
-eliminate-requires-8 c κs = search needs
-
-slice-aggregate-settle : tie.Need-slice-aggregate-settle
-slice-aggregate-settle c = search needs
-
-settle-requires : tie.Need-settle-requires
-settle-requires c κs = search needs
-
-eliminate-requires-9 : tie.Need-eliminate-requires-9
-eliminate-requires-9 c κs = search needs
-
-eliminate-requires-10 : tie.Need-eliminate-requires-10
-eliminate-requires-10 c κs = search needs
-
-eliminate-requires-11 : tie.Need-eliminate-requires-11
-eliminate-requires-11 c κs = search needs
-
 returns : tie.Need-returns
 unfolding outcome
 returns c =
@@ -164,21 +119,9 @@ pub step-masks-spec : {M : Type 1} → statement M
 step-masks-spec =
     tie.close
     (tie.spec
-    fresh-masks-requires
-    eliminate-requires
-    eliminate-requires-2
-    eliminate-requires-3
-    advance-requires
-    eliminate-requires-4
-    eliminate-requires-5
-    eliminate-requires-6
-    eliminate-requires-7
-    eliminate-requires-8
-    slice-aggregate-settle
-    settle-requires
-    eliminate-requires-9
-    eliminate-requires-10
-    eliminate-requires-11
+    (search needs) (search needs) (search needs) (search needs) (search needs) (search needs) (search needs)
+    (search needs) (search needs) (search needs) (search needs) (search needs) (search needs) (search needs)
+    (search needs)
     returns
     returns-2
     returns-3

@@ -7,15 +7,6 @@ use Rattle.calls.proofs.Arms.{uncounted-tells, uncounted-elimination}
 use Rattle.calls.proofs.quiet.eliminate.Statement.{statement}
 use Rattle.calls.proofs.quiet.eliminate.Tie as tie
 
-eliminate-handed-requires : tie.Need-eliminate-handed-requires
-eliminate-handed-requires c κs = search needs
-
-of-progress-requires : tie.Need-of-progress-requires
-of-progress-requires c κs = search needs
-
-uncounted-requires : tie.Need-uncounted-requires
-uncounted-requires c κs = search needs
-
 returns : tie.Need-returns
 returns c =
     let d = c .before .before in
@@ -27,4 +18,5 @@ returns c =
     (uncounted-tells (callOf x) b (uncounted-elimination x) (s .0) (record { flag = h .flag ∙ c .before .of-progress .ensures; sweeps = h .sweeps; removed = h .removed }), s .1)
 
 pub eliminate-spec : {M : Type 1} → statement M
-eliminate-spec = tie.close (tie.spec eliminate-handed-requires of-progress-requires uncounted-requires returns)
+eliminate-spec =
+    tie.close (tie.spec (search needs) (search needs) (search needs) returns)

@@ -10,15 +10,6 @@ use Rattle.passes.specs.declared.Settling.{Settling}
 use Rattle.calls.proofs.quiet.of_settling.Statement.{statement}
 use Rattle.calls.proofs.quiet.of_settling.Tie as tie
 
-enum-known-settling : tie.Need-enum-known-settling
-enum-known-settling c = search needs
-
-enum-known-settling-2 : tie.Need-enum-known-settling-2
-enum-known-settling-2 c = search needs
-
-uncounted-requires : tie.Need-uncounted-requires
-uncounted-requires c κs = search needs
-
 returns : tie.Need-returns
 returns c =
     let is = sym (c .before .settling .given .1) in
@@ -40,5 +31,4 @@ returns-2 c =
 
 pub of-settling-spec : {M : Type 1} → statement M
 of-settling-spec =
-    tie.close
-    (tie.spec enum-known-settling enum-known-settling-2 uncounted-requires returns returns-2)
+    tie.close (tie.spec (search needs) (search needs) (search needs) returns returns-2)

@@ -8,18 +8,6 @@ use Rattle.stops.specs.declared.Check.{Check}
 use Rattle.calls.proofs.quiet.of_update.Statement.{statement}
 use Rattle.calls.proofs.quiet.of_update.Tie as tie
 
-enum-told : tie.Need-enum-told
-enum-told c = search needs
-
-uncounted-requires : tie.Need-uncounted-requires
-uncounted-requires c κs = search needs
-
-enum-known-check : tie.Need-enum-known-check
-enum-known-check c = search needs
-
-uncounted-requires-2 : tie.Need-uncounted-requires-2
-uncounted-requires-2 c κs = search needs
-
 returns : tie.Need-returns
 returns c =
     let h = c .uncounted .ensures in
@@ -32,5 +20,4 @@ returns-2 c =
 
 pub of-update-spec : {M : Type 1} → statement M
 of-update-spec =
-    tie.close
-    (tie.spec enum-told uncounted-requires enum-known-check uncounted-requires-2 returns returns-2)
+    tie.close (tie.spec (search needs) (search needs) (search needs) (search needs) returns returns-2)

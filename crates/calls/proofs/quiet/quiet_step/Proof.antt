@@ -10,48 +10,6 @@ use Rattle.calls.proofs.Arms.{no-quiet-is, quiet-is, told-by}
 use Rattle.calls.proofs.quiet.quiet_step.Statement.{statement}
 use Rattle.calls.proofs.quiet.quiet_step.Tie as tie
 
-update-requires : tie.Need-update-requires
-update-requires c κs = search needs
-
-eliminate-requires : tie.Need-eliminate-requires
-eliminate-requires c κs = search needs
-
-eliminate-requires-2 : tie.Need-eliminate-requires-2
-eliminate-requires-2 c κs = search needs
-
-eliminate-requires-3 : tie.Need-eliminate-requires-3
-eliminate-requires-3 c κs = search needs
-
-eliminate-requires-4 : tie.Need-eliminate-requires-4
-eliminate-requires-4 c κs = search needs
-
-eliminate-requires-5 : tie.Need-eliminate-requires-5
-eliminate-requires-5 c κs = search needs
-
-eliminate-requires-6 : tie.Need-eliminate-requires-6
-eliminate-requires-6 c κs = search needs
-
-eliminate-requires-7 : tie.Need-eliminate-requires-7
-eliminate-requires-7 c κs = search needs
-
-eliminate-requires-8 : tie.Need-eliminate-requires-8
-eliminate-requires-8 c κs = search needs
-
-settle-requires : tie.Need-settle-requires
-settle-requires c κs = search needs
-
-eliminate-requires-9 : tie.Need-eliminate-requires-9
-eliminate-requires-9 c κs = search needs
-
-eliminate-requires-10 : tie.Need-eliminate-requires-10
-eliminate-requires-10 c κs = search needs
-
-eliminate-requires-11 : tie.Need-eliminate-requires-11
-eliminate-requires-11 c κs = search needs
-
-uncounted-requires : tie.Need-uncounted-requires
-uncounted-requires c κs = search needs
-
 returns : tie.Need-returns
 returns c =
     let m = c .before .before in
@@ -169,20 +127,8 @@ pub quiet-step-spec : {M : Type 1} → statement M
 quiet-step-spec =
     tie.close
     (tie.spec
-    update-requires
-    eliminate-requires
-    eliminate-requires-2
-    eliminate-requires-3
-    eliminate-requires-4
-    eliminate-requires-5
-    eliminate-requires-6
-    eliminate-requires-7
-    eliminate-requires-8
-    settle-requires
-    eliminate-requires-9
-    eliminate-requires-10
-    eliminate-requires-11
-    uncounted-requires
+    (search needs) (search needs) (search needs) (search needs) (search needs) (search needs) (search needs)
+    (search needs) (search needs) (search needs) (search needs) (search needs) (search needs) (search needs)
     returns
     returns-2
     returns-3

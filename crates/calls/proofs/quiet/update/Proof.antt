@@ -8,12 +8,6 @@ use Rattle.calls.proofs.Arms.{uncounted-tells, uncounted-update, update
 use Rattle.calls.proofs.quiet.update.Statement.{statement}
 use Rattle.calls.proofs.quiet.update.Tie as tie
 
-update-candidates-requires : tie.Need-update-candidates-requires
-update-candidates-requires c κs = search needs
-
-of-update-requires : tie.Need-of-update-requires
-of-update-requires c κs = search needs
-
 returns : tie.Need-returns
 returns c =
     let u = c .before .before in
@@ -23,4 +17,5 @@ returns c =
     (uncounted-tells updateCandidates b uncounted-update (update-flag b (e .0)) (c .of-update .ensures), ap (λ (b : S.Board). b .masks) (e .1))
 
 pub update-spec : {M : Type 1} → statement M
-update-spec = tie.close (tie.spec update-candidates-requires of-update-requires returns)
+update-spec =
+    tie.close (tie.spec (search needs) (search needs) returns)

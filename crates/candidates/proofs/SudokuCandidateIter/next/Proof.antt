@@ -13,26 +13,11 @@ use Rattle.candidates.proofs.Tests.{cond-true, cond-false}
 use Rattle.candidates.proofs.SudokuCandidateIter.next.Statement.{statement}
 use Rattle.candidates.proofs.SudokuCandidateIter.next.Tie as tie
 
-cast-from : tie.Need-cast-from
-cast-from c = search needs
-
-first-digit-requires : tie.Need-first-digit-requires
-first-digit-requires c κs = search needs
-
 returns : tie.Need-returns
 returns c =
     let p = c .before .first-digit .result in
     let m = c .before .before .before .args .self .mask in
     sym (cond-false (ltb p 9) (some (pos (p + 1), m, p + 1)) none (le-ltb p 9 (c .if1 .taken))) ∙ ap (nextAt m) (c .before .first-digit .ensures)
-
-digit-at-requires : tie.Need-digit-at-requires
-digit-at-requires c κs = search needs
-
-add-t6 : tie.Need-add-t6
-add-t6 c = search needs
-
-cast-t7 : tie.Need-cast-t7
-cast-t7 c = search needs
 
 returns-2 : tie.Need-returns-2
 returns-2 c =
@@ -45,5 +30,4 @@ returns-2 c =
 
 pub next-spec : {M : Type 1} → statement M
 next-spec =
-    tie.close
-    (tie.spec cast-from first-digit-requires returns digit-at-requires add-t6 cast-t7 returns-2)
+    tie.close (tie.spec (search needs) (search needs) returns (search needs) (search needs) (search needs) returns-2)

@@ -6,11 +6,9 @@ use Rattle.candidates.specs.Sets.{containsOf}
 use Rattle.candidates.proofs.SudokuCandidateSet.contains.Statement.{statement}
 use Rattle.candidates.proofs.SudokuCandidateSet.contains.Tie as tie
 
-presence-requires : tie.Need-presence-requires
-presence-requires c κs = search needs
-
 returns : tie.Need-returns
 returns c = c .presence .ensures ∙ ap (containsOf (c .before .args .self .mask)) (toZ-ofZ (c .before .fits .digit))
 
 pub contains-spec : {M : Type 1} → statement M
-contains-spec = tie.close (tie.spec presence-requires returns)
+contains-spec =
+    tie.close (tie.spec (search needs) returns)

@@ -10,16 +10,10 @@ use Rattle.candidates.proofs.Places.{accepted, at-place, stops}
 use Rattle.candidates.proofs.SudokuCandidateSet.single.Statement.{statement}
 use Rattle.candidates.proofs.SudokuCandidateSet.single.Tie as tie
 
-place-of-requires : tie.Need-place-of-requires
-place-of-requires c κs = search needs
-
 returns : tie.Need-returns
 returns c =
     let s = c .before .before in
     stops (s .args .digit) (c .before .place-of .result) _ (s .fits .digit) (c .before .place-of .ensures) (c .if1 .taken)
-
-digit-mask-requires : tie.Need-digit-mask-requires
-digit-mask-requires c κs = search needs
 
 returns-2 : tie.Need-returns-2
 returns-2 c =
@@ -30,4 +24,5 @@ returns-2 c =
     (c .before .if1 .left)
 
 pub single-spec : {M : Type 1} → statement M
-single-spec = tie.close (tie.spec place-of-requires returns digit-mask-requires returns-2)
+single-spec =
+    tie.close (tie.spec (search needs) returns (search needs) returns-2)

@@ -13,22 +13,10 @@ use Rattle.candidates.proofs.Only.{none-empty, one-digit, more-several,
 use Rattle.candidates.proofs.SudokuCandidateSet.single_candidate.Statement.{statement}
 use Rattle.candidates.proofs.SudokuCandidateSet.single_candidate.Tie as tie
 
-is-none-requires : tie.Need-is-none-requires
-is-none-requires c κs = search needs
-
 returns : tie.Need-returns
 returns c =
     let m = c .before .before .before .args .self .mask in
     sym (none-empty m (eqb-true (count (lowNine m)) 0 (sym (c .before .is-none .ensures) ∙ c .if1 .taken)))
-
-is-one-requires : tie.Need-is-one-requires
-is-one-requires c κs = search needs
-
-lowest-digit-requires : tie.Need-lowest-digit-requires
-lowest-digit-requires c κs = search needs
-
-digit-at-requires : tie.Need-digit-at-requires
-digit-at-requires c κs = search needs
 
 returns-2 : tie.Need-returns-2
 returns-2 c =
@@ -47,4 +35,4 @@ returns-3 c =
 
 pub single-candidate-spec : {M : Type 1} → statement M
 single-candidate-spec =
-    tie.close (tie.spec is-none-requires returns is-one-requires lowest-digit-requires digit-at-requires returns-2 returns-3)
+    tie.close (tie.spec (search needs) returns (search needs) (search needs) (search needs) returns-2 returns-3)

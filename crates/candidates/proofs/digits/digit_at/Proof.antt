@@ -12,14 +12,9 @@ use Rattle.candidates.proofs.digits.digit_at.Tie as tie
 returns : tie.Need-returns
 returns c = ap pos (omega arith)
 
-add-result : tie.Need-add-result
-add-result c = search needs
-
-cast-result : tie.Need-cast-result
-cast-result c = search needs
-
 returns-2 : tie.Need-returns-2
 returns-2 c = toZ-pos w32 {n = c .before .args .place + 1} (omega arith) ∙ ap pos (omega arith)
 
 pub digit-at-spec : {M : Type 1} → statement M
-digit-at-spec = tie.close (tie.spec returns add-result cast-result returns-2)
+digit-at-spec =
+    tie.close (tie.spec returns (search needs) (search needs) returns-2)

@@ -6,9 +6,6 @@ use Rattle.candidates.proofs.Places.{accepted, stops}
 use Rattle.candidates.proofs.digits.insertion.Statement.{statement}
 use Rattle.candidates.proofs.digits.insertion.Tie as tie
 
-place-of-requires : tie.Need-place-of-requires
-place-of-requires c κs = search needs
-
 returns : tie.Need-returns
 returns c =
     let s = c .before .before in
@@ -21,4 +18,5 @@ returns-2 c =
     (c .before .place-of .ensures) (c .if1 .left)
 
 pub insertion-spec : {M : Type 1} → statement M
-insertion-spec = tie.close (tie.spec place-of-requires returns returns-2)
+insertion-spec =
+    tie.close (tie.spec (search needs) returns returns-2)

@@ -9,16 +9,10 @@ use Rattle.candidates.proofs.Places.{accepted, at-place, stops}
 use Rattle.candidates.proofs.digits.presence.Statement.{statement}
 use Rattle.candidates.proofs.digits.presence.Tie as tie
 
-place-of-requires : tie.Need-place-of-requires
-place-of-requires c κs = search needs
-
 returns : tie.Need-returns
 returns c =
     let s = c .before .before in
     stops (s .args .digit) (c .before .place-of .result) _ (s .fits .digit) (c .before .place-of .ensures) (c .if1 .taken)
-
-has-digit-requires : tie.Need-has-digit-requires
-has-digit-requires c κs = search needs
 
 -- the bit's answer is the set's
 answers : (c : tie.After-has-digit) → gives (c .has-digit .result) ≡ containsOf (c .before .before .before .args .mask) (c .before .before .before .args .digit)
@@ -37,4 +31,4 @@ returns-3 c = ap gives (sym (c .if2 .left)) ∙ answers (c .before)
 
 pub presence-spec : {M : Type 1} → statement M
 presence-spec =
-    tie.close (tie.spec place-of-requires returns has-digit-requires returns-2 returns-3)
+    tie.close (tie.spec (search needs) returns (search needs) returns-2 returns-3)

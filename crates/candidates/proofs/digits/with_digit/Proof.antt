@@ -5,20 +5,11 @@ use Rattle.candidates.proofs.Places.{refused, changes}
 use Rattle.candidates.proofs.digits.with_digit.Statement.{statement}
 use Rattle.candidates.proofs.digits.with_digit.Tie as tie
 
-place-of-requires : tie.Need-place-of-requires
-place-of-requires c κs = search needs
-
 returns : tie.Need-returns
 returns c =
     let s = c .before .before in
     refused (s .args .digit) (c .before .place-of .result) _ (s .args .mask) (s .fits .digit) (c .before .place-of .ensures)
     (c .if1 .taken)
-
-digit-mask-requires : tie.Need-digit-mask-requires
-digit-mask-requires c κs = search needs
-
-join-requires : tie.Need-join-requires
-join-requires c κs = search needs
 
 returns-2 : tie.Need-returns-2
 returns-2 c =
@@ -28,4 +19,5 @@ returns-2 c =
     (s .fits .digit) (a .place-of .ensures) (c .before .before .if1 .left) (c .before .digit-mask .ensures) (c .join .ensures)
 
 pub with-digit-spec : {M : Type 1} → statement M
-with-digit-spec = tie.close (tie.spec place-of-requires returns digit-mask-requires join-requires returns-2)
+with-digit-spec =
+    tie.close (tie.spec (search needs) returns (search needs) (search needs) returns-2)

@@ -8,8 +8,6 @@ use Rattle.candidates.proofs.masks.digit_count.Tie as tie
 cast-result : tie.Need-cast-result
 cast-result c = record { fits = omega (arith, ones-le 16 (c .args .mask) (c .fits .mask .fits)) }
 
-returns : tie.Need-returns
-returns c = search needs
-
 pub digit-count-spec : {M : Type 1} → statement M
-digit-count-spec = tie.close (tie.spec cast-result returns)
+digit-count-spec =
+    tie.close (tie.spec cast-result (λ c. search needs))

@@ -14,9 +14,6 @@ use Rattle.candidates.proofs.masks.digit_mask.Tie as tie
 small : (c : tie.Then1) → 2 ^ c .before .args .place < 2 ^ 16
 small c = pow-lt (c .if1 .taken)
 
-shl-result : tie.Need-shl-result
-shl-result c = search needs
-
 cast-result : tie.Need-cast-result
 cast-result c = omega (arith, small c)
 
@@ -29,4 +26,5 @@ returns-2 c =
     sym (cond-false (ltb p 16) (2 ^ p) 0 (le-ltb p 16 (c .if1 .left)))
 
 pub digit-mask-spec : {M : Type 1} → statement M
-digit-mask-spec = tie.close (tie.spec shl-result cast-result returns returns-2)
+digit-mask-spec =
+    tie.close (tie.spec (search needs) cast-result returns returns-2)

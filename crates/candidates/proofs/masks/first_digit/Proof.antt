@@ -11,15 +11,6 @@ use Rattle.candidates.proofs.masks.first_digit.Tie as tie
 returns : tie.Need-returns
 returns c = sym (first-end (c .before .args .mask) (c .before .args .from) (c .if1 .taken))
 
-cast-lowest-digit : tie.Need-cast-lowest-digit
-cast-lowest-digit c = search needs
-
-shr-lowest-digit : tie.Need-shr-lowest-digit
-shr-lowest-digit c = search needs
-
-lowest-digit-requires : tie.Need-lowest-digit-requires
-lowest-digit-requires c κs = search needs
-
 add-place : tie.Need-add-place
 add-place c =
     let a = c .before .before .args in
@@ -40,12 +31,4 @@ returns-3 c = found (c .before) .1 (c .if2 .left)
 
 pub first-digit-spec : {M : Type 1} → statement M
 first-digit-spec =
-    tie.close
-    (tie.spec
-    returns
-    cast-lowest-digit
-    shr-lowest-digit
-    lowest-digit-requires
-    add-place
-    returns-2
-    returns-3)
+    tie.close (tie.spec returns (search needs) (search needs) (search needs) add-place returns-2 returns-3)

@@ -7,19 +7,11 @@ use Rattle.candidates.proofs.Membership.{bit-high}
 use Rattle.candidates.proofs.masks.has_digit.Statement.{statement}
 use Rattle.candidates.proofs.masks.has_digit.Tie as tie
 
-cast-result : tie.Need-cast-result
-cast-result c = search needs
-
-shr-result : tie.Need-shr-result
-shr-result c = search needs
-
-returns : tie.Need-returns
-returns c = search needs
-
 returns-2 : tie.Need-returns-2
 returns-2 c =
     let s = c .before in
     sym (ap (λ (n : ℕ). eqb n 1) (bit-high (s .args .mask) 16 (s .args .place) (s .fits .mask .fits) (c .if1 .left)))
 
 pub has-digit-spec : {M : Type 1} → statement M
-has-digit-spec = tie.close (tie.spec cast-result shr-result returns returns-2)
+has-digit-spec =
+    tie.close (tie.spec (search needs) (search needs) (λ c. search needs) returns-2)

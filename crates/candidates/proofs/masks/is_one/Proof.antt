@@ -12,13 +12,11 @@ use Rattle.candidates.proofs.masks.is_one.Tie as tie
 returns : tie.Need-returns
 returns c = sym (ap (λ (m : ℕ). eqb (count m) 1) (c .if1 .taken) ∙ ap (λ (n : ℕ). eqb n 1) count-none)
 
-lose-lowest-requires : tie.Need-lose-lowest-requires
-lose-lowest-requires c κs = search needs
-
 returns-2 : tie.Need-returns-2
 returns-2 c =
     let s = c .before .before in
     ap (λ (n : ℕ). eqb n 0) (c .lose-lowest .ensures) ∙ test-one (s .args .mask) (omega arith) (s .fits .mask .fits)
 
 pub is-one-spec : {M : Type 1} → statement M
-is-one-spec = tie.close (tie.spec returns lose-lowest-requires returns-2)
+is-one-spec =
+    tie.close (tie.spec returns (search needs) returns-2)

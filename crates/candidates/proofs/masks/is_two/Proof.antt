@@ -8,16 +8,11 @@ use Rattle.candidates.proofs.Counts.{test-two}
 use Rattle.candidates.proofs.masks.is_two.Statement.{statement}
 use Rattle.candidates.proofs.masks.is_two.Tie as tie
 
-lose-lowest-requires : tie.Need-lose-lowest-requires
-lose-lowest-requires c κs = search needs
-
-is-one-requires : tie.Need-is-one-requires
-is-one-requires c κs = search needs
-
 returns : tie.Need-returns
 returns c =
     let s = c .before .before in
     c .is-one .ensures ∙ ap (λ (n : ℕ). eqb (count n) 1) (c .before .lose-lowest .ensures) ∙ test-two (s .args .mask) (s .fits .mask .fits)
 
 pub is-two-spec : {M : Type 1} → statement M
-is-two-spec = tie.close (tie.spec lose-lowest-requires is-one-requires returns)
+is-two-spec =
+    tie.close (tie.spec (search needs) (search needs) returns)

@@ -7,8 +7,6 @@ use Rattle.candidates.proofs.masks.lose.Tie as tie
 sub-result : tie.Need-sub-result
 sub-result c = and-le-l (c .args .mask) (c .args .lost)
 
-returns : tie.Need-returns
-returns c = search needs
-
 pub lose-spec : {M : Type 1} → statement M
-lose-spec = tie.close (tie.spec sub-result returns)
+lose-spec =
+    tie.close (tie.spec sub-result (λ c. search needs))

@@ -6,16 +6,11 @@ use Rattle.candidates.proofs.Order.{minus-place}
 use Rattle.candidates.proofs.masks.lose_digit.Statement.{statement}
 use Rattle.candidates.proofs.masks.lose_digit.Tie as tie
 
-digit-mask-requires : tie.Need-digit-mask-requires
-digit-mask-requires c κs = search needs
-
-lose-requires : tie.Need-lose-requires
-lose-requires c κs = search needs
-
 returns : tie.Need-returns
 returns c =
     let start = c .before .before in
     c .lose .ensures ∙ ap (minus (start .args .mask)) (c .before .digit-mask .ensures) ∙ minus-place (start .args .mask) (start .args .place) (start .fits .mask .fits)
 
 pub lose-digit-spec : {M : Type 1} → statement M
-lose-digit-spec = tie.close (tie.spec digit-mask-requires lose-requires returns)
+lose-digit-spec =
+    tie.close (tie.spec (search needs) (search needs) returns)

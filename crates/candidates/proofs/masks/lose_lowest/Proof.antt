@@ -9,11 +9,9 @@ use Rattle.candidates.proofs.masks.lose_lowest.Tie as tie
 returns : tie.Need-returns
 returns c = sym (ap tail (c .if1 .taken))
 
-sub-result : tie.Need-sub-result
-sub-result c = omega arith
-
 returns-2 : tie.Need-returns-2
 returns-2 c = tail-is (c .before .args .mask) (omega arith) (c .before .fits .mask .fits)
 
 pub lose-lowest-spec : {M : Type 1} → statement M
-lose-lowest-spec = tie.close (tie.spec returns sub-result returns-2)
+lose-lowest-spec =
+    tie.close (tie.spec returns (λ c. omega arith) returns-2)

@@ -9,36 +9,6 @@ use borrow.Author.Needs.{needs}
 use Rattle.card.proofs.layout.card_lines.Statement.{statement}
 use Rattle.card.proofs.layout.card_lines.Tie as tie
 
-slice-aggregate-number-line : tie.Need-slice-aggregate-number-line
-slice-aggregate-number-line c = search needs
-
-number-line-requires : tie.Need-number-line-requires
-number-line-requires c κs = search needs
-
-slice-aggregate-number-line-2 : tie.Need-slice-aggregate-number-line-2
-slice-aggregate-number-line-2 c = search needs
-
-number-line-requires-2 : tie.Need-number-line-requires-2
-number-line-requires-2 c κs = search needs
-
-slice-aggregate-number-line-3 : tie.Need-slice-aggregate-number-line-3
-slice-aggregate-number-line-3 c = search needs
-
-number-line-requires-3 : tie.Need-number-line-requires-3
-number-line-requires-3 c κs = search needs
-
-slice-aggregate-number-line-4 : tie.Need-slice-aggregate-number-line-4
-slice-aggregate-number-line-4 c = search needs
-
-number-line-requires-4 : tie.Need-number-line-requires-4
-number-line-requires-4 c κs = search needs
-
-verdict-line-requires : tie.Need-verdict-line-requires
-verdict-line-requires c κs = search needs
-
-grid-line-requires : tie.Need-grid-line-requires
-grid-line-requires c κs = search needs
-
 returns : tie.Need-returns
 unfolding cardBytes
 returns c =
@@ -65,14 +35,6 @@ pub card-lines-spec : {M : Type 1} → statement M
 card-lines-spec =
     tie.close
     (tie.spec
-    slice-aggregate-number-line
-    number-line-requires
-    slice-aggregate-number-line-2
-    number-line-requires-2
-    slice-aggregate-number-line-3
-    number-line-requires-3
-    slice-aggregate-number-line-4
-    number-line-requires-4
-    verdict-line-requires
-    grid-line-requires
+    (search needs) (search needs) (search needs) (search needs) (search needs) (search needs) (search needs)
+    (search needs) (search needs) (search needs)
     returns)

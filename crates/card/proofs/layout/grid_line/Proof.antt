@@ -6,18 +6,6 @@ use borrow.Author.Needs.{needs}
 use Rattle.card.proofs.layout.grid_line.Statement.{statement}
 use Rattle.card.proofs.layout.grid_line.Tie as tie
 
-slice-aggregate-push-word : tie.Need-slice-aggregate-push-word
-slice-aggregate-push-word c = search needs
-
-push-word-requires : tie.Need-push-word-requires
-push-word-requires c κs = search needs
-
-push-grid-requires : tie.Need-push-grid-requires
-push-grid-requires c κs = search needs
-
-push-requires : tie.Need-push-requires
-push-requires c κs = search needs
-
 returns : tie.Need-returns
 returns c =
     let end = c .before .before in
@@ -27,10 +15,4 @@ returns c =
 
 pub grid-line-spec : {M : Type 1} → statement M
 grid-line-spec =
-    tie.close
-    (tie.spec
-    slice-aggregate-push-word
-    push-word-requires
-    push-grid-requires
-    push-requires
-    returns)
+    tie.close (tie.spec (search needs) (search needs) (search needs) (search needs) returns)

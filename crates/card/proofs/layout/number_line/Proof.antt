@@ -6,15 +6,6 @@ use borrow.Author.Needs.{needs}
 use Rattle.card.proofs.layout.number_line.Statement.{statement}
 use Rattle.card.proofs.layout.number_line.Tie as tie
 
-push-word-requires : tie.Need-push-word-requires
-push-word-requires c κs = search needs
-
-push-number-requires : tie.Need-push-number-requires
-push-number-requires c κs = search needs
-
-push-requires : tie.Need-push-requires
-push-requires c κs = search needs
-
 returns : tie.Need-returns
 returns c =
     let end = c .before .before in
@@ -24,4 +15,4 @@ returns c =
 
 pub number-line-spec : {M : Type 1} → statement M
 number-line-spec =
-    tie.close (tie.spec push-word-requires push-number-requires push-requires returns)
+    tie.close (tie.spec (search needs) (search needs) (search needs) returns)

@@ -7,33 +7,6 @@ use borrow.Author.Needs.{needs}
 use Rattle.card.proofs.layout.push_verdict.Statement.{statement}
 use Rattle.card.proofs.layout.push_verdict.Tie as tie
 
-enum-told : tie.Need-enum-told
-enum-told c = search needs
-
-slice-aggregate-push-word : tie.Need-slice-aggregate-push-word
-slice-aggregate-push-word c = search needs
-
-push-word-requires : tie.Need-push-word-requires
-push-word-requires c κs = search needs
-
-enum-told-2 : tie.Need-enum-told-2
-enum-told-2 c = search needs
-
-slice-aggregate-push-word-2 : tie.Need-slice-aggregate-push-word-2
-slice-aggregate-push-word-2 c = search needs
-
-push-word-requires-2 : tie.Need-push-word-requires-2
-push-word-requires-2 c κs = search needs
-
-enum-told-3 : tie.Need-enum-told-3
-enum-told-3 c = search needs
-
-slice-aggregate-push-word-3 : tie.Need-slice-aggregate-push-word-3
-slice-aggregate-push-word-3 c = search needs
-
-push-word-requires-3 : tie.Need-push-word-requires-3
-push-word-requires-3 c κs = search needs
-
 returns : tie.Need-returns
 returns c =
     let e = c .before .before .before in
@@ -59,15 +32,8 @@ pub push-verdict-spec : {M : Type 1} → statement M
 push-verdict-spec =
     tie.close
     (tie.spec
-    enum-told
-    slice-aggregate-push-word
-    push-word-requires
-    enum-told-2
-    slice-aggregate-push-word-2
-    push-word-requires-2
-    enum-told-3
-    slice-aggregate-push-word-3
-    push-word-requires-3
+    (search needs) (search needs) (search needs) (search needs) (search needs) (search needs) (search needs)
+    (search needs) (search needs)
     returns
     returns-2
     returns-3)

@@ -19,33 +19,6 @@ use Rattle.card.proofs.Joins.{line-joined}
 use Rattle.card.proofs.layout.refusal_lines.Statement.{statement}
 use Rattle.card.proofs.layout.refusal_lines.Tie as tie
 
-number-requires : tie.Need-number-requires
-number-requires c κs = search needs
-
-cast-number : tie.Need-cast-number
-cast-number c = search needs
-
-detail-requires : tie.Need-detail-requires
-detail-requires c κs = search needs
-
-slice-aggregate-push-word : tie.Need-slice-aggregate-push-word
-slice-aggregate-push-word c = search needs
-
-push-word-requires : tie.Need-push-word-requires
-push-word-requires c κs = search needs
-
-push-number-requires : tie.Need-push-number-requires
-push-number-requires c κs = search needs
-
-push-requires : tie.Need-push-requires
-push-requires c κs = search needs
-
-push-signed-requires : tie.Need-push-signed-requires
-push-signed-requires c κs = search needs
-
-push-requires-2 : tie.Need-push-requires-2
-push-requires-2 c κs = search needs
-
 returns : tie.Need-returns
 unfolding refusalBytes
 returns c =
@@ -72,13 +45,6 @@ pub refusal-lines-spec : {M : Type 1} → statement M
 refusal-lines-spec =
     tie.close
     (tie.spec
-    number-requires
-    cast-number
-    detail-requires
-    slice-aggregate-push-word
-    push-word-requires
-    push-number-requires
-    push-requires
-    push-signed-requires
-    push-requires-2
+    (search needs) (search needs) (search needs) (search needs) (search needs) (search needs) (search needs)
+    (search needs) (search needs)
     returns)

@@ -7,18 +7,6 @@ use borrow.Author.Needs.{needs}
 use Rattle.card.proofs.layout.verdict_line.Statement.{statement}
 use Rattle.card.proofs.layout.verdict_line.Tie as tie
 
-slice-aggregate-push-word : tie.Need-slice-aggregate-push-word
-slice-aggregate-push-word c = search needs
-
-push-word-requires : tie.Need-push-word-requires
-push-word-requires c κs = search needs
-
-push-verdict-requires : tie.Need-push-verdict-requires
-push-verdict-requires c κs = search needs
-
-push-requires : tie.Need-push-requires
-push-requires c κs = search needs
-
 returns : tie.Need-returns
 returns c =
     let end = c .before .before in
@@ -28,10 +16,4 @@ returns c =
 
 pub verdict-line-spec : {M : Type 1} → statement M
 verdict-line-spec =
-    tie.close
-    (tie.spec
-    slice-aggregate-push-word
-    push-word-requires
-    push-verdict-requires
-    push-requires
-    returns)
+    tie.close (tie.spec (search needs) (search needs) (search needs) (search needs) returns)

@@ -14,12 +14,6 @@ use Rattle.card.proofs.CellBytes.{cell-said}
 use Rattle.card.proofs.lines.cell_byte.Statement.{statement}
 use Rattle.card.proofs.lines.cell_byte.Tie as tie
 
-single-candidate-requires : tie.Need-single-candidate-requires
-single-candidate-requires c κs = search needs
-
-enum-known-digit : tie.Need-enum-known-digit
-enum-known-digit c = search needs
-
 -- the digit that the call answered
 abbrev digit : tie.After-known-told → ℤ
 digit c = c .before .digit .given .0 .0
@@ -38,12 +32,6 @@ add-result c =
     let w = says c in
     subst (λ (z : ℤ). Fits w8 (48 + natAbs z)) (sym (digit-read w ∙ w .digit)) (record { fits = omega (arith, w .below) })
 
-enum-told : tie.Need-enum-told
-enum-told c = search needs
-
-enum-told-2 : tie.Need-enum-told-2
-enum-told-2 c = search needs
-
 returns : tie.Need-returns
 returns c =
     ap (λ (z : ℤ). digitByte (natAbs z)) (digit-read (says c))
@@ -59,12 +47,10 @@ pub cell-byte-spec : {M : Type 1} → statement M
 cell-byte-spec =
     tie.close
     (tie.spec
-    single-candidate-requires
-    enum-known-digit
+    (search needs) (search needs)
     cast-result
     add-result
-    enum-told
-    enum-told-2
+    (search needs) (search needs)
     returns
     returns-2
     returns-3)

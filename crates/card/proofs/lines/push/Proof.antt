@@ -10,12 +10,6 @@ use Rattle.output.specs.code.Tapes.{tape, pushed}
 use Rattle.card.proofs.lines.push.Statement.{statement}
 use Rattle.card.proofs.lines.push.Tie as tie
 
-element-write-lines : tie.Need-element-write-lines
-element-write-lines c = search needs
-
-add-result : tie.Need-add-result
-add-result c = search needs
-
 returns : tie.Need-returns
 unfolding pushed
 returns c =
@@ -29,4 +23,5 @@ returns-2 c =
     sym (cond-false (ltb (a .at) 256) (tape (set (a .lines .now) (a .at) (a .byte)) (a .at + 1)) (tape (a .lines .now) (a .at)) (le-ltb (a .at) 256 (c .if1 .left)))
 
 pub push-spec : {M : Type 1} → statement M
-push-spec = tie.close (tie.spec element-write-lines add-result returns returns-2)
+push-spec =
+    tie.close (tie.spec (search needs) (search needs) returns returns-2)

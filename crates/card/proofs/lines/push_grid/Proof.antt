@@ -29,24 +29,6 @@ loop-holds : tie.Need-loop-holds Inv-loop μ-loop
 unfolding cells
 loop-holds c = sym (append-each 256 (λ i. cellByte (at (c .args .masks .now) i)) cells (tape (c .args .lines .now) (c .args .at)))
 
-mul-cell-byte : tie.Need-mul-cell-byte Inv-loop μ-loop
-mul-cell-byte c = omega arith
-
-element-copy-out-cell-byte : tie.Need-element-copy-out-cell-byte Inv-loop μ-loop
-element-copy-out-cell-byte c = omega arith
-
-cell-byte-requires : tie.Need-cell-byte-requires Inv-loop μ-loop
-cell-byte-requires c κs = search needs
-
-push-requires : tie.Need-push-requires Inv-loop μ-loop
-push-requires c κs = search needs
-
-add-cell : tie.Need-add-cell Inv-loop μ-loop
-add-cell c = omega arith
-
-loop-less : tie.Need-loop-less Inv-loop μ-loop
-loop-less c = omega arith
-
 loop-again : tie.Need-loop-again Inv-loop μ-loop
 loop-again c =
     let l = c .before .before .before .before .before in
@@ -66,11 +48,6 @@ push-grid-spec =
     Inv-loop
     μ-loop
     loop-holds
-    mul-cell-byte
-    element-copy-out-cell-byte
-    cell-byte-requires
-    push-requires
-    add-cell
-    loop-less
+    (λ c. omega arith) (λ c. omega arith) (search needs) (search needs) (λ c. omega arith) (λ c. omega arith)
     loop-again
     returns)

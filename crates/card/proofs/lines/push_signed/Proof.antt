@@ -27,9 +27,6 @@ above c = positive (c .before .args .z) (c .before .fits .z) (c .if1 .left)
 size : (c : tie.After-push) → toZ w64 (ofZ w64 (negsuc 0 -ℤ toZ w64 (ofZ w64 (c .before .before .before .args .z)))) ≡ pos (below c .less)
 size c = ap (λ (y : ℤ). toZ w64 (ofZ w64 y)) (below c .from) ∙ toZ-ofZ {w = w64} (record { sfits = below c .small })
 
-push-requires : tie.Need-push-requires
-push-requires c κs = search needs
-
 sub-push-number : tie.Need-sub-push-number
 sub-push-number c = subst (SFits w64) (sym (below (c .before) .from)) (record { sfits = below (c .before) .small })
 
@@ -39,9 +36,6 @@ cast-push-number c =
 
 add-push-number : tie.Need-add-push-number
 add-push-number c = subst (λ (y : ℤ). Fits w64 (natAbs y + 1)) (sym (size (c .before))) (record { fits = omega (arith, below (c .before) .small) })
-
-push-number-requires : tie.Need-push-number-requires
-push-number-requires c κs = search needs
 
 returns : tie.Need-returns
 returns c =
@@ -58,9 +52,6 @@ cast-push-number-2 c =
     let p = above (c .before) in
     subst (λ (y : ℤ). T (nonNeg y) × Fits w64 (natAbs y)) (sym (p .from)) (tt, record { fits = omega (arith, p .small) })
 
-push-number-requires-2 : tie.Need-push-number-requires-2
-push-number-requires-2 c κs = search needs
-
 returns-2 : tie.Need-returns-2
 returns-2 c =
     let e = c .before .before in
@@ -72,12 +63,12 @@ pub push-signed-spec : {M : Type 1} → statement M
 push-signed-spec =
     tie.close
     (tie.spec
-    push-requires
+    (search needs)
     sub-push-number
     cast-push-number
     add-push-number
-    push-number-requires
+    (search needs)
     returns
     cast-push-number-2
-    push-number-requires-2
+    (search needs)
     returns-2)

@@ -17,30 +17,12 @@ returns c =
     let a = c .before .args in
     sym (cond-false (ltb (a .nth) 3) (boxOf (a .line) (a .nth)) 27 (le-ltb (a .nth) 3 (c .if1 .taken)))
 
-mul-result : tie.Need-mul-result
-mul-result c = search needs
-
-add-result : tie.Need-add-result
-add-result c = search needs
-
-add-result-2 : tie.Need-add-result-2
-add-result-2 c = search needs
-
 returns-2 : tie.Need-returns-2
 unfolding boxUnit
 returns-2 c =
     let a = c .before .before .args in
     sym (cond-true (ltb (a .nth) 3) (boxOf (a .line) (a .nth)) 27 (lt-ltb (a .nth) 3 (omega arith))
     ∙ cond-true (ltb (a .line) 9) (18 + (3 * (a .line / 3) + a .nth)) (18 + (3 * a .nth + (a .line - 9) / 3)) (lt-ltb (a .line) 9 (c .if2 .taken)))
-
-mul-result-2 : tie.Need-mul-result-2
-mul-result-2 c = search needs
-
-add-result-3 : tie.Need-add-result-3
-add-result-3 c = search needs
-
-add-result-4 : tie.Need-add-result-4
-add-result-4 c = search needs
 
 returns-3 : tie.Need-returns-3
 unfolding boxUnit
@@ -54,11 +36,7 @@ box-unit-spec =
     tie.close
     (tie.spec
     returns
-    mul-result
-    add-result
-    add-result-2
+    (search needs) (search needs) (search needs)
     returns-2
-    mul-result-2
-    add-result-3
-    add-result-4
+    (search needs) (search needs) (search needs)
     returns-3)

@@ -18,12 +18,6 @@ returns c =
     let a = c .before .args in
     sym (cond-false (ltb (a .block) 9) (cond (ltb (a .nth) 6) (lineOf (a .block) (a .nth)) 27) 27 (le-ltb (a .block) 9 (c .if1 .taken)))
 
-mul-result : tie.Need-mul-result
-mul-result c = search needs
-
-add-result : tie.Need-add-result
-add-result c = search needs
-
 returns-2 : tie.Need-returns-2
 unfolding lineUnit
 returns-2 c =
@@ -31,15 +25,6 @@ returns-2 c =
     sym (cond-true (ltb (a .block) 9) (cond (ltb (a .nth) 6) (lineOf (a .block) (a .nth)) 27) 27 (lt-ltb (a .block) 9 (omega arith))
     ∙ cond-true (ltb (a .nth) 6) (lineOf (a .block) (a .nth)) 27 (lt-ltb (a .nth) 6 (omega arith))
     ∙ cond-true (ltb (a .nth) 3) (3 * (a .block / 3) + a .nth) (9 + (3 * (a .block % 3) + (a .nth - 3))) (lt-ltb (a .nth) 3 (c .if2 .taken)))
-
-mul-result-2 : tie.Need-mul-result-2
-mul-result-2 c = search needs
-
-add-result-2 : tie.Need-add-result-2
-add-result-2 c = search needs
-
-add-result-3 : tie.Need-add-result-3
-add-result-3 c = search needs
 
 returns-3 : tie.Need-returns-3
 unfolding lineUnit
@@ -61,11 +46,8 @@ line-unit-spec =
     tie.close
     (tie.spec
     returns
-    mul-result
-    add-result
+    (search needs) (search needs)
     returns-2
-    mul-result-2
-    add-result-2
-    add-result-3
+    (search needs) (search needs) (search needs)
     returns-3
     returns-4)

@@ -5,27 +5,6 @@ use Rattle.cells.proofs.meets.lose_met.Statement.{statement}
 use Rattle.cells.proofs.meets.lose_met.Tie as tie
 use Rattle.cells.proofs.Meetings.{met-lost, met-kept}
 
-met-places-requires : tie.Need-met-places-requires
-met-places-requires c κs = search needs
-
-lose-requires : tie.Need-lose-requires
-lose-requires c κs = search needs
-
-is-none-requires : tie.Need-is-none-requires
-is-none-requires c κs = search needs
-
-met-unit-requires : tie.Need-met-unit-requires
-met-unit-requires c κs = search needs
-
-outside-requires : tie.Need-outside-requires
-outside-requires c κs = search needs
-
-digit-mask-requires : tie.Need-digit-mask-requires
-digit-mask-requires c κs = search needs
-
-lose-places-requires : tie.Need-lose-places-requires
-lose-places-requires c κs = search needs
-
 returns : tie.Need-returns
 returns c =
     let a = c .before .before .before .before .before .before .before .before .before .args in
@@ -44,12 +23,6 @@ pub lose-met-spec : {M : Type 1} → statement M
 lose-met-spec =
     tie.close
     (tie.spec
-    met-places-requires
-    lose-requires
-    is-none-requires
-    met-unit-requires
-    outside-requires
-    digit-mask-requires
-    lose-places-requires
+    (search needs) (search needs) (search needs) (search needs) (search needs) (search needs) (search needs)
     returns
     returns-2)

@@ -27,9 +27,6 @@ returns c =
     let u = a .unit in
     sym (cond-true (ltb u 9) (u % 3) (cond (ltb u 18) (3 + u % 3) (cond (ltb (a .nth) 3) (u % 3) ((u - 18) / 3))) (lt-ltb u 9 (c .if1 .taken)))
 
-add-result : tie.Need-add-result
-add-result c = search needs
-
 returns-2 : tie.Need-returns-2
 returns-2 c =
     let a = c .before .before .args in
@@ -49,4 +46,5 @@ returns-4 c =
     sym (cond-false (ltb (a .nth) 3) (u % 3) ((u - 18) / 3) (le-ltb (a .nth) 3 (c .if3 .left))) ∙ past-lines (a .nth) (c .before .before .if1 .left) (c .before .if2 .left)
 
 pub met-back-spec : {M : Type 1} → statement M
-met-back-spec = tie.close (tie.spec returns add-result returns-2 returns-3 returns-4)
+met-back-spec =
+    tie.close (tie.spec returns (search needs) returns-2 returns-3 returns-4)

@@ -7,12 +7,6 @@ use Rattle.cells.specs.code.Meets.{metPlaces}
 use Rattle.cells.proofs.meets.met_places.Statement.{statement}
 use Rattle.cells.proofs.meets.met_places.Tie as tie
 
-mul-result : tie.Need-mul-result
-mul-result c = search needs
-
-array-read-result : tie.Need-array-read-result
-array-read-result c = search needs
-
 returns : tie.Need-returns
 unfolding metPlaces
 returns c = refl
@@ -22,4 +16,5 @@ unfolding metPlaces
 returns-2 c = sym (List·getD-eq-default (7 ∷ 56 ∷ 448 ∷ 73 ∷ 146 ∷ 292 ∷ []) 0 (c .if1 .left))
 
 pub met-places-spec : {M : Type 1} → statement M
-met-places-spec = tie.close (tie.spec mul-result array-read-result returns returns-2)
+met-places-spec =
+    tie.close (tie.spec (search needs) (search needs) returns returns-2)

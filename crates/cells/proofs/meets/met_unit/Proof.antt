@@ -9,17 +9,11 @@ use Rattle.cells.specs.code.Meets.{boxUnit, lineUnit, metUnit}
 use Rattle.cells.proofs.meets.met_unit.Statement.{statement}
 use Rattle.cells.proofs.meets.met_unit.Tie as tie
 
-box-unit-requires : tie.Need-box-unit-requires
-box-unit-requires c κs = search needs
-
 returns : tie.Need-returns
 unfolding metUnit
 returns c =
     let a = c .before .before .args in
     c .box-unit .ensures ∙ sym (cond-true (ltb (a .unit) 18) (boxUnit (a .unit) (a .nth)) (lineUnit (a .unit - 18) (a .nth)) (lt-ltb (a .unit) 18 (c .before .if1 .taken)))
-
-line-unit-requires : tie.Need-line-unit-requires
-line-unit-requires c κs = search needs
 
 returns-2 : tie.Need-returns-2
 unfolding metUnit
@@ -28,4 +22,5 @@ returns-2 c =
     c .line-unit .ensures ∙ sym (cond-false (ltb (a .unit) 18) (boxUnit (a .unit) (a .nth)) (lineUnit (a .unit - 18) (a .nth)) (le-ltb (a .unit) 18 (c .before .if1 .left)))
 
 pub met-unit-spec : {M : Type 1} → statement M
-met-unit-spec = tie.close (tie.spec box-unit-requires returns line-unit-requires returns-2)
+met-unit-spec =
+    tie.close (tie.spec (search needs) returns (search needs) returns-2)

@@ -6,18 +6,10 @@ use Rattle.cells.specs.code.Meets.{metPlaces, outside}
 use Rattle.cells.proofs.meets.outside.Statement.{statement}
 use Rattle.cells.proofs.meets.outside.Tie as tie
 
-met-back-requires : tie.Need-met-back-requires
-met-back-requires c κs = search needs
-
-met-places-requires : tie.Need-met-places-requires
-met-places-requires c κs = search needs
-
-lose-requires : tie.Need-lose-requires
-lose-requires c κs = search needs
-
 returns : tie.Need-returns
 unfolding outside
 returns c = c .lose .ensures ∙ ap (minus 511) (c .before .met-places .ensures ∙ ap metPlaces (c .before .before .met-back .ensures))
 
 pub outside-spec : {M : Type 1} → statement M
-outside-spec = tie.close (tie.spec met-back-requires met-places-requires lose-requires returns)
+outside-spec =
+    tie.close (tie.spec (search needs) (search needs) (search needs) returns)

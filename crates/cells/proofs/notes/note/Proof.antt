@@ -17,84 +17,6 @@ returns c =
     let a = c .before .before .args in
     sym (noted-none (a .kind ∷ a .first ∷ a .second ∷ a .third ∷ a .fourth ∷ a .fifth ∷ []) (a .log .now) (c .if1 .taken))
 
-steps-noted-requires : tie.Need-steps-noted-requires
-steps-noted-requires c κs = search needs
-
-mul-place : tie.Need-mul-place
-mul-place c = search needs
-
-cast-put : tie.Need-cast-put
-cast-put c = search needs
-
-put-requires : tie.Need-put-requires
-put-requires c κs = search needs
-
-add-put : tie.Need-add-put
-add-put c = search needs
-
-cast-put-2 : tie.Need-cast-put-2
-cast-put-2 c = search needs
-
-put-requires-2 : tie.Need-put-requires-2
-put-requires-2 c κs = search needs
-
-add-put-2 : tie.Need-add-put-2
-add-put-2 c = search needs
-
-cast-put-3 : tie.Need-cast-put-3
-cast-put-3 c = search needs
-
-put-requires-3 : tie.Need-put-requires-3
-put-requires-3 c κs = search needs
-
-add-put-3 : tie.Need-add-put-3
-add-put-3 c = search needs
-
-cast-put-4 : tie.Need-cast-put-4
-cast-put-4 c = search needs
-
-put-requires-4 : tie.Need-put-requires-4
-put-requires-4 c κs = search needs
-
-add-put-4 : tie.Need-add-put-4
-add-put-4 c = search needs
-
-cast-put-5 : tie.Need-cast-put-5
-cast-put-5 c = search needs
-
-put-requires-5 : tie.Need-put-requires-5
-put-requires-5 c κs = search needs
-
-add-put-5 : tie.Need-add-put-5
-add-put-5 c = search needs
-
-cast-put-6 : tie.Need-cast-put-6
-cast-put-6 c = search needs
-
-put-requires-6 : tie.Need-put-requires-6
-put-requires-6 c κs = search needs
-
-add-put-6 : tie.Need-add-put-6
-add-put-6 c = search needs
-
-cast-put-7 : tie.Need-cast-put-7
-cast-put-7 c = search needs
-
-put-requires-7 : tie.Need-put-requires-7
-put-requires-7 c κs = search needs
-
-add-put-7 : tie.Need-add-put-7
-add-put-7 c = search needs
-
-cast-put-8 : tie.Need-cast-put-8
-cast-put-8 c = search needs
-
-put-requires-8 : tie.Need-put-requires-8
-put-requires-8 c κs = search needs
-
-same-length : tie.Need-same-length
-same-length c = search needs
-
 -- the bytes of the step and the count, one after the other
 returns-2 : tie.Need-returns-2
 unfolding noted putSix putCount
@@ -125,9 +47,6 @@ returns-2 c =
     e8 ∙ ap grown (counted .steps-noted .ensures)
     ∙ sym (cond-true (ltb (stepsNoted l) 729) (grown (stepsNoted l)) l (ap (λ (k : ℕ). ltb k 729) (sym (counted .steps-noted .ensures)) ∙ lt-ltb n 729 (test .if2 .taken)))
 
-same-length-2 : tie.Need-same-length-2
-same-length-2 c = search needs
-
 returns-3 : tie.Need-returns-3
 unfolding noted
 returns-3 c =
@@ -143,32 +62,10 @@ note-spec =
     tie.close
     (tie.spec
     returns
-    steps-noted-requires
-    mul-place
-    cast-put
-    put-requires
-    add-put
-    cast-put-2
-    put-requires-2
-    add-put-2
-    cast-put-3
-    put-requires-3
-    add-put-3
-    cast-put-4
-    put-requires-4
-    add-put-4
-    cast-put-5
-    put-requires-5
-    add-put-5
-    cast-put-6
-    put-requires-6
-    add-put-6
-    cast-put-7
-    put-requires-7
-    add-put-7
-    cast-put-8
-    put-requires-8
-    same-length
+    (search needs) (search needs) (search needs) (search needs) (search needs) (search needs) (search needs)
+    (search needs) (search needs) (search needs) (search needs) (search needs) (search needs) (search needs)
+    (search needs) (search needs) (search needs) (search needs) (search needs) (search needs) (search needs)
+    (search needs) (search needs) (search needs) (search needs) (search needs)
     returns-2
-    same-length-2
+    (search needs)
     returns-3)

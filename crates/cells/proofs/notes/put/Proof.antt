@@ -5,19 +5,11 @@ use lib.Seq.{set-out}
 use Rattle.cells.proofs.notes.put.Statement.{statement}
 use Rattle.cells.proofs.notes.put.Tie as tie
 
-slice-write-log : tie.Need-slice-write-log
-slice-write-log c = search needs
-
-same-length : tie.Need-same-length
-same-length c = search needs
-
-returns : tie.Need-returns
-returns c = search needs
-
 returns-2 : tie.Need-returns-2
 returns-2 c =
     let a = c .before .args in
     sym (set-out (a .log .now) (a .place) (a .byte) (c .if1 .left))
 
 pub put-spec : {M : Type 1} → statement M
-put-spec = tie.close (tie.spec slice-write-log same-length returns returns-2)
+put-spec =
+    tie.close (tie.spec (search needs) (search needs) (λ c. search needs) returns-2)

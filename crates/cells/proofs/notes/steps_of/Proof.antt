@@ -22,25 +22,10 @@ abbrev μ-loop : tie.MeasureT-loop
 loop-holds : tie.Need-loop-holds Inv-loop μ-loop
 loop-holds c = fill-start _ 4374 (replicate 4374 0) (length-replicate {A = ℕ} 4374 0)
 
-element-copy-out-bytes : tie.Need-element-copy-out-bytes Inv-loop μ-loop
-element-copy-out-bytes c = omega arith
-
-array-write-bytes : tie.Need-array-write-bytes Inv-loop μ-loop
-array-write-bytes c = omega arith
-
-add-at : tie.Need-add-at Inv-loop μ-loop
-add-at c = omega arith
-
-loop-less : tie.Need-loop-less Inv-loop μ-loop
-loop-less c = omega arith
-
 loop-again : tie.Need-loop-again Inv-loop μ-loop
 loop-again c =
     let l = c .before .before .loop in
     fill-on _ 4374 (l .at) (l .bytes) (l .inv) (omega arith) refl
-
-steps-noted-requires : tie.Need-steps-noted-requires Inv-loop μ-loop
-steps-noted-requires c κs = search needs
 
 returns : tie.Need-returns Inv-loop μ-loop
 unfolding stepsHeld
@@ -56,10 +41,7 @@ steps-of-spec =
     Inv-loop
     μ-loop
     loop-holds
-    element-copy-out-bytes
-    array-write-bytes
-    add-at
-    loop-less
+    (λ c. omega arith) (λ c. omega arith) (λ c. omega arith) (λ c. omega arith)
     loop-again
-    steps-noted-requires
+    (search needs)
     returns)

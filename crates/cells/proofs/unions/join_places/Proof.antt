@@ -27,24 +27,6 @@ loop-holds : tie.Need-loop-holds Inv-loop μ-loop
 unfolding joinedAt turn
 loop-holds c = (omega arith, refl)
 
-mul-mask-if : tie.Need-mul-mask-if Inv-loop μ-loop
-mul-mask-if c = omega arith
-
-element-copy-out-mask-if : tie.Need-element-copy-out-mask-if Inv-loop μ-loop
-element-copy-out-mask-if c = omega arith
-
-mask-if-requires : tie.Need-mask-if-requires Inv-loop μ-loop
-mask-if-requires c κs = search needs
-
-join-requires : tie.Need-join-requires Inv-loop μ-loop
-join-requires c κs = search needs
-
-add-place : tie.Need-add-place Inv-loop μ-loop
-add-place c = omega arith
-
-loop-less : tie.Need-loop-less Inv-loop μ-loop
-loop-less c = omega arith
-
 loop-again : tie.Need-loop-again Inv-loop μ-loop
 unfolding turn
 loop-again c =
@@ -63,11 +45,6 @@ join-places-spec =
     Inv-loop
     μ-loop
     loop-holds
-    mul-mask-if
-    element-copy-out-mask-if
-    mask-if-requires
-    join-requires
-    add-place
-    loop-less
+    (λ c. omega arith) (λ c. omega arith) (search needs) (search needs) (λ c. omega arith) (λ c. omega arith)
     loop-again
     returns)

@@ -6,9 +6,6 @@ use Rattle.candidates.proofs.Tests.{cond-true, cond-false}
 use Rattle.cells.proofs.unions.mask_if.Statement.{statement}
 use Rattle.cells.proofs.unions.mask_if.Tie as tie
 
-has-digit-requires : tie.Need-has-digit-requires
-has-digit-requires c κs = search needs
-
 returns : tie.Need-returns
 returns c =
     let h = c .before in
@@ -22,4 +19,5 @@ returns-2 c =
     sym (cond-false (has (a .places) (a .place)) (a .mask) 0 (sym (h .has-digit .ensures) ∙ c .if1 .left))
 
 pub mask-if-spec : {M : Type 1} → statement M
-mask-if-spec = tie.close (tie.spec has-digit-requires returns returns-2)
+mask-if-spec =
+    tie.close (tie.spec (search needs) returns returns-2)

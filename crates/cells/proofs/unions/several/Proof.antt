@@ -26,24 +26,6 @@ loop-holds : tie.Need-loop-holds Inv-loop μ-loop
 unfolding severalOf turn
 loop-holds c = (omega arith, refl)
 
-mul-unless-one : tie.Need-mul-unless-one Inv-loop μ-loop
-mul-unless-one c = omega arith
-
-element-copy-out-unless-one : tie.Need-element-copy-out-unless-one Inv-loop μ-loop
-element-copy-out-unless-one c = omega arith
-
-unless-one-requires : tie.Need-unless-one-requires Inv-loop μ-loop
-unless-one-requires c κs = search needs
-
-join-requires : tie.Need-join-requires Inv-loop μ-loop
-join-requires c κs = search needs
-
-add-place : tie.Need-add-place Inv-loop μ-loop
-add-place c = omega arith
-
-loop-less : tie.Need-loop-less Inv-loop μ-loop
-loop-less c = omega arith
-
 loop-again : tie.Need-loop-again Inv-loop μ-loop
 unfolding turn
 loop-again c =
@@ -60,11 +42,6 @@ several-spec =
     Inv-loop
     μ-loop
     loop-holds
-    mul-unless-one
-    element-copy-out-unless-one
-    unless-one-requires
-    join-requires
-    add-place
-    loop-less
+    (λ c. omega arith) (λ c. omega arith) (search needs) (search needs) (λ c. omega arith) (λ c. omega arith)
     loop-again
     returns)

@@ -26,9 +26,6 @@ none x h e = go (decLt 0 x)
 some : (x : ℕ) → x < 2 ^ 16 → tail x ≢ 0 → x ≡ severalIn x
 some x h n = sym (cond-false (eqb (count x) 1) 0 x (sym (test-one x (omega arith) h) ∙ ne-eqb (tail x) 0 n))
 
-lose-lowest-requires : tie.Need-lose-lowest-requires
-lose-lowest-requires c κs = search needs
-
 returns : tie.Need-returns
 returns c =
     let o = c .before in
@@ -40,4 +37,5 @@ returns-2 c =
     some (o .before .args .mask) (omega arith) (λ e. c .if1 .left (o .lose-lowest .ensures ∙ e))
 
 pub unless-one-spec : {M : Type 1} → statement M
-unless-one-spec = tie.close (tie.spec lose-lowest-requires returns returns-2)
+unless-one-spec =
+    tie.close (tie.spec (search needs) returns returns-2)

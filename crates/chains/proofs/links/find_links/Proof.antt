@@ -7,16 +7,10 @@ use Rattle.chains.specs.code.Links.{linksIn}
 use Rattle.chains.proofs.links.find_links.Statement.{statement}
 use Rattle.chains.proofs.links.find_links.Tie as tie
 
-find-weak-links-requires : tie.Need-find-weak-links-requires
-find-weak-links-requires c κs = search needs
-
 returns : tie.Need-returns
 returns c =
     let a = c .before .before .args in
     subst (λ (t : Bool). Lists (c .find-weak-links .result) (linksIn (listed (a .holders .now) (a .count)) t (a .cell))) (sym (c .before .if1 .taken)) (c .find-weak-links .ensures)
-
-find-strong-links-requires : tie.Need-find-strong-links-requires
-find-strong-links-requires c κs = search needs
 
 returns-2 : tie.Need-returns-2
 returns-2 c =
@@ -25,4 +19,4 @@ returns-2 c =
 
 pub find-links-spec : {M : Type 1} → statement M
 find-links-spec =
-    tie.close (tie.spec find-weak-links-requires returns find-strong-links-requires returns-2)
+    tie.close (tie.spec (λ c κs. search needs) returns (λ c κs. search needs) returns-2)

@@ -13,30 +13,6 @@ use Rattle.chains.proofs.Listing.{three-joined}
 use Rattle.chains.proofs.links.find_strong_links.Statement.{statement}
 use Rattle.chains.proofs.links.find_strong_links.Tie as tie
 
-row-of-requires : tie.Need-row-of-requires
-row-of-requires c κs = search needs
-
-push-unit-requires : tie.Need-push-unit-requires
-push-unit-requires c κs = search needs
-
-col-of-requires : tie.Need-col-of-requires
-col-of-requires c κs = search needs
-
-add-push-unit : tie.Need-add-push-unit
-add-push-unit c = search needs
-
-push-unit-requires-2 : tie.Need-push-unit-requires-2
-push-unit-requires-2 c κs = search needs
-
-box-of-requires : tie.Need-box-of-requires
-box-of-requires c κs = search needs
-
-add-push-unit-2 : tie.Need-add-push-unit-2
-add-push-unit-2 c = search needs
-
-push-unit-requires-3 : tie.Need-push-unit-requires-3
-push-unit-requires-3 c κs = search needs
-
 returns : tie.Need-returns
 unfolding strongIn for
 returns c =
@@ -57,12 +33,6 @@ pub find-strong-links-spec : {M : Type 1} → statement M
 find-strong-links-spec =
     tie.close
     (tie.spec
-    row-of-requires
-    push-unit-requires
-    col-of-requires
-    add-push-unit
-    push-unit-requires-2
-    box-of-requires
-    add-push-unit-2
-    push-unit-requires-3
+    (λ c κs. search needs) (λ c κs. search needs) (λ c κs. search needs) (search needs) (λ c κs. search needs)
+    (λ c κs. search needs) (search needs) (λ c κs. search needs)
     returns)

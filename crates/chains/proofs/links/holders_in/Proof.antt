@@ -21,23 +21,11 @@ abbrev μ-loop : tie.MeasureT-loop
 loop-holds : tie.Need-loop-holds Inv-loop μ-loop
 loop-holds c = (omega arith, c .pre, none-yet (inScope (c .args .scope)) (ap (select (inScope (c .args .scope))) (rest-all (c .args .holders .now) (c .args .count))))
 
-element-copy-out-cell : tie.Need-element-copy-out-cell Inv-loop μ-loop
-element-copy-out-cell c = omega arith
-
-in-scope-requires : tie.Need-in-scope-requires Inv-loop μ-loop
-in-scope-requires c κs = search needs
-
 array-write-list : tie.Need-array-write-list Inv-loop μ-loop
 array-write-list c = omega (arith, c .before .before .before .before .loop .inv .2 .few)
 
 add-found : tie.Need-add-found Inv-loop μ-loop
 add-found c = omega (arith, c .before .before .before .before .loop .inv .2 .few)
-
-add-i : tie.Need-add-i Inv-loop μ-loop
-add-i c = omega arith
-
-loop-less : tie.Need-loop-less Inv-loop μ-loop
-loop-less c = omega arith
 
 loop-again : tie.Need-loop-again Inv-loop μ-loop
 loop-again c =
@@ -67,11 +55,9 @@ holders-in-spec =
     Inv-loop
     μ-loop
     loop-holds
-    element-copy-out-cell
-    in-scope-requires
+    (λ c. omega arith) (search needs)
     array-write-list
     add-found
-    add-i
-    loop-less
+    (λ c. omega arith) (λ c. omega arith)
     loop-again
     returns)

@@ -16,12 +16,6 @@ returns c =
     let old = listed (a .links .cells) (a .links .count) in
     (omega arith, sym (append-nil old) ∙ ap (λ (l : List ℕ). old ++ l) (sym (other-same (a .cell) (a .other) (c .if1 .taken))))
 
-array-write-cells : tie.Need-array-write-cells
-array-write-cells c = search needs
-
-add-t10 : tie.Need-add-t10
-add-t10 c = search needs
-
 returns-2 : tie.Need-returns-2
 returns-2 c =
     let a = c .before .before .args in
@@ -30,4 +24,5 @@ returns-2 c =
     (omega arith, listed-set (a .links .cells) (a .links .count) (a .other) h ∙ ap (λ (l : List ℕ). old ++ l) (sym (other-kept (a .cell) (a .other) (c .before .if1 .left))))
 
 pub push-other-spec : {M : Type 1} → statement M
-push-other-spec = tie.close (tie.spec returns array-write-cells add-t10 returns-2)
+push-other-spec =
+    tie.close (tie.spec returns (search needs) (search needs) returns-2)

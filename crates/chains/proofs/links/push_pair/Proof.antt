@@ -17,18 +17,6 @@ returns c =
     let old = listed (a .links .cells) (a .links .count) in
     (omega arith, sym (append-nil old) ∙ ap (λ (l : List ℕ). old ++ others (a .cell) l) (sym (not-two (a .t2 .cells) (a .t2 .count) (c .if1 .taken))))
 
-element-copy-out-first : tie.Need-element-copy-out-first
-element-copy-out-first c = search needs
-
-element-copy-out-second : tie.Need-element-copy-out-second
-element-copy-out-second c = search needs
-
-push-other-requires : tie.Need-push-other-requires
-push-other-requires c κs = search needs
-
-push-other-requires-2 : tie.Need-push-other-requires-2
-push-other-requires-2 c κs = search needs
-
 returns-2 : tie.Need-returns-2
 returns-2 c =
     let one = c .before .push-other in
@@ -46,11 +34,4 @@ returns-2 c =
 
 pub push-pair-spec : {M : Type 1} → statement M
 push-pair-spec =
-    tie.close
-    (tie.spec
-    returns
-    element-copy-out-first
-    element-copy-out-second
-    push-other-requires
-    push-other-requires-2
-    returns-2)
+    tie.close (tie.spec returns (search needs) (search needs) (search needs) (search needs) returns-2)

@@ -14,9 +14,6 @@ use Rattle.chains.proofs.Listing.{no-pair}
 use Rattle.chains.proofs.links.push_unit.Statement.{statement}
 use Rattle.chains.proofs.links.push_unit.Tie as tie
 
-unit-count-requires : tie.Need-unit-count-requires
-unit-count-requires c κs = search needs
-
 returns : tie.Need-returns
 returns c =
     let n = c .before .unit-count in
@@ -29,12 +26,6 @@ returns c =
           ∙ ap (λ (l : List ℕ). old ++ others (a .cell) l) (sym (no-pair (select (inUnit (a .unit)) hs) (λ e. c .if1 .taken (n .ensures ∙ counted hs (a .counts .now) (a .unit) (s .pre .2) ∙ e)))),
     )
 
-holders-in-requires : tie.Need-holders-in-requires
-holders-in-requires c κs = search needs
-
-push-pair-requires : tie.Need-push-pair-requires
-push-pair-requires c κs = search needs
-
 returns-2 : tie.Need-returns-2
 returns-2 c =
     let a = c .before .before .before .before .args in
@@ -43,5 +34,4 @@ returns-2 c =
 
 pub push-unit-spec : {M : Type 1} → statement M
 push-unit-spec =
-    tie.close
-    (tie.spec unit-count-requires returns holders-in-requires push-pair-requires returns-2)
+    tie.close (tie.spec (search needs) returns (search needs) (search needs) returns-2)

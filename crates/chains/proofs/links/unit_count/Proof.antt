@@ -8,9 +8,6 @@ use Rattle.steps.specs.Boards.{at}
 use Rattle.chains.proofs.links.unit_count.Statement.{statement}
 use Rattle.chains.proofs.links.unit_count.Tie as tie
 
-element-copy-out-result : tie.Need-element-copy-out-result
-element-copy-out-result c = search needs
-
 returns : tie.Need-returns
 returns c =
     let a = c .before .before .args in
@@ -22,4 +19,5 @@ returns-2 c =
     sym (cond-false (ltb (a .unit) 27) (at (a .counts .now) (a .unit)) 0 (le-ltb (a .unit) 27 (c .if1 .left)))
 
 pub unit-count-spec : {M : Type 1} → statement M
-unit-count-spec = tie.close (tie.spec element-copy-out-result returns returns-2)
+unit-count-spec =
+    tie.close (tie.spec (search needs) returns returns-2)

@@ -23,20 +23,8 @@ loop-holds : tie.Need-loop-holds Inv-loop μ-loop
 unfolding unitCounts
 loop-holds c = (c .pre, fill-start _ 27 (replicate 27 0) refl)
 
-holders-in-requires : tie.Need-holders-in-requires Inv-loop μ-loop
-holders-in-requires c κs = omega arith
-
 cast-counts : tie.Need-cast-counts Inv-loop μ-loop
 cast-counts c = omega (arith, c .before .holders-in .ensures .within)
-
-array-write-counts : tie.Need-array-write-counts Inv-loop μ-loop
-array-write-counts c = omega arith
-
-add-unit : tie.Need-add-unit Inv-loop μ-loop
-add-unit c = omega arith
-
-loop-less : tie.Need-loop-less Inv-loop μ-loop
-loop-less c = omega arith
 
 loop-again : tie.Need-loop-again Inv-loop μ-loop
 loop-again c =
@@ -55,10 +43,8 @@ unit-counts-spec =
     Inv-loop
     μ-loop
     loop-holds
-    holders-in-requires
+    (λ c. omega arith)
     cast-counts
-    array-write-counts
-    add-unit
-    loop-less
+    (λ c. omega arith) (λ c. omega arith) (λ c. omega arith)
     loop-again
     returns)

@@ -25,26 +25,11 @@ loop-holds : tie.Need-loop-holds Inv-loop μ-loop
 unfolding cells
 loop-holds c = (omega arith, none-yet (holds (c .args .givens .now) (c .args .masks .now) (c .args .digit)) refl)
 
-open-mask-requires : tie.Need-open-mask-requires Inv-loop μ-loop
-open-mask-requires c κs = search needs
-
-has-digit-requires : tie.Need-has-digit-requires Inv-loop μ-loop
-has-digit-requires c κs = search needs
-
-cast-list : tie.Need-cast-list Inv-loop μ-loop
-cast-list c = omega arith
-
 array-write-list : tie.Need-array-write-list Inv-loop μ-loop
 array-write-list c = omega (arith, c .before .before .before .before .loop .inv .1 .few)
 
 add-count : tie.Need-add-count Inv-loop μ-loop
 add-count c = omega (arith, c .before .before .before .before .loop .inv .1 .few)
-
-add-cell : tie.Need-add-cell Inv-loop μ-loop
-add-cell c = omega arith
-
-loop-less : tie.Need-loop-less Inv-loop μ-loop
-loop-less c = omega arith
 
 loop-again : tie.Need-loop-again Inv-loop μ-loop
 loop-again c =
@@ -75,12 +60,9 @@ candidate-positions-spec =
     Inv-loop
     μ-loop
     loop-holds
-    open-mask-requires
-    has-digit-requires
-    cast-list
+    (search needs) (search needs) (λ c. omega arith)
     array-write-list
     add-count
-    add-cell
-    loop-less
+    (λ c. omega arith) (λ c. omega arith)
     loop-again
     returns)

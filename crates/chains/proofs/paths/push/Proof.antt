@@ -7,12 +7,6 @@ use Rattle.chains.proofs.Trails.{trail-push}
 use Rattle.chains.proofs.paths.push.Statement.{statement}
 use Rattle.chains.proofs.paths.push.Tie as tie
 
-array-write-cells : tie.Need-array-write-cells
-array-write-cells c = search needs
-
-add-t8 : tie.Need-add-t8
-add-t8 c = search needs
-
 returns : tie.Need-returns
 returns c =
     let a = c .before .args in
@@ -20,4 +14,5 @@ returns c =
     (refl, trail-push (a .path .cells) (a .path .length) (a .cell) h)
 
 pub push-spec : {M : Type 1} → statement M
-push-spec = tie.close (tie.spec array-write-cells add-t8 returns)
+push-spec =
+    tie.close (tie.spec (search needs) (search needs) returns)

@@ -9,18 +9,12 @@ use Rattle.grid.specs.Cells.{sees}
 use Rattle.chains.proofs.search.between.Statement.{statement}
 use Rattle.chains.proofs.search.between.Tie as tie
 
-are-peers-requires : tie.Need-are-peers-requires
-are-peers-requires c κs = search needs
-
 returns : tie.Need-returns
 returns c =
     let p = c .before .are-peers in
     let a = c .before .before .args in
     sym (cond-false (sees (a .start) (a .cell) && sees (a .end) (a .cell)) (some (a .cell)) none
     (ap (λ (t : Bool). t && sees (a .end) (a .cell)) (sym (p .ensures) ∙ not-true (p .result) (c .if1 .taken))))
-
-are-peers-requires-2 : tie.Need-are-peers-requires-2
-are-peers-requires-2 c κs = search needs
 
 returns-2 : tie.Need-returns-2
 returns-2 c =
@@ -40,4 +34,4 @@ returns-3 c =
 
 pub between-spec : {M : Type 1} → statement M
 between-spec =
-    tie.close (tie.spec are-peers-requires returns are-peers-requires-2 returns-2 returns-3)
+    tie.close (tie.spec (search needs) returns (search needs) returns-2 returns-3)

@@ -37,9 +37,6 @@ answered c =
     let s = at (f .cells) (l .loop .i) in
     c .build-chain .ensures ∙ ap (λ (k : ℕ). enterIn (listed (f .cells) (f .count)) (7 - k) s true (trail (c .before .no-path .result .cells) k) s) (c .before .no-path .ensures)
 
-candidate-positions-requires : tie.Need-candidate-positions-requires Inv-loop μ-loop
-candidate-positions-requires c κs = search needs
-
 unit-counts-requires : tie.Need-unit-counts-requires Inv-loop μ-loop
 unit-counts-requires c κs = c .before .before .candidate-positions .ensures .within
 
@@ -55,19 +52,10 @@ loop-holds c =
           ∙ chain-end-is (a .givens .now) (a .masks .now) (a .digit),
     )
 
-array-read-start : tie.Need-array-read-start Inv-loop μ-loop
-array-read-start c = omega arith
-
-no-path-requires : tie.Need-no-path-requires Inv-loop μ-loop
-no-path-requires c κs = search needs
-
 build-chain-requires : tie.Need-build-chain-requires Inv-loop μ-loop
 build-chain-requires c κs =
     let l = c .before .before .before .before in
     (l .loop .inv .1, omega (arith, c .no-path .ensures), l .before .unit-counts .ensures)
-
-is-found-requires : tie.Need-is-found-requires Inv-loop μ-loop
-is-found-requires c κs = search needs
 
 returns : tie.Need-returns Inv-loop μ-loop
 returns c =
@@ -75,12 +63,6 @@ returns c =
     let l = b .before .before .before .before .before in
     let f = l .before .before .before .before .candidate-positions .result in
     ends (from (listed (f .cells) (f .count))) (f .cells) (f .count) (l .loop .i) (l .loop .inv .2) (omega arith) (answered b) (sym (c .before .is-found .ensures) ∙ c .if1 .taken)
-
-add-i : tie.Need-add-i Inv-loop μ-loop
-add-i c = omega arith
-
-loop-less : tie.Need-loop-less Inv-loop μ-loop
-loop-less c = omega arith
 
 loop-again : tie.Need-loop-again Inv-loop μ-loop
 loop-again c =
@@ -101,15 +83,13 @@ chain-end-spec =
     (tie.spec
     Inv-loop
     μ-loop
-    candidate-positions-requires
+    (search needs)
     unit-counts-requires
     loop-holds
-    array-read-start
-    no-path-requires
+    (λ c. omega arith) (search needs)
     build-chain-requires
-    is-found-requires
+    (search needs)
     returns
-    add-i
-    loop-less
+    (λ c. omega arith) (λ c. omega arith)
     loop-again
     returns-2)

@@ -26,9 +26,6 @@ returns c =
     let a = c .before .args in
     sym (short-path (listed (a .holders .now) (a .count)) (a .depth) (a .start) (a .end) (omega arith))
 
-are-peers-requires : tie.Need-are-peers-requires Inv-loop μ-loop
-are-peers-requires c κs = search needs
-
 returns-2 : tie.Need-returns-2 Inv-loop μ-loop
 returns-2 c =
     let p = c .before .are-peers in
@@ -45,27 +42,12 @@ loop-holds c =
           ∙ sym (seen-ends (listed (a .holders .now) (a .count)) (a .depth) (a .start) (a .end) (omega arith) (sym (p .ensures) ∙ not-false (p .result) (c .if2 .left))),
     )
 
-element-copy-out-between : tie.Need-element-copy-out-between Inv-loop μ-loop
-element-copy-out-between c = omega arith
-
-between-requires : tie.Need-between-requires Inv-loop μ-loop
-between-requires c κs = search needs
-
-is-found-requires : tie.Need-is-found-requires Inv-loop μ-loop
-is-found-requires c κs = search needs
-
 returns-3 : tie.Need-returns-3 Inv-loop μ-loop
 returns-3 c =
     let b = c .before .before in
     let l = b .before .before .before in
     let a = l .before .before .before .before .args in
     ends (betweenAt (a .start) (a .end)) (a .holders .now) (a .count) (l .loop .i) (l .loop .inv .2) (omega arith) (b .between .ensures) (sym (c .before .is-found .ensures) ∙ c .if3 .taken)
-
-add-i : tie.Need-add-i Inv-loop μ-loop
-add-i c = omega arith
-
-loop-less : tie.Need-loop-less Inv-loop μ-loop
-loop-less c = omega arith
 
 loop-again : tie.Need-loop-again Inv-loop μ-loop
 loop-again c =
@@ -87,14 +69,11 @@ find-aic-elimination-spec =
     Inv-loop
     μ-loop
     returns
-    are-peers-requires
+    (search needs)
     returns-2
     loop-holds
-    element-copy-out-between
-    between-requires
-    is-found-requires
+    (λ c. omega arith) (search needs) (search needs)
     returns-3
-    add-i
-    loop-less
+    (λ c. omega arith) (λ c. omega arith)
     loop-again
     returns-4)

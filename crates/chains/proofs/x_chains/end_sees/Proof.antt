@@ -15,18 +15,12 @@ returns c =
     let a = c .before .args in
     sym (cond-true (leb 81 (a .end)) false _ (le-leb 81 (a .end) (c .if1 .taken)))
 
-element-copy-out-if2 : tie.Need-element-copy-out-if2
-element-copy-out-if2 c = search needs
-
 returns-2 : tie.Need-returns-2
 returns-2 c =
     let a = c .before .before .before .args in
     let t = getD (a .ends .now) (a .end) false in
     sym (cond-false (leb 81 (a .end)) false (t && sees (a .end) (a .cell)) (lt-leb 81 (a .end) (c .before .before .if1 .left))
     ∙ ap (λ (t : Bool). t && sees (a .end) (a .cell)) (not-true t (c .if2 .taken)))
-
-are-peers-requires : tie.Need-are-peers-requires
-are-peers-requires c κs = search needs
 
 returns-3 : tie.Need-returns-3
 returns-3 c =
@@ -38,4 +32,4 @@ returns-3 c =
 
 pub end-sees-spec : {M : Type 1} → statement M
 end-sees-spec =
-    tie.close (tie.spec returns element-copy-out-if2 returns-2 are-peers-requires returns-3)
+    tie.close (tie.spec returns (search needs) returns-2 (search needs) returns-3)

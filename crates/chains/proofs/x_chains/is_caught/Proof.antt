@@ -9,17 +9,11 @@ use Rattle.chains.specs.code.XLinks.{endSees}
 use Rattle.chains.proofs.x_chains.is_caught.Statement.{statement}
 use Rattle.chains.proofs.x_chains.is_caught.Tie as tie
 
-are-peers-requires : tie.Need-are-peers-requires
-are-peers-requires c κs = search needs
-
 returns : tie.Need-returns
 returns c =
     let a = c .before .before .args in
     let p = c .before .are-peers in
     sym (ap (λ (t : Bool). t && any (endSees (a .ends .now) (a .cell)) (listed (a .linked .now) (a .count))) (sym (p .ensures) ∙ not-true (p .result) (c .if1 .taken)))
-
-some-end-sees-requires : tie.Need-some-end-sees-requires
-some-end-sees-requires c κs = search needs
 
 returns-2 : tie.Need-returns-2
 returns-2 c =
@@ -29,4 +23,5 @@ returns-2 c =
     ∙ sym (ap (λ (t : Bool). t && any (endSees (a .ends .now) (a .cell)) (listed (a .linked .now) (a .count))) (sym (p .ensures) ∙ not-false (p .result) (c .before .if1 .left)))
 
 pub is-caught-spec : {M : Type 1} → statement M
-is-caught-spec = tie.close (tie.spec are-peers-requires returns some-end-sees-requires returns-2)
+is-caught-spec =
+    tie.close (tie.spec (search needs) returns (search needs) returns-2)

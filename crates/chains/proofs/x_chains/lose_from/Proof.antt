@@ -9,15 +9,6 @@ use Rattle.chains.specs.code.XLinks.{walkEnds, marked, noEnds, loseSeen,
 use Rattle.chains.proofs.x_chains.lose_from.Statement.{statement}
 use Rattle.chains.proofs.x_chains.lose_from.Tie as tie
 
-no-path-requires : tie.Need-no-path-requires
-no-path-requires c κs = search needs
-
-walk-requires : tie.Need-walk-requires
-walk-requires c κs = search needs
-
-lose-seen-requires : tie.Need-lose-seen-requires
-lose-seen-requires c κs = search needs
-
 returns : tie.Need-returns
 unfolding loseFrom trail
 returns c =
@@ -29,4 +20,5 @@ returns c =
     (w .walk .ensures ∙ ap (λ (k : ℕ). marked (walkEnds (a .linked .now) (a .count) (a .sums .now) (6 - k) false (trail (p .result .cells) k) (a .start)) noEnds) (p .ensures))
 
 pub lose-from-spec : {M : Type 1} → statement M
-lose-from-spec = tie.close (tie.spec no-path-requires walk-requires lose-seen-requires returns)
+lose-from-spec =
+    tie.close (tie.spec (search needs) (search needs) (search needs) returns)

@@ -12,12 +12,6 @@ use Rattle.chains.specs.code.XLinks.{endSees}
 use Rattle.chains.proofs.x_chains.lose_if_caught.Statement.{statement}
 use Rattle.chains.proofs.x_chains.lose_if_caught.Tie as tie
 
-is-caught-requires : tie.Need-is-caught-requires
-is-caught-requires c κs = search needs
-
-lose-at-requires : tie.Need-lose-at-requires
-lose-at-requires c κs = search needs
-
 returns : tie.Need-returns
 returns c =
     let a = c .before .before .before .before .args in
@@ -32,4 +26,5 @@ returns-2 c =
     (sym (c .before .is-caught .ensures) ∙ c .if1 .left))
 
 pub lose-if-caught-spec : {M : Type 1} → statement M
-lose-if-caught-spec = tie.close (tie.spec is-caught-requires lose-at-requires returns returns-2)
+lose-if-caught-spec =
+    tie.close (tie.spec (search needs) (search needs) returns returns-2)

@@ -24,18 +24,6 @@ loop-holds c =
     let a = c .args in
     (omega arith, c .pre .0, c .pre .1, ap (λ (l : List ℕ). each (loseCaught (a .givens .now) (a .lost) (listed (a .linked .now) (a .count)) (a .start) (a .ends .now)) l (a .masks .now)) (rest-all (a .holders .now) (a .held)))
 
-element-copy-out-lose-if-caught : tie.Need-element-copy-out-lose-if-caught Inv-loop μ-loop
-element-copy-out-lose-if-caught c = omega arith
-
-lose-if-caught-requires : tie.Need-lose-if-caught-requires Inv-loop μ-loop
-lose-if-caught-requires c κs = omega arith
-
-add-i : tie.Need-add-i Inv-loop μ-loop
-add-i c = omega arith
-
-loop-less : tie.Need-loop-less Inv-loop μ-loop
-loop-less c = omega arith
-
 loop-again : tie.Need-loop-again Inv-loop μ-loop
 loop-again c =
     let l = c .before .before .before .before in
@@ -56,9 +44,6 @@ lose-seen-spec =
     Inv-loop
     μ-loop
     loop-holds
-    element-copy-out-lose-if-caught
-    lose-if-caught-requires
-    add-i
-    loop-less
+    (λ c. omega arith) (λ c. omega arith) (λ c. omega arith) (λ c. omega arith)
     loop-again
     returns)

@@ -20,12 +20,6 @@ abbrev μ-loop : tie.MeasureT-loop
 loop-holds : tie.Need-loop-holds Inv-loop μ-loop
 loop-holds c = (omega arith, c .pre, ap (any (endSees (c .args .ends .now) (c .args .cell))) (rest-all (c .args .linked .now) (c .args .count)))
 
-element-copy-out-end-sees : tie.Need-element-copy-out-end-sees Inv-loop μ-loop
-element-copy-out-end-sees c = omega arith
-
-end-sees-requires : tie.Need-end-sees-requires Inv-loop μ-loop
-end-sees-requires c κs = search needs
-
 -- the answer of the ith cell, and those that are left
 at-cell : (c : tie.After-end-sees Inv-loop μ-loop)
     → (let l = c .before .before .before in let a = l .before .args in
@@ -42,12 +36,6 @@ returns c =
     let l = c .before .before .before .before in
     let a = l .before .args in
     ap (λ (t : Bool). t || any (endSees (a .ends .now) (a .cell)) (rest (a .linked .now) (a .count) (l .loop .i + 1))) (sym (c .if1 .taken)) ∙ at-cell (c .before)
-
-add-i : tie.Need-add-i Inv-loop μ-loop
-add-i c = omega arith
-
-loop-less : tie.Need-loop-less Inv-loop μ-loop
-loop-less c = omega arith
 
 loop-again : tie.Need-loop-again Inv-loop μ-loop
 loop-again c =
@@ -70,10 +58,8 @@ some-end-sees-spec =
     Inv-loop
     μ-loop
     loop-holds
-    element-copy-out-end-sees
-    end-sees-requires
+    (λ c. omega arith) (search needs)
     returns
-    add-i
-    loop-less
+    (λ c. omega arith) (λ c. omega arith)
     loop-again
     returns-2)

@@ -23,17 +23,11 @@ Inv-loop givens masks₀ digit holders held sums linked count lost i₀ masks i 
 abbrev μ-loop : tie.MeasureT-loop
 μ-loop givens masks₀ digit holders held sums linked count lost i₀ masks i = count - i
 
-candidate-positions-requires : tie.Need-candidate-positions-requires Inv-loop μ-loop
-candidate-positions-requires c κs = search needs
-
 pair-sums-requires : tie.Need-pair-sums-requires Inv-loop μ-loop
 pair-sums-requires c κs = c .before .before .candidate-positions .ensures .within
 
 linked-cells-requires : tie.Need-linked-cells-requires Inv-loop μ-loop
 linked-cells-requires c κs = c .before .before .before .before .before .candidate-positions .ensures .within
-
-digit-mask-requires : tie.Need-digit-mask-requires Inv-loop μ-loop
-digit-mask-requires c κs = search needs
 
 loop-holds : tie.Need-loop-holds Inv-loop μ-loop
 loop-holds c =
@@ -60,12 +54,6 @@ lose-from-requires : tie.Need-lose-from-requires Inv-loop μ-loop
 lose-from-requires c κs =
     let l = c .before .before .before .before .before in
     (l .loop .inv .2, l .loop .inv .1, l .loop .inv .3 (l .loop .i) (c .before .before .before .before .loop-test .taken))
-
-add-i : tie.Need-add-i Inv-loop μ-loop
-add-i c = omega arith
-
-loop-less : tie.Need-loop-less Inv-loop μ-loop
-loop-less c = omega arith
 
 -- one start
 turn : tie.At-loop Inv-loop μ-loop → ℕ → List ℕ → List ℕ
@@ -94,14 +82,13 @@ x-chain-digit-spec =
     (tie.spec
     Inv-loop
     μ-loop
-    candidate-positions-requires
+    (search needs)
     pair-sums-requires
     linked-cells-requires
-    digit-mask-requires
+    (search needs)
     loop-holds
     array-read-start
     lose-from-requires
-    add-i
-    loop-less
+    (λ c. omega arith) (λ c. omega arith)
     loop-again
     returns)

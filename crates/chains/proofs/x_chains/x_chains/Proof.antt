@@ -19,15 +19,6 @@ loop-holds : tie.Need-loop-holds Inv-loop μ-loop
 unfolding xChains
 loop-holds c = (omega arith, refl)
 
-x-chain-digit-requires : tie.Need-x-chain-digit-requires Inv-loop μ-loop
-x-chain-digit-requires c κs = omega arith
-
-add-digit : tie.Need-add-digit Inv-loop μ-loop
-add-digit c = omega arith
-
-loop-less : tie.Need-loop-less Inv-loop μ-loop
-loop-less c = omega arith
-
 loop-again : tie.Need-loop-again Inv-loop μ-loop
 loop-again c =
     let l = c .before .before .before in
@@ -43,8 +34,6 @@ x-chains-spec =
     Inv-loop
     μ-loop
     loop-holds
-    x-chain-digit-requires
-    add-digit
-    loop-less
+    (λ c. omega arith) (λ c. omega arith) (λ c. omega arith)
     loop-again
     returns)

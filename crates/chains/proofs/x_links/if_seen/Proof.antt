@@ -6,9 +6,6 @@ use Rattle.grid.specs.Cells.{sees}
 use Rattle.chains.proofs.x_links.if_seen.Statement.{statement}
 use Rattle.chains.proofs.x_links.if_seen.Tie as tie
 
-are-peers-requires : tie.Need-are-peers-requires
-are-peers-requires c κs = search needs
-
 returns : tie.Need-returns
 returns c =
     let a = c .before .before .args in
@@ -20,4 +17,5 @@ returns-2 c =
     sym (cond-false (sees (a .cell) (a .next)) (a .next) 81 (sym (c .before .are-peers .ensures) ∙ c .if1 .left))
 
 pub if-seen-spec : {M : Type 1} → statement M
-if-seen-spec = tie.close (tie.spec are-peers-requires returns returns-2)
+if-seen-spec =
+    tie.close (tie.spec (search needs) returns returns-2)

@@ -9,18 +9,12 @@ use Rattle.chains.specs.code.XLinks.{otherOf}
 use Rattle.chains.proofs.x_links.is_linked.Statement.{statement}
 use Rattle.chains.proofs.x_links.is_linked.Tie as tie
 
-other-of-requires : tie.Need-other-of-requires
-other-of-requires c κs = search needs
-
 returns : tie.Need-returns
 returns c =
     let a = c .before .before .args in
     let o = c .before .other-of in
     sym (ap (λ (t : Bool). t || ltb (otherOf (a .sums .now) (a .cell) 1) 81 || ltb (otherOf (a .sums .now) (a .cell) 2) 81)
     (ap (λ (k : ℕ). ltb k 81) (sym (o .ensures)) ∙ lt-ltb (o .result) 81 (c .if1 .taken)))
-
-other-of-requires-2 : tie.Need-other-of-requires-2
-other-of-requires-2 c κs = search needs
 
 returns-2 : tie.Need-returns-2
 returns-2 c =
@@ -30,9 +24,6 @@ returns-2 c =
     sym (ap₂ (λ (s t : Bool). s || t || ltb (otherOf (a .sums .now) (a .cell) 2) 81)
     (ap (λ (k : ℕ). ltb k 81) (sym (o .ensures)) ∙ le-ltb (o .result) 81 (c .before .before .if1 .left))
     (ap (λ (k : ℕ). ltb k 81) (sym (p .ensures)) ∙ lt-ltb (p .result) 81 (c .if2 .taken)))
-
-other-of-requires-3 : tie.Need-other-of-requires-3
-other-of-requires-3 c κs = search needs
 
 returns-3 : tie.Need-returns-3
 returns-3 c =
@@ -46,11 +37,4 @@ returns-3 c =
 
 pub is-linked-spec : {M : Type 1} → statement M
 is-linked-spec =
-    tie.close
-    (tie.spec
-    other-of-requires
-    returns
-    other-of-requires-2
-    returns-2
-    other-of-requires-3
-    returns-3)
+    tie.close (tie.spec (search needs) returns (search needs) returns-2 (search needs) returns-3)

@@ -13,18 +13,12 @@ use Rattle.chains.proofs.x_links.link_at.Tie as tie
 element-copy-out-if-seen : tie.Need-element-copy-out-if-seen
 element-copy-out-if-seen c = omega (arith, c .before .pre)
 
-if-seen-requires : tie.Need-if-seen-requires
-if-seen-requires c κs = search needs
-
 returns : tie.Need-returns
 returns c =
     let one = c .before .before in
     let a = one .before .args in
     let x = at (a .linked .now) (a .i) in
     c .if-seen .ensures ∙ sym (cond-true (a .weak) (cond (sees (a .cell) x) x 81) (otherOf (a .sums .now) (a .cell) (a .i)) (one .if1 .taken))
-
-other-of-requires : tie.Need-other-of-requires
-other-of-requires c κs = search needs
 
 returns-2 : tie.Need-returns-2
 returns-2 c =
@@ -33,5 +27,4 @@ returns-2 c =
 
 pub link-at-spec : {M : Type 1} → statement M
 link-at-spec =
-    tie.close
-    (tie.spec element-copy-out-if-seen if-seen-requires returns other-of-requires returns-2)
+    tie.close (tie.spec element-copy-out-if-seen (search needs) returns (search needs) returns-2)

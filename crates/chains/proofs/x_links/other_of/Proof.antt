@@ -11,21 +11,12 @@ use Rattle.chains.specs.code.XLinks.{otherIn}
 use Rattle.chains.proofs.x_links.other_of.Statement.{statement}
 use Rattle.chains.proofs.x_links.other_of.Tie as tie
 
-own-unit-requires : tie.Need-own-unit-requires
-own-unit-requires c κs = search needs
-
 returns : tie.Need-returns
 returns c =
     let a = c .before .before .args in
     let u = c .before .own-unit in
     sym (cond-true (leb 27 (u .result)) 81 (otherIn (at (a .sums .now) (u .result)) (a .cell)) (le-leb 27 (u .result) (c .if1 .taken)))
     ∙ ap (λ (k : ℕ). cond (leb 27 k) 81 (otherIn (at (a .sums .now) k) (a .cell))) (u .ensures)
-
-mul-sum : tie.Need-mul-sum
-mul-sum c = search needs
-
-element-copy-out-sum : tie.Need-element-copy-out-sum
-element-copy-out-sum c = search needs
 
 returns-2 : tie.Need-returns-2
 returns-2 c =
@@ -36,12 +27,6 @@ returns-2 c =
     ∙ cond-true (leb s (a .cell)) 81 _ (le-leb s (a .cell) (c .if2 .taken)))
     ∙ ap (λ (k : ℕ). cond (leb 27 k) 81 (otherIn (at (a .sums .now) k) (a .cell))) (u .ensures)
 
-sub-other : tie.Need-sub-other
-sub-other c = search needs
-
-sub-other-2 : tie.Need-sub-other-2
-sub-other-2 c = search needs
-
 returns-3 : tie.Need-returns-3
 returns-3 c =
     let a = c .before .before .before .before .before .args in
@@ -51,9 +36,6 @@ returns-3 c =
     ∙ cond-false (leb s (a .cell)) 81 _ (lt-leb s (a .cell) (c .before .if2 .left))
     ∙ cond-true (leb 81 (s - a .cell - 1)) 81 _ (le-leb 81 (s - a .cell - 1) (c .if3 .taken)))
     ∙ ap (λ (k : ℕ). cond (leb 27 k) 81 (otherIn (at (a .sums .now) k) (a .cell))) (u .ensures)
-
-cast-result : tie.Need-cast-result
-cast-result c = search needs
 
 returns-4 : tie.Need-returns-4
 returns-4 c =
@@ -69,13 +51,11 @@ pub other-of-spec : {M : Type 1} → statement M
 other-of-spec =
     tie.close
     (tie.spec
-    own-unit-requires
+    (search needs)
     returns
-    mul-sum
-    element-copy-out-sum
+    (search needs) (search needs)
     returns-2
-    sub-other
-    sub-other-2
+    (search needs) (search needs)
     returns-3
-    cast-result
+    (search needs)
     returns-4)

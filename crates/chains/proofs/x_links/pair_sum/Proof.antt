@@ -18,15 +18,6 @@ returns c =
     let n = length (listed (a .cells) (a .count)) in
     sym (cond-false (eqb n 2) _ 0 (ne-eqb n 2 (λ e. c .if1 .taken (sym (listed-count (a .cells) (a .count)) ∙ e))))
 
-element-copy-out-sum-of : tie.Need-element-copy-out-sum-of
-element-copy-out-sum-of c = search needs
-
-element-copy-out-sum-of-2 : tie.Need-element-copy-out-sum-of-2
-element-copy-out-sum-of-2 c = search needs
-
-sum-of-requires : tie.Need-sum-of-requires
-sum-of-requires c κs = search needs
-
 returns-2 : tie.Need-returns-2
 returns-2 c =
     let one = c .before .before .before in
@@ -35,5 +26,4 @@ returns-2 c =
 
 pub pair-sum-spec : {M : Type 1} → statement M
 pair-sum-spec =
-    tie.close
-    (tie.spec returns element-copy-out-sum-of element-copy-out-sum-of-2 sum-of-requires returns-2)
+    tie.close (tie.spec returns (search needs) (search needs) (search needs) returns-2)

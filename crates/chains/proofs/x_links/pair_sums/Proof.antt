@@ -23,24 +23,6 @@ loop-holds : tie.Need-loop-holds Inv-loop μ-loop
 unfolding pairSums
 loop-holds c = (c .pre, fill-start _ 27 (replicate 27 0) refl)
 
-holders-in-requires : tie.Need-holders-in-requires Inv-loop μ-loop
-holders-in-requires c κs = omega arith
-
-pair-sum-requires : tie.Need-pair-sum-requires Inv-loop μ-loop
-pair-sum-requires c κs = search needs
-
-mul-sums : tie.Need-mul-sums Inv-loop μ-loop
-mul-sums c = omega arith
-
-array-write-sums : tie.Need-array-write-sums Inv-loop μ-loop
-array-write-sums c = omega arith
-
-add-unit : tie.Need-add-unit Inv-loop μ-loop
-add-unit c = omega arith
-
-loop-less : tie.Need-loop-less Inv-loop μ-loop
-loop-less c = omega arith
-
 loop-again : tie.Need-loop-again Inv-loop μ-loop
 loop-again c =
     let h = c .before .holders-in in
@@ -57,11 +39,6 @@ pair-sums-spec =
     Inv-loop
     μ-loop
     loop-holds
-    holders-in-requires
-    pair-sum-requires
-    mul-sums
-    array-write-sums
-    add-unit
-    loop-less
+    (λ c. omega arith) (search needs) (λ c. omega arith) (λ c. omega arith) (λ c. omega arith) (λ c. omega arith)
     loop-again
     returns)

@@ -12,9 +12,6 @@ use Rattle.chains.specs.code.XLinks.{marked}
 use Rattle.chains.proofs.x_walk.mark.Statement.{statement}
 use Rattle.chains.proofs.x_walk.mark.Tie as tie
 
-element-write-ends : tie.Need-element-write-ends
-element-write-ends c = search needs
-
 returns : tie.Need-returns
 unfolding marked each
 returns c =
@@ -35,4 +32,5 @@ returns-3 c =
     sym (ap (λ (l : List ℕ). marked l (a .ends .now)) (cond-false (a .weak && leb 3 (a .depth)) (a .cell ∷ []) [] (ap (λ (t : Bool). t && leb 3 (a .depth)) (c .if1 .left))))
 
 pub mark-spec : {M : Type 1} → statement M
-mark-spec = tie.close (tie.spec element-write-ends returns returns-2 returns-3)
+mark-spec =
+    tie.close (tie.spec (search needs) returns returns-2 returns-3)

@@ -11,37 +11,10 @@ Inv-loop steps bytes givens masks₀ index₀ masks index = index ≤ 729
 abbrev μ-loop : tie.MeasureT-loop
 μ-loop steps bytes givens masks₀ index₀ masks index = 729 - index
 
-givens-of-requires : tie.Need-givens-of-requires Inv-loop μ-loop
-givens-of-requires c κs = search needs
-
-loop-holds : tie.Need-loop-holds Inv-loop μ-loop
-loop-holds c = search needs
-
-print-step-requires : tie.Need-print-step-requires Inv-loop μ-loop
-print-step-requires c κs = omega arith
-
-add-index : tie.Need-add-index Inv-loop μ-loop
-add-index c = search needs
-
-loop-less : tie.Need-loop-less Inv-loop μ-loop
-loop-less c = search needs
-
-loop-again : tie.Need-loop-again Inv-loop μ-loop
-loop-again c = search needs
-
-returns : tie.Need-returns Inv-loop μ-loop
-returns c = search needs
-
 pub print-steps-spec : {M : Type 1} → statement M
 print-steps-spec =
     tie.close
     (tie.spec
     Inv-loop
     μ-loop
-    givens-of-requires
-    loop-holds
-    print-step-requires
-    add-index
-    loop-less
-    loop-again
-    returns)
+    (search needs) (search needs) (λ c. omega arith) (search needs) (search needs) (search needs) (λ c. search needs))

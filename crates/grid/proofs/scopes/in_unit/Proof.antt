@@ -9,25 +9,16 @@ use Rattle.candidates.proofs.Tests.{cond-true, cond-false}
 use Rattle.grid.proofs.scopes.in_unit.Statement.{statement}
 use Rattle.grid.proofs.scopes.in_unit.Tie as tie
 
-row-of-requires : tie.Need-row-of-requires
-row-of-requires c κs = search needs
-
 returns : tie.Need-returns
 returns c =
     let a = c .before .before .args in
     ap (λ (x : ℕ). eqb x (a .unit)) (c .row-of .ensures) ∙ sym (cond-true (ltb (a .unit) 9) _ _ (lt-ltb (a .unit) 9 (c .before .if1 .taken)))
-
-col-of-requires : tie.Need-col-of-requires
-col-of-requires c κs = search needs
 
 returns-2 : tie.Need-returns-2
 returns-2 c =
     let a = c .before .before .before .args in
     ap (λ (x : ℕ). eqb x (a .unit - 9)) (c .col-of .ensures)
     ∙ sym (cond-false (ltb (a .unit) 9) _ _ (le-ltb (a .unit) 9 (omega arith)) ∙ cond-true (ltb (a .unit) 18) _ _ (lt-ltb (a .unit) 18 (c .before .if2 .taken)))
-
-box-of-requires : tie.Need-box-of-requires
-box-of-requires c κs = search needs
 
 returns-3 : tie.Need-returns-3
 returns-3 c =
@@ -42,12 +33,4 @@ returns-4 c =
 
 pub in-unit-spec : {M : Type 1} → statement M
 in-unit-spec =
-    tie.close
-    (tie.spec
-    row-of-requires
-    returns
-    col-of-requires
-    returns-2
-    box-of-requires
-    returns-3
-    returns-4)
+    tie.close (tie.spec (search needs) returns (search needs) returns-2 (search needs) returns-3 returns-4)

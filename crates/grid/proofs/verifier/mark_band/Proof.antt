@@ -18,29 +18,11 @@ abbrev μ-loop : tie.MeasureT-loop
 loop-holds : tie.Need-loop-holds Inv-loop μ-loop
 loop-holds c = (omega arith, standing-yes (c .pre .1) refl _ (omega arith))
 
-mul-mark-row : tie.Need-mul-mark-row Inv-loop μ-loop
-mul-mark-row c = omega arith
-
-add-mark-row : tie.Need-add-mark-row Inv-loop μ-loop
-add-mark-row c = omega arith
-
-mul-mark-row-2 : tie.Need-mul-mark-row-2 Inv-loop μ-loop
-mul-mark-row-2 c = omega arith
-
-add-mark-row-2 : tie.Need-add-mark-row-2 Inv-loop μ-loop
-add-mark-row-2 c = omega arith
-
 mark-row-requires : tie.Need-mark-row-requires Inv-loop μ-loop
 mark-row-requires c κs = (omega arith, omega arith, c .before .before .loop .inv .1)
 
 returns : tie.Need-returns Inv-loop μ-loop
 returns c = standing-no (c .before .mark-row .ensures) (not-true (c .before .mark-row .result) (c .if1 .taken)) _ (omega arith) _
-
-add-row : tie.Need-add-row Inv-loop μ-loop
-add-row c = omega arith
-
-loop-less : tie.Need-loop-less Inv-loop μ-loop
-loop-less c = omega arith
 
 loop-again : tie.Need-loop-again Inv-loop μ-loop
 loop-again c = (omega arith, standing-yes (c .before .mark-row .ensures) (not-false (c .before .mark-row .result) (c .if1 .left)) _ (omega arith))
@@ -55,13 +37,9 @@ mark-band-spec =
     Inv-loop
     μ-loop
     loop-holds
-    mul-mark-row
-    add-mark-row
-    mul-mark-row-2
-    add-mark-row-2
+    (λ c. omega arith) (λ c. omega arith) (λ c. omega arith) (λ c. omega arith)
     mark-row-requires
     returns
-    add-row
-    loop-less
+    (λ c. omega arith) (λ c. omega arith)
     loop-again
     returns-2)

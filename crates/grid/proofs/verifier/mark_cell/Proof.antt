@@ -18,9 +18,6 @@ use borrow.Author.Needs.{needs}
 use Rattle.grid.proofs.verifier.mark_cell.Statement.{statement}
 use Rattle.grid.proofs.verifier.mark_cell.Tie as tie
 
-is-digit-requires : tie.Need-is-digit-requires
-is-digit-requires c κs = search needs
-
 -- the test by its two halves
 fits-by : (ms : List ℕ) (c : ℕ) (z : ℤ) (a b : Bool) → a ≡ isDigit z → b ≡ has (seen ms c) (place z) → (a && not b) ≡ fits ms c z
 fits-by ms c z a b p q = ap (λ (t : Bool). t && not b) p ∙ ap (λ (t : Bool). isDigit z && not t) q
@@ -35,15 +32,6 @@ returns c =
       fits-by (a .marks .now) (cell (a .row) (a .col)) (a .number) false (has (seen (a .marks .now) (cell (a .row) (a .col))) (place (a .number))) (sym (not-true (c .before .is-digit .result) (c .if1 .taken)) ∙ is-digit (c .before)) refl,
       refl,
     )
-
-place-of-requires : tie.Need-place-of-requires
-place-of-requires c κs = search needs
-
-seen-digits-requires : tie.Need-seen-digits-requires
-seen-digits-requires c κs = search needs
-
-has-digit-requires : tie.Need-has-digit-requires
-has-digit-requires c κs = search needs
 
 -- the digit's place, and whether the units have it
 module _ (c : tie.After-has-digit) where
@@ -62,12 +50,6 @@ module _ (c : tie.After-has-digit) where
 returns-2 : tie.Need-returns-2
 returns-2 c = (test (c .before) true (c .if2 .taken), refl)
 
-digit-mask-requires : tie.Need-digit-mask-requires
-digit-mask-requires c κs = search needs
-
-join-units-requires : tie.Need-join-units-requires
-join-units-requires c κs = search needs
-
 returns-3 : tie.Need-returns-3
 returns-3 c =
     let d = c .before .before .before .before in
@@ -81,12 +63,9 @@ pub mark-cell-spec : {M : Type 1} → statement M
 mark-cell-spec =
     tie.close
     (tie.spec
-    is-digit-requires
+    (search needs)
     returns
-    place-of-requires
-    seen-digits-requires
-    has-digit-requires
+    (search needs) (search needs) (search needs)
     returns-2
-    digit-mask-requires
-    join-units-requires
+    (search needs) (search needs)
     returns-3)

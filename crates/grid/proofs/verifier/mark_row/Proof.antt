@@ -28,21 +28,6 @@ abbrev μ-loop : tie.MeasureT-loop
 loop-holds : tie.Need-loop-holds Inv-loop μ-loop
 loop-holds c = (omega arith, standing-yes (c .pre .2) refl _ (omega arith))
 
-add-mark-cell : tie.Need-add-mark-cell Inv-loop μ-loop
-add-mark-cell c = omega arith
-
-mul-mark-cell : tie.Need-mul-mark-cell Inv-loop μ-loop
-mul-mark-cell c = omega arith
-
-add-mark-cell-2 : tie.Need-add-mark-cell-2 Inv-loop μ-loop
-add-mark-cell-2 c = omega arith
-
-mul-mark-cell-2 : tie.Need-mul-mark-cell-2 Inv-loop μ-loop
-mul-mark-cell-2 c = omega arith
-
-element-copy-out-mark-cell : tie.Need-element-copy-out-mark-cell Inv-loop μ-loop
-element-copy-out-mark-cell c = omega arith
-
 mark-cell-requires : tie.Need-mark-cell-requires Inv-loop μ-loop
 mark-cell-requires c κs =
     let l = c .before .before .before in
@@ -62,12 +47,6 @@ turn c =
 returns : tie.Need-returns Inv-loop μ-loop
 returns c = standing-no (turn (c .before)) (not-true (c .before .mark-cell .result) (c .if1 .taken)) _ (omega arith) _
 
-add-col : tie.Need-add-col Inv-loop μ-loop
-add-col c = omega arith
-
-loop-less : tie.Need-loop-less Inv-loop μ-loop
-loop-less c = omega arith
-
 loop-again : tie.Need-loop-again Inv-loop μ-loop
 loop-again c = (omega arith, standing-yes (turn (c .before)) (not-false (c .before .mark-cell .result) (c .if1 .left)) _ (omega arith))
 
@@ -81,14 +60,9 @@ mark-row-spec =
     Inv-loop
     μ-loop
     loop-holds
-    add-mark-cell
-    mul-mark-cell
-    add-mark-cell-2
-    mul-mark-cell-2
-    element-copy-out-mark-cell
+    (λ c. omega arith) (λ c. omega arith) (λ c. omega arith) (λ c. omega arith) (λ c. omega arith)
     mark-cell-requires
     returns
-    add-col
-    loop-less
+    (λ c. omega arith) (λ c. omega arith)
     loop-again
     returns-2)

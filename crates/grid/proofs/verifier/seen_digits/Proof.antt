@@ -8,33 +8,6 @@ use borrow.Author.Needs.{needs}
 use Rattle.grid.proofs.verifier.seen_digits.Statement.{statement}
 use Rattle.grid.proofs.verifier.seen_digits.Tie as tie
 
-mul-join : tie.Need-mul-join
-mul-join c = search needs
-
-element-copy-out-join : tie.Need-element-copy-out-join
-element-copy-out-join c = search needs
-
-add-join : tie.Need-add-join
-add-join c = search needs
-
-mul-join-2 : tie.Need-mul-join-2
-mul-join-2 c = search needs
-
-element-copy-out-join-2 : tie.Need-element-copy-out-join-2
-element-copy-out-join-2 c = search needs
-
-join-requires : tie.Need-join-requires
-join-requires c κs = search needs
-
-mul-join-3 : tie.Need-mul-join-3
-mul-join-3 c = search needs
-
-element-copy-out-join-3 : tie.Need-element-copy-out-join-3
-element-copy-out-join-3 c = search needs
-
-join-requires-2 : tie.Need-join-requires-2
-join-requires-2 c κs = search needs
-
 returns : tie.Need-returns
 returns c =
     let start = c .before .before .before .before .before in
@@ -46,13 +19,6 @@ pub seen-digits-spec : {M : Type 1} → statement M
 seen-digits-spec =
     tie.close
     (tie.spec
-    mul-join
-    element-copy-out-join
-    add-join
-    mul-join-2
-    element-copy-out-join-2
-    join-requires
-    mul-join-3
-    element-copy-out-join-3
-    join-requires-2
+    (search needs) (search needs) (search needs) (search needs) (search needs) (search needs) (search needs)
+    (search needs) (search needs)
     returns)

@@ -10,18 +10,12 @@ use borrow.Author.Needs.{needs}
 use Rattle.locked.proofs.rests.due_digits.Statement.{statement}
 use Rattle.locked.proofs.rests.due_digits.Tie as tie
 
-row-due-requires : tie.Need-row-due-requires
-row-due-requires c κs = search needs
-
 returns : tie.Need-returns
 unfolding unitDue
 returns c =
     let test = c .before in
     let a = test .before .args in
     c .row-due .ensures ∙ sym (cond-true (ltb (a .unit) 9) (rowDue (a .rests .now) (a .unit)) (cond (ltb (a .unit) 18) (colDue (a .rests .now) (a .unit - 9)) (boxDue (a .rests .now) (a .unit - 18))) (lt-ltb (a .unit) 9 (test .if1 .taken)))
-
-col-due-requires : tie.Need-col-due-requires
-col-due-requires c κs = search needs
 
 returns-2 : tie.Need-returns-2
 unfolding unitDue
@@ -32,9 +26,6 @@ returns-2 c =
     c .col-due .ensures
     ∙ sym (cond-false (ltb (a .unit) 9) (rowDue (a .rests .now) (a .unit)) (cond (ltb (a .unit) 18) (colDue (a .rests .now) (a .unit - 9)) (boxDue (a .rests .now) (a .unit - 18))) (le-ltb (a .unit) 9 (first .if1 .left))
     ∙ cond-true (ltb (a .unit) 18) (colDue (a .rests .now) (a .unit - 9)) (boxDue (a .rests .now) (a .unit - 18)) (lt-ltb (a .unit) 18 (second .if2 .taken)))
-
-box-due-requires : tie.Need-box-due-requires
-box-due-requires c κs = search needs
 
 returns-3 : tie.Need-returns-3
 unfolding unitDue
@@ -48,5 +39,4 @@ returns-3 c =
 
 pub due-digits-spec : {M : Type 1} → statement M
 due-digits-spec =
-    tie.close
-    (tie.spec row-due-requires returns col-due-requires returns-2 box-due-requires returns-3)
+    tie.close (tie.spec (search needs) returns (search needs) returns-2 (search needs) returns-3)

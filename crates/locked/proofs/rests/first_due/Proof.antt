@@ -6,12 +6,6 @@ use Rattle.locked.proofs.FirstDue.{none-nine, none-then}
 use Rattle.locked.proofs.rests.first_due.Statement.{statement}
 use Rattle.locked.proofs.rests.first_due.Tie as tie
 
-nine-due-requires : tie.Need-nine-due-requires
-nine-due-requires c κs = search needs
-
-first-some-requires : tie.Need-first-some-requires
-first-some-requires c κs = search needs
-
 add-result : tie.Need-add-result
 add-result c = omega (arith, c .first-some .ensures .most)
 
@@ -20,22 +14,10 @@ returns c =
     let found = c .before .before in
     rw (found .before .if1 .taken) (none-nine _ 18 (found .nine-due .ensures) (c .first-some .ensures) refl)
 
-nine-due-requires-2 : tie.Need-nine-due-requires-2
-nine-due-requires-2 c κs = search needs
-
-first-some-requires-2 : tie.Need-first-some-requires-2
-first-some-requires-2 c κs = search needs
-
 returns-2 : tie.Need-returns-2
 returns-2 c =
     let found = c .before .before .before in
     rw (found .before .if1 .left) (none-nine _ 0 (found .nine-due2 .ensures) (c .before .first-some2 .ensures) (omega arith))
-
-nine-due-requires-3 : tie.Need-nine-due-requires-3
-nine-due-requires-3 c κs = search needs
-
-first-some-requires-3 : tie.Need-first-some-requires-3
-first-some-requires-3 c κs = search needs
 
 add-result-2 : tie.Need-add-result-2
 add-result-2 c = omega (arith, c .first-some3 .ensures .most)
@@ -52,14 +34,11 @@ pub first-due-spec : {M : Type 1} → statement M
 first-due-spec =
     tie.close
     (tie.spec
-    nine-due-requires
-    first-some-requires
+    (search needs) (search needs)
     add-result
     returns
-    nine-due-requires-2
-    first-some-requires-2
+    (search needs) (search needs)
     returns-2
-    nine-due-requires-3
-    first-some-requires-3
+    (search needs) (search needs)
     add-result-2
     returns-3)

@@ -21,45 +21,6 @@ loop-holds : tie.Need-loop-holds Inv-loop μ-loop
 unfolding looseMasks
 loop-holds c = fill-start _ 9 (replicate 9 0) refl
 
-mul-meet : tie.Need-mul-meet Inv-loop μ-loop
-mul-meet c = omega arith
-
-add-meet : tie.Need-add-meet Inv-loop μ-loop
-add-meet c = omega arith
-
-mul-meet-2 : tie.Need-mul-meet-2 Inv-loop μ-loop
-mul-meet-2 c = omega arith
-
-element-copy-out-meet : tie.Need-element-copy-out-meet Inv-loop μ-loop
-element-copy-out-meet c = omega arith
-
-mul-meet-3 : tie.Need-mul-meet-3 Inv-loop μ-loop
-mul-meet-3 c = omega arith
-
-add-meet-2 : tie.Need-add-meet-2 Inv-loop μ-loop
-add-meet-2 c = omega arith
-
-mul-meet-4 : tie.Need-mul-meet-4 Inv-loop μ-loop
-mul-meet-4 c = omega arith
-
-element-copy-out-meet-2 : tie.Need-element-copy-out-meet-2 Inv-loop μ-loop
-element-copy-out-meet-2 c = omega arith
-
-meet-requires : tie.Need-meet-requires Inv-loop μ-loop
-meet-requires c κs = search needs
-
-mul-nine : tie.Need-mul-nine Inv-loop μ-loop
-mul-nine c = omega arith
-
-array-write-nine : tie.Need-array-write-nine Inv-loop μ-loop
-array-write-nine c = omega arith
-
-add-place : tie.Need-add-place Inv-loop μ-loop
-add-place c = omega arith
-
-loop-less : tie.Need-loop-less Inv-loop μ-loop
-loop-less c = omega arith
-
 loop-again : tie.Need-loop-again Inv-loop μ-loop
 loop-again c =
     let l = c .before .before .before .before .loop in
@@ -75,18 +36,8 @@ loose-masks-spec =
     Inv-loop
     μ-loop
     loop-holds
-    mul-meet
-    add-meet
-    mul-meet-2
-    element-copy-out-meet
-    mul-meet-3
-    add-meet-2
-    mul-meet-4
-    element-copy-out-meet-2
-    meet-requires
-    mul-nine
-    array-write-nine
-    add-place
-    loop-less
+    (λ c. omega arith) (λ c. omega arith) (λ c. omega arith) (λ c. omega arith) (λ c. omega arith) (λ c. omega arith)
+    (λ c. omega arith) (λ c. omega arith) (search needs) (λ c. omega arith) (λ c. omega arith) (λ c. omega arith)
+    (λ c. omega arith)
     loop-again
     returns)

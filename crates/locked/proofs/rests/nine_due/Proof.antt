@@ -18,24 +18,6 @@ loop-holds : tie.Need-loop-holds Inv-loop μ-loop
 unfolding nineDue
 loop-holds c = fill-start _ 9 (replicate 9 0) refl
 
-add-due-digits : tie.Need-add-due-digits Inv-loop μ-loop
-add-due-digits c = omega arith
-
-due-digits-requires : tie.Need-due-digits-requires Inv-loop μ-loop
-due-digits-requires c κs = omega arith
-
-mul-due : tie.Need-mul-due Inv-loop μ-loop
-mul-due c = omega arith
-
-array-write-due : tie.Need-array-write-due Inv-loop μ-loop
-array-write-due c = omega arith
-
-add-nth : tie.Need-add-nth Inv-loop μ-loop
-add-nth c = omega arith
-
-loop-less : tie.Need-loop-less Inv-loop μ-loop
-loop-less c = omega arith
-
 loop-again : tie.Need-loop-again Inv-loop μ-loop
 loop-again c =
     let l = c .before .before .loop in
@@ -51,11 +33,6 @@ nine-due-spec =
     Inv-loop
     μ-loop
     loop-holds
-    add-due-digits
-    due-digits-requires
-    mul-due
-    array-write-due
-    add-nth
-    loop-less
+    (λ c. omega arith) (λ c. omega arith) (λ c. omega arith) (λ c. omega arith) (λ c. omega arith) (λ c. omega arith)
     loop-again
     returns)

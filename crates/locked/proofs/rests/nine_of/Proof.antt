@@ -7,17 +7,11 @@ use borrow.Author.Needs.{needs}
 use Rattle.locked.proofs.rests.nine_of.Statement.{statement}
 use Rattle.locked.proofs.rests.nine_of.Tie as tie
 
-loose-masks-requires : tie.Need-loose-masks-requires
-loose-masks-requires c κs = search needs
-
 returns : tie.Need-returns
 returns c =
     let test = c .before in
     let a = test .before .args in
     c .loose-masks .ensures ∙ sym (cond-true (a .loose) (looseMasks (a .lanes .now) (a .doors .now) (a .lane)) (laneMasks (a .lanes .now) (a .lane)) (test .if1 .taken))
-
-lane-masks-requires : tie.Need-lane-masks-requires
-lane-masks-requires c κs = search needs
 
 returns-2 : tie.Need-returns-2
 returns-2 c =
@@ -26,4 +20,5 @@ returns-2 c =
     c .lane-masks .ensures ∙ sym (cond-false (a .loose) (looseMasks (a .lanes .now) (a .doors .now) (a .lane)) (laneMasks (a .lanes .now) (a .lane)) (test .if1 .left))
 
 pub nine-of-spec : {M : Type 1} → statement M
-nine-of-spec = tie.close (tie.spec loose-masks-requires returns lane-masks-requires returns-2)
+nine-of-spec =
+    tie.close (tie.spec (search needs) returns (search needs) returns-2)

@@ -19,18 +19,6 @@ loop-holds : tie.Need-loop-holds Inv-loop μ-loop
 unfolding putLanes
 loop-holds c = (omega arith, refl)
 
-nine-of-requires : tie.Need-nine-of-requires Inv-loop μ-loop
-nine-of-requires c κs = omega arith
-
-put-three-requires : tie.Need-put-three-requires Inv-loop μ-loop
-put-three-requires c κs = omega arith
-
-add-lane : tie.Need-add-lane Inv-loop μ-loop
-add-lane c = omega arith
-
-loop-less : tie.Need-loop-less Inv-loop μ-loop
-loop-less c = omega arith
-
 loop-again : tie.Need-loop-again Inv-loop μ-loop
 loop-again c =
     let nine = c .before .before .before in
@@ -50,9 +38,6 @@ put-lines-spec =
     Inv-loop
     μ-loop
     loop-holds
-    nine-of-requires
-    put-three-requires
-    add-lane
-    loop-less
+    (λ c. omega arith) (λ c. omega arith) (λ c. omega arith) (λ c. omega arith)
     loop-again
     returns)

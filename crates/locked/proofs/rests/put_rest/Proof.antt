@@ -8,27 +8,6 @@ use borrow.Author.Needs.{needs}
 use Rattle.locked.proofs.rests.put_rest.Statement.{statement}
 use Rattle.locked.proofs.rests.put_rest.Tie as tie
 
-met-places-requires : tie.Need-met-places-requires
-met-places-requires c κs = search needs
-
-lose-requires : tie.Need-lose-requires
-lose-requires c κs = search needs
-
-join-places-requires : tie.Need-join-places-requires
-join-places-requires c κs = search needs
-
-mul-rests : tie.Need-mul-rests
-mul-rests c = search needs
-
-add-rests : tie.Need-add-rests
-add-rests c = search needs
-
-mul-rests-2 : tie.Need-mul-rests-2
-mul-rests-2 c = search needs
-
-element-write-rests : tie.Need-element-write-rests
-element-write-rests c = search needs
-
 returns : tie.Need-returns
 returns c =
     let lost = c .before in
@@ -40,11 +19,5 @@ pub put-rest-spec : {M : Type 1} → statement M
 put-rest-spec =
     tie.close
     (tie.spec
-    met-places-requires
-    lose-requires
-    join-places-requires
-    mul-rests
-    add-rests
-    mul-rests-2
-    element-write-rests
+    (search needs) (search needs) (search needs) (search needs) (search needs) (search needs) (search needs)
     returns)

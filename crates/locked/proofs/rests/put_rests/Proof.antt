@@ -6,12 +6,6 @@ use borrow.Author.Needs.{needs}
 use Rattle.locked.proofs.rests.put_rests.Statement.{statement}
 use Rattle.locked.proofs.rests.put_rests.Tie as tie
 
-put-lines-requires : tie.Need-put-lines-requires
-put-lines-requires c κs = search needs
-
-put-boxes-requires : tie.Need-put-boxes-requires
-put-boxes-requires c κs = search needs
-
 returns : tie.Need-returns
 unfolding putRests
 returns c =
@@ -20,4 +14,5 @@ returns c =
     c .put-boxes .ensures ∙ ap (putLanes (a .lanes .now) (a .doors .now) (not (a .boxes)) 6 32 48) (lines .put-lines .ensures)
 
 pub put-rests-spec : {M : Type 1} → statement M
-put-rests-spec = tie.close (tie.spec put-lines-requires put-boxes-requires returns)
+put-rests-spec =
+    tie.close (tie.spec (search needs) (search needs) returns)

@@ -6,18 +6,6 @@ use borrow.Author.Needs.{needs}
 use Rattle.locked.proofs.rests.put_six.Statement.{statement}
 use Rattle.locked.proofs.rests.put_six.Tie as tie
 
-put-three-requires : tie.Need-put-three-requires
-put-three-requires c κs = search needs
-
-put-rest-requires : tie.Need-put-rest-requires
-put-rest-requires c κs = search needs
-
-put-rest-requires-2 : tie.Need-put-rest-requires-2
-put-rest-requires-2 c κs = search needs
-
-put-rest-requires-3 : tie.Need-put-rest-requires-3
-put-rest-requires-3 c κs = search needs
-
 returns : tie.Need-returns
 unfolding putLane each
 returns c =
@@ -30,5 +18,4 @@ returns c =
 
 pub put-six-spec : {M : Type 1} → statement M
 put-six-spec =
-    tie.close
-    (tie.spec put-three-requires put-rest-requires put-rest-requires-2 put-rest-requires-3 returns)
+    tie.close (tie.spec (search needs) (search needs) (search needs) (search needs) returns)

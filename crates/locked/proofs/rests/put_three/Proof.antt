@@ -6,15 +6,6 @@ use borrow.Author.Needs.{needs}
 use Rattle.locked.proofs.rests.put_three.Statement.{statement}
 use Rattle.locked.proofs.rests.put_three.Tie as tie
 
-put-rest-requires : tie.Need-put-rest-requires
-put-rest-requires c κs = search needs
-
-put-rest-requires-2 : tie.Need-put-rest-requires-2
-put-rest-requires-2 c κs = search needs
-
-put-rest-requires-3 : tie.Need-put-rest-requires-3
-put-rest-requires-3 c κs = search needs
-
 returns : tie.Need-returns
 unfolding putLane each
 returns c =
@@ -25,4 +16,4 @@ returns c =
 
 pub put-three-spec : {M : Type 1} → statement M
 put-three-spec =
-    tie.close (tie.spec put-rest-requires put-rest-requires-2 put-rest-requires-3 returns)
+    tie.close (tie.spec (search needs) (search needs) (search needs) returns)

@@ -15,18 +15,6 @@ made : (nine : List ℕ) (u : ℕ) (r : List ℕ) {s : List ℕ} {n : ℕ} → m
 unfolding renewed
 made nine u r many e = rw many e
 
-mul-lane : tie.Need-mul-lane
-mul-lane c = search needs
-
-add-lane : tie.Need-add-lane
-add-lane c = search needs
-
-put-six-requires : tie.Need-put-six-requires
-put-six-requires c κs = search needs
-
-put-three-requires : tie.Need-put-three-requires
-put-three-requires c κs = search needs
-
 returns : tie.Need-returns
 returns c =
     let branch = c .before .before in
@@ -41,11 +29,4 @@ returns-2 c =
 
 pub renew-spec : {M : Type 1} → statement M
 renew-spec =
-    tie.close
-    (tie.spec
-    mul-lane
-    add-lane
-    put-six-requires
-    put-three-requires
-    returns
-    returns-2)
+    tie.close (tie.spec (search needs) (search needs) (search needs) (search needs) returns returns-2)

@@ -12,12 +12,6 @@ use Rattle.lone_place.proofs.lones.due_flag.Tie as tie
 tested : (c : tie.After-lone-due) → c .lone-due .result ≡ loneDue (bitAnd (c .before .before .args .mask) 511) (c .before .before .args .near)
 tested c = c .lone-due .ensures ∙ ap (λ (x : ℕ). loneDue x (c .before .before .args .near)) (c .before .meet .ensures)
 
-meet-requires : tie.Need-meet-requires
-meet-requires c κs = search needs
-
-lone-due-requires : tie.Need-lone-due-requires
-lone-due-requires c κs = search needs
-
 returns : tie.Need-returns
 returns c =
     let a = c .before .before .before .args in
@@ -29,4 +23,5 @@ returns-2 c =
     sym (cond-false (loneDue (bitAnd (a .mask) 511) (a .near)) 1 0 (sym (tested (c .before)) ∙ c .if1 .left))
 
 pub due-flag-spec : {M : Type 1} → statement M
-due-flag-spec = tie.close (tie.spec meet-requires lone-due-requires returns returns-2)
+due-flag-spec =
+    tie.close (tie.spec (search needs) (search needs) returns returns-2)

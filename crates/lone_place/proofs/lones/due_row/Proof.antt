@@ -26,36 +26,6 @@ loop-holds : tie.Need-loop-holds Inv-loop μ-loop
 unfolding dueRow turn
 loop-holds c = (omega arith, refl)
 
-mul-due-flag : tie.Need-mul-due-flag Inv-loop μ-loop
-mul-due-flag c = omega arith
-
-add-due-flag : tie.Need-add-due-flag Inv-loop μ-loop
-add-due-flag c = omega arith
-
-mul-due-flag-2 : tie.Need-mul-due-flag-2 Inv-loop μ-loop
-mul-due-flag-2 c = omega arith
-
-element-copy-out-due-flag : tie.Need-element-copy-out-due-flag Inv-loop μ-loop
-element-copy-out-due-flag c = omega arith
-
-mul-due-flag-3 : tie.Need-mul-due-flag-3 Inv-loop μ-loop
-mul-due-flag-3 c = omega arith
-
-element-copy-out-due-flag-2 : tie.Need-element-copy-out-due-flag-2 Inv-loop μ-loop
-element-copy-out-due-flag-2 c = omega arith
-
-due-flag-requires : tie.Need-due-flag-requires Inv-loop μ-loop
-due-flag-requires c κs = search needs
-
-join-requires : tie.Need-join-requires Inv-loop μ-loop
-join-requires c κs = search needs
-
-add-nth : tie.Need-add-nth Inv-loop μ-loop
-add-nth c = omega arith
-
-loop-less : tie.Need-loop-less Inv-loop μ-loop
-loop-less c = omega arith
-
 loop-again : tie.Need-loop-again Inv-loop μ-loop
 unfolding turn
 loop-again c =
@@ -75,15 +45,7 @@ due-row-spec =
     Inv-loop
     μ-loop
     loop-holds
-    mul-due-flag
-    add-due-flag
-    mul-due-flag-2
-    element-copy-out-due-flag
-    mul-due-flag-3
-    element-copy-out-due-flag-2
-    due-flag-requires
-    join-requires
-    add-nth
-    loop-less
+    (λ c. omega arith) (λ c. omega arith) (λ c. omega arith) (λ c. omega arith) (λ c. omega arith) (λ c. omega arith)
+    (search needs) (search needs) (λ c. omega arith) (λ c. omega arith)
     loop-again
     returns)

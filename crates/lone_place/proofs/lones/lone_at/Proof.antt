@@ -19,30 +19,6 @@ use Rattle.lone_place.proofs.Taking.{loneTest, lone-taken, lone-left}
 use Rattle.lone_place.proofs.lones.lone_at.Statement.{statement}
 use Rattle.lone_place.proofs.lones.lone_at.Tie as tie
 
-digit-mask-requires : tie.Need-digit-mask-requires
-digit-mask-requires c κs = search needs
-
-mask-at-requires : tie.Need-mask-at-requires
-mask-at-requires c κs = search needs
-
-lose-requires : tie.Need-lose-requires
-lose-requires c κs = search needs
-
-meet-requires : tie.Need-meet-requires
-meet-requires c κs = search needs
-
-is-none-requires : tie.Need-is-none-requires
-is-none-requires c κs = search needs
-
-lose-peers-requires : tie.Need-lose-peers-requires
-lose-peers-requires c κs = search needs
-
-add-note : tie.Need-add-note
-add-note c = omega arith
-
-note-requires : tie.Need-note-requires
-note-requires c κs = omega arith
-
 -- the digit's mask
 one : (c : tie.After-digit-mask) → c .digit-mask .result ≡ single (c .before .before .args .digit)
 one c = c .digit-mask .ensures ∙ place-is (c .before .before .args .digit) (c .before .before .pre .1)
@@ -61,9 +37,6 @@ taken c e =
     let a = start .args in
     e ∙ ap (λ (k : ℕ). peersLose (a .givens .now) (a .cell) k (a .masks .now)) (one (c .before .before .before .before .before .before .before .before))
     ∙ lone-taken (a .givens .now) (a .masks .now) (a .cell) (a .digit) (start .pre .0) (sym (tested (c .before .before .before)) ∙ c .before .before .if1 .taken)
-
-same-length : tie.Need-same-length
-same-length c = search needs
 
 returns : tie.Need-returns
 unfolding stepBytes
@@ -92,15 +65,8 @@ pub lone-at-spec : {M : Type 1} → statement M
 lone-at-spec =
     tie.close
     (tie.spec
-    digit-mask-requires
-    mask-at-requires
-    lose-requires
-    meet-requires
-    is-none-requires
-    lose-peers-requires
-    add-note
-    note-requires
-    same-length
+    (search needs) (search needs) (search needs) (search needs) (search needs) (search needs) (λ c. omega arith)
+    (λ c. omega arith) (search needs)
     returns
     returns-2
     returns-3)

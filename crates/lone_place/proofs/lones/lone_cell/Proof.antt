@@ -10,23 +10,8 @@ use Rattle.lone_place.proofs.LoneDue.{not-due}
 use Rattle.lone_place.proofs.lones.lone_cell.Statement.{statement}
 use Rattle.lone_place.proofs.lones.lone_cell.Tie as tie
 
-mul-meet : tie.Need-mul-meet
-mul-meet c = search needs
-
-element-copy-out-meet : tie.Need-element-copy-out-meet
-element-copy-out-meet c = search needs
-
-meet-requires : tie.Need-meet-requires
-meet-requires c κs = search needs
-
-lone-due-requires : tie.Need-lone-due-requires
-lone-due-requires c κs = search needs
-
 lone-digits-requires : tie.Need-lone-digits-requires
 lone-digits-requires c κs = c .before .before .before .before .before .before .before .pre .0
-
-same-length : tie.Need-same-length
-same-length c = search needs
 
 returns : tie.Need-returns
 returns c = c .before .before .lone-digits .ensures
@@ -40,4 +25,11 @@ returns-2 c =
     (sym idle, sym (log-idle (a .givens .now) (cellLones (a .cell)) (a .masks .now) (a .log .now) (sym (lone-cell (a .givens .now) (a .cell) (a .masks .now)) ∙ idle)))
 
 pub lone-cell-spec : {M : Type 1} → statement M
-lone-cell-spec = tie.close (tie.spec mul-meet element-copy-out-meet meet-requires lone-due-requires lone-digits-requires same-length returns returns-2)
+lone-cell-spec =
+    tie.close
+    (tie.spec
+    (search needs) (search needs) (search needs) (search needs)
+    lone-digits-requires
+    (search needs)
+    returns
+    returns-2)

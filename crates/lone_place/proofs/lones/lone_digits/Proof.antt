@@ -46,28 +46,16 @@ Inv-loop givens masks₀ log₀ cell held digit₀ masks log digit =
 abbrev μ-loop : tie.MeasureT-loop
 μ-loop givens masks₀ log₀ cell held digit₀ masks log digit = 9 - digit
 
-lone-held-requires : tie.Need-lone-held-requires Inv-loop μ-loop
-lone-held-requires c κs = search needs
-
 loop-holds : tie.Need-loop-holds Inv-loop μ-loop
 unfolding loneCell turn cellLones step
 loop-holds c =
     let m = c .before .before .before .args .masks .now in
     (omega arith, refl, record { under = under-refl m; own = refl }, refl)
 
-has-digit-requires : tie.Need-has-digit-requires Inv-loop μ-loop
-has-digit-requires c κs = search needs
-
 lone-at-requires : tie.Need-lone-at-requires Inv-loop μ-loop
 lone-at-requires c κs =
     let tested = c .before .before .before in
     (tested .before .before .before .before .before .before .pre, omega arith)
-
-add-digit : tie.Need-add-digit Inv-loop μ-loop
-add-digit c = omega arith
-
-loop-less : tie.Need-loop-less Inv-loop μ-loop
-loop-less c = omega arith
 
 loop-again : tie.Need-loop-again Inv-loop μ-loop
 unfolding turn step
@@ -113,12 +101,11 @@ lone-digits-spec =
     (tie.spec
     Inv-loop
     μ-loop
-    lone-held-requires
+    (search needs)
     loop-holds
-    has-digit-requires
+    (search needs)
     lone-at-requires
-    add-digit
-    loop-less
+    (λ c. omega arith) (λ c. omega arith)
     loop-again
     same-length
     returns)

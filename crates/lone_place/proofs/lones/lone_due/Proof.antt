@@ -7,18 +7,6 @@ use borrow.Author.Needs.{needs}
 use Rattle.lone_place.proofs.lones.lone_due.Statement.{statement}
 use Rattle.lone_place.proofs.lones.lone_due.Tie as tie
 
-lose-lowest-requires : tie.Need-lose-lowest-requires
-lose-lowest-requires c κs = search needs
-
-lose-requires : tie.Need-lose-requires
-lose-requires c κs = search needs
-
-join-requires : tie.Need-join-requires
-join-requires c κs = search needs
-
-is-none-requires : tie.Need-is-none-requires
-is-none-requires c κs = search needs
-
 returns : tie.Need-returns
 returns c =
     let both = c .before in
@@ -28,4 +16,5 @@ returns c =
     (both .join .ensures ∙ ap (λ (x : ℕ). union x (both .before .lose .result)) (both .before .before .lose-lowest .ensures) ∙ ap (union (tail (a .mask))) (both .before .lose .ensures))
 
 pub lone-due-spec : {M : Type 1} → statement M
-lone-due-spec = tie.close (tie.spec lose-lowest-requires lose-requires join-requires is-none-requires returns)
+lone-due-spec =
+    tie.close (tie.spec (search needs) (search needs) (search needs) (search needs) returns)

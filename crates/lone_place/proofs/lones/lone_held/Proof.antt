@@ -10,18 +10,6 @@ use Rattle.lone_place.specs.code.Due.{looseNear}
 use Rattle.lone_place.proofs.lones.lone_held.Statement.{statement}
 use Rattle.lone_place.proofs.lones.lone_held.Tie as tie
 
-mul-meet : tie.Need-mul-meet
-mul-meet c = search needs
-
-element-copy-out-meet : tie.Need-element-copy-out-meet
-element-copy-out-meet c = search needs
-
-meet-requires : tie.Need-meet-requires
-meet-requires c κs = search needs
-
-loose-near-requires : tie.Need-loose-near-requires
-loose-near-requires c κs = search needs
-
 returns : tie.Need-returns
 returns c =
     let met = c .before .before in
@@ -38,11 +26,4 @@ returns-2 c =
 
 pub lone-held-spec : {M : Type 1} → statement M
 lone-held-spec =
-    tie.close
-    (tie.spec
-    mul-meet
-    element-copy-out-meet
-    meet-requires
-    loose-near-requires
-    returns
-    returns-2)
+    tie.close (tie.spec (search needs) (search needs) (search needs) (search needs) returns returns-2)

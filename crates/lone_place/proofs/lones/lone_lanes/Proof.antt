@@ -11,9 +11,6 @@ use Rattle.lone_place.proofs.LoneLanes.{sets-cover, lone-idle}
 use Rattle.lone_place.proofs.lones.lone_lanes.Statement.{statement}
 use Rattle.lone_place.proofs.lones.lone_lanes.Tie as tie
 
-loose-digits-requires : tie.Need-loose-digits-requires
-loose-digits-requires c κs = search needs
-
 returns : tie.Need-returns
 unfolding pass
 returns c =
@@ -22,9 +19,6 @@ returns c =
     let a = start .args in
     let idle = lone-idle (a .givens .now) (a .masks .now) (sym (free .loose-digits .ensures) ∙ c .if1 .taken) in
     (sym idle, (start .pre, sym (log-idle (a .givens .now) (instances Lone) (a .masks .now) (a .log .now) idle)))
-
-shared-lanes-requires : tie.Need-shared-lanes-requires
-shared-lanes-requires c κs = search needs
 
 lone-rows-requires : tie.Need-lone-rows-requires
 lone-rows-requires c κs =
@@ -38,16 +32,10 @@ lay-requires c κs =
     let start = c .before .before .before .before .before .before .before .before .before .before .before .before .before .before .before in
     record { of = start .args .masks .now; is = start .pre }
 
-same-length : tie.Need-same-length
-same-length c = search needs
-
 returns-2 : tie.Need-returns-2
 returns-2 c =
     let rows = c .before .before .before .before .before .before in
     (rows .lone-rows .ensures .0, (c .lay .ensures, rows .lone-rows .ensures .1 .1))
-
-same-length-2 : tie.Need-same-length-2
-same-length-2 c = search needs
 
 returns-3 : tie.Need-returns-3
 returns-3 c =
@@ -59,12 +47,12 @@ pub lone-lanes-spec : {M : Type 1} → statement M
 lone-lanes-spec =
     tie.close
     (tie.spec
-    loose-digits-requires
+    (search needs)
     returns
-    shared-lanes-requires
+    (search needs)
     lone-rows-requires
     lay-requires
-    same-length
+    (search needs)
     returns-2
-    same-length-2
+    (search needs)
     returns-3)

@@ -36,28 +36,10 @@ loop-holds : tie.Need-loop-holds Inv-loop μ-loop
 unfolding loneRow turn rowLones block
 loop-holds c = (omega arith, refl, c .before .pre .1, refl)
 
-mul-lone-cell : tie.Need-mul-lone-cell Inv-loop μ-loop
-mul-lone-cell c = omega arith
-
-element-copy-out-lone-cell : tie.Need-element-copy-out-lone-cell Inv-loop μ-loop
-element-copy-out-lone-cell c = omega arith
-
-mul-lone-cell-2 : tie.Need-mul-lone-cell-2 Inv-loop μ-loop
-mul-lone-cell-2 c = omega arith
-
-add-lone-cell : tie.Need-add-lone-cell Inv-loop μ-loop
-add-lone-cell c = omega arith
-
 lone-cell-requires : tie.Need-lone-cell-requires Inv-loop μ-loop
 lone-cell-requires c κs =
     let l = c .before .before .before .before .loop in
     (omega arith, l .inv .2 .cell (l .nth) (omega arith))
-
-add-nth : tie.Need-add-nth Inv-loop μ-loop
-add-nth c = omega arith
-
-loop-less : tie.Need-loop-less Inv-loop μ-loop
-loop-less c = omega arith
 
 loop-again : tie.Need-loop-again Inv-loop μ-loop
 unfolding turn block
@@ -90,13 +72,9 @@ lone-row-spec =
     Inv-loop
     μ-loop
     loop-holds
-    mul-lone-cell
-    element-copy-out-lone-cell
-    mul-lone-cell-2
-    add-lone-cell
+    (λ c. omega arith) (λ c. omega arith) (λ c. omega arith) (λ c. omega arith)
     lone-cell-requires
-    add-nth
-    loop-less
+    (λ c. omega arith) (λ c. omega arith)
     loop-again
     same-length
     returns)

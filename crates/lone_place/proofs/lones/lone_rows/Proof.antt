@@ -37,12 +37,6 @@ loop-holds c =
     let a = c .before .args in
     (omega arith, sym (lone-rows (a .givens .now) (a .masks .now)), c .before .pre, record { is = λ _. refl }, ap (λ (xs : List Instance). logAfter (a .givens .now) xs (a .masks .now) (a .log .now)) (sym lones-by-rows))
 
-near-row-requires : tie.Need-near-row-requires Inv-loop μ-loop
-near-row-requires c κs = omega arith
-
-due-row-requires : tie.Need-due-row-requires Inv-loop μ-loop
-due-row-requires c κs = omega arith
-
 -- what the sets say of the row
 found : (c : lts.After-near-row (near-row-reads.Asked, near-row-reads.Learnt, due-row-reads.Asked, due-row-reads.Learnt, lone-row-reads.Asked, lone-row-reads.Learnt) reads.Pre reads.Post Inv-loop μ-loop)
     → NearRow (c .before .before .loop .masks) (c .before .before .loop .row) (c .near-row .result)
@@ -55,12 +49,6 @@ lone-row-requires : tie.Need-lone-row-requires Inv-loop μ-loop
 lone-row-requires c κs =
     let near = c .before .before .before .before .before .before .before in
     (omega arith, found near)
-
-add-row : tie.Need-add-row Inv-loop μ-loop
-add-row c = omega arith
-
-loop-less : tie.Need-loop-less Inv-loop μ-loop
-loop-less c = omega arith
 
 loop-again : tie.Need-loop-again Inv-loop μ-loop
 loop-again c =
@@ -104,11 +92,9 @@ lone-rows-spec =
     Inv-loop
     μ-loop
     loop-holds
-    near-row-requires
-    due-row-requires
+    (λ c. omega arith) (λ c. omega arith)
     lone-row-requires
-    add-row
-    loop-less
+    (λ c. omega arith) (λ c. omega arith)
     loop-again
     same-length
     returns)

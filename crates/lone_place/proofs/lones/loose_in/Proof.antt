@@ -5,14 +5,9 @@ use borrow.Author.Needs.{needs}
 use Rattle.lone_place.proofs.lones.loose_in.Statement.{statement}
 use Rattle.lone_place.proofs.lones.loose_in.Tie as tie
 
-unit-masks-requires : tie.Need-unit-masks-requires
-unit-masks-requires c κs = search needs
-
-join-all-requires : tie.Need-join-all-requires
-join-all-requires c κs = search needs
-
 returns : tie.Need-returns
 returns c = c .join-all .ensures ∙ ap joined (c .before .before .unit-masks .ensures)
 
 pub loose-in-spec : {M : Type 1} → statement M
-loose-in-spec = tie.close (tie.spec unit-masks-requires join-all-requires returns)
+loose-in-spec =
+    tie.close (tie.spec (search needs) (search needs) returns)

@@ -21,54 +21,6 @@ loop-holds : tie.Need-loop-holds Inv-loop μ-loop
 unfolding nearRow
 loop-holds c = fill-start _ 16 (replicate 16 0) refl
 
-mul-join : tie.Need-mul-join Inv-loop μ-loop
-mul-join c = omega arith
-
-element-copy-out-join : tie.Need-element-copy-out-join Inv-loop μ-loop
-element-copy-out-join c = omega arith
-
-add-join : tie.Need-add-join Inv-loop μ-loop
-add-join c = omega arith
-
-mul-join-2 : tie.Need-mul-join-2 Inv-loop μ-loop
-mul-join-2 c = omega arith
-
-element-copy-out-join-2 : tie.Need-element-copy-out-join-2 Inv-loop μ-loop
-element-copy-out-join-2 c = omega arith
-
-join-requires : tie.Need-join-requires Inv-loop μ-loop
-join-requires c κs = search needs
-
-mul-join-3 : tie.Need-mul-join-3 Inv-loop μ-loop
-mul-join-3 c = omega arith
-
-add-join-2 : tie.Need-add-join-2 Inv-loop μ-loop
-add-join-2 c = omega arith
-
-add-join-3 : tie.Need-add-join-3 Inv-loop μ-loop
-add-join-3 c = omega arith
-
-mul-join-4 : tie.Need-mul-join-4 Inv-loop μ-loop
-mul-join-4 c = omega arith
-
-element-copy-out-join-3 : tie.Need-element-copy-out-join-3 Inv-loop μ-loop
-element-copy-out-join-3 c = omega arith
-
-join-requires-2 : tie.Need-join-requires-2 Inv-loop μ-loop
-join-requires-2 c κs = search needs
-
-mul-near : tie.Need-mul-near Inv-loop μ-loop
-mul-near c = omega arith
-
-array-write-near : tie.Need-array-write-near Inv-loop μ-loop
-array-write-near c = omega arith
-
-add-nth : tie.Need-add-nth Inv-loop μ-loop
-add-nth c = omega arith
-
-loop-less : tie.Need-loop-less Inv-loop μ-loop
-loop-less c = omega arith
-
 loop-again : tie.Need-loop-again Inv-loop μ-loop
 loop-again c =
     let lines = c .before .before in
@@ -87,21 +39,8 @@ near-row-spec =
     Inv-loop
     μ-loop
     loop-holds
-    mul-join
-    element-copy-out-join
-    add-join
-    mul-join-2
-    element-copy-out-join-2
-    join-requires
-    mul-join-3
-    add-join-2
-    add-join-3
-    mul-join-4
-    element-copy-out-join-3
-    join-requires-2
-    mul-near
-    array-write-near
-    add-nth
-    loop-less
+    (λ c. omega arith) (λ c. omega arith) (λ c. omega arith) (λ c. omega arith) (λ c. omega arith) (search needs)
+    (λ c. omega arith) (λ c. omega arith) (λ c. omega arith) (λ c. omega arith) (λ c. omega arith) (search needs)
+    (λ c. omega arith) (λ c. omega arith) (λ c. omega arith) (λ c. omega arith)
     loop-again
     returns)

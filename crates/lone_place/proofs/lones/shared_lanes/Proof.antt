@@ -21,24 +21,6 @@ loop-holds : tie.Need-loop-holds Inv-loop μ-loop
 unfolding sharedLanes
 loop-holds c = fill-start _ 48 (replicate 48 0) refl
 
-lane-masks-requires : tie.Need-lane-masks-requires Inv-loop μ-loop
-lane-masks-requires c κs = omega arith
-
-shared-requires : tie.Need-shared-requires Inv-loop μ-loop
-shared-requires c κs = search needs
-
-mul-sets : tie.Need-mul-sets Inv-loop μ-loop
-mul-sets c = omega arith
-
-array-write-sets : tie.Need-array-write-sets Inv-loop μ-loop
-array-write-sets c = omega arith
-
-add-lane : tie.Need-add-lane Inv-loop μ-loop
-add-lane c = omega arith
-
-loop-less : tie.Need-loop-less Inv-loop μ-loop
-loop-less c = omega arith
-
 loop-again : tie.Need-loop-again Inv-loop μ-loop
 loop-again c =
     let nine = c .before .before in
@@ -55,11 +37,6 @@ shared-lanes-spec =
     Inv-loop
     μ-loop
     loop-holds
-    lane-masks-requires
-    shared-requires
-    mul-sets
-    array-write-sets
-    add-lane
-    loop-less
+    (λ c. omega arith) (search needs) (λ c. omega arith) (λ c. omega arith) (λ c. omega arith) (λ c. omega arith)
     loop-again
     returns)

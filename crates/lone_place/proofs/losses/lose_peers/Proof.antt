@@ -8,54 +8,6 @@ use Rattle.lone_place.proofs.Peers.{units-lose, units-tell}
 use Rattle.lone_place.proofs.losses.lose_peers.Statement.{statement}
 use Rattle.lone_place.proofs.losses.lose_peers.Tie as tie
 
-mul-own : tie.Need-mul-own
-mul-own c = search needs
-
-element-copy-out-own : tie.Need-element-copy-out-own
-element-copy-out-own c = search needs
-
-mul-masks : tie.Need-mul-masks
-mul-masks c = search needs
-
-element-write-masks : tie.Need-element-write-masks
-element-write-masks c = search needs
-
-row-of-requires : tie.Need-row-of-requires
-row-of-requires c κs = search needs
-
-lose-unit-requires : tie.Need-lose-unit-requires
-lose-unit-requires c κs = search needs
-
-col-of-requires : tie.Need-col-of-requires
-col-of-requires c κs = search needs
-
-add-lose-unit : tie.Need-add-lose-unit
-add-lose-unit c = search needs
-
-lose-unit-requires-2 : tie.Need-lose-unit-requires-2
-lose-unit-requires-2 c κs = search needs
-
-box-of-requires : tie.Need-box-of-requires
-box-of-requires c κs = search needs
-
-add-lose-unit-2 : tie.Need-add-lose-unit-2
-add-lose-unit-2 c = search needs
-
-lose-unit-requires-3 : tie.Need-lose-unit-requires-3
-lose-unit-requires-3 c κs = search needs
-
-mul-masks-2 : tie.Need-mul-masks-2
-mul-masks-2 c = search needs
-
-element-write-masks-2 : tie.Need-element-write-masks-2
-element-write-masks-2 c = search needs
-
-join-requires : tie.Need-join-requires
-join-requires c κs = search needs
-
-join-requires-2 : tie.Need-join-requires-2
-join-requires-2 c κs = search needs
-
 returns : tie.Need-returns
 returns c =
     let third = c .before .before in
@@ -78,20 +30,7 @@ pub lose-peers-spec : {M : Type 1} → statement M
 lose-peers-spec =
     tie.close
     (tie.spec
-    mul-own
-    element-copy-out-own
-    mul-masks
-    element-write-masks
-    row-of-requires
-    lose-unit-requires
-    col-of-requires
-    add-lose-unit
-    lose-unit-requires-2
-    box-of-requires
-    add-lose-unit-2
-    lose-unit-requires-3
-    mul-masks-2
-    element-write-masks-2
-    join-requires
-    join-requires-2
+    (search needs) (search needs) (search needs) (search needs) (search needs) (search needs) (search needs)
+    (search needs) (search needs) (search needs) (search needs) (search needs) (search needs) (search needs)
+    (search needs) (search needs)
     returns)

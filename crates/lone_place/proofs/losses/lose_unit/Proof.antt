@@ -32,21 +32,6 @@ loop-holds : tie.Need-loop-holds Inv-loop μ-loop
 unfolding losePlaces turn
 loop-holds c = (omega arith, refl, went-none (c .args .masks .now))
 
-unit-cell-requires : tie.Need-unit-cell-requires Inv-loop μ-loop
-unit-cell-requires c κs = search needs
-
-lose-cell-requires : tie.Need-lose-cell-requires Inv-loop μ-loop
-lose-cell-requires c κs = search needs
-
-join-requires : tie.Need-join-requires Inv-loop μ-loop
-join-requires c κs = search needs
-
-add-place : tie.Need-add-place Inv-loop μ-loop
-add-place c = omega arith
-
-loop-less : tie.Need-loop-less Inv-loop μ-loop
-loop-less c = omega arith
-
 loop-again : tie.Need-loop-again Inv-loop μ-loop
 unfolding turn
 loop-again c =
@@ -72,10 +57,6 @@ lose-unit-spec =
     Inv-loop
     μ-loop
     loop-holds
-    unit-cell-requires
-    lose-cell-requires
-    join-requires
-    add-place
-    loop-less
+    (search needs) (search needs) (search needs) (λ c. omega arith) (λ c. omega arith)
     loop-again
     returns)

@@ -6,14 +6,9 @@ use Rattle.lone_place.specs.code.Due.{dueOf}
 use Rattle.lone_place.proofs.places.due_digits.Statement.{statement}
 use Rattle.lone_place.proofs.places.due_digits.Tie as tie
 
-unit-lane-requires : tie.Need-unit-lane-requires
-unit-lane-requires c κs = omega arith
-
-due-of-requires : tie.Need-due-of-requires
-due-of-requires c κs = search needs
-
 returns : tie.Need-returns
 returns c = c .due-of .ensures ∙ ap dueOf (c .before .before .unit-lane .ensures)
 
 pub due-digits-spec : {M : Type 1} → statement M
-due-digits-spec = tie.close (tie.spec unit-lane-requires due-of-requires returns)
+due-digits-spec =
+    tie.close (tie.spec (λ c. omega arith) (search needs) returns)

@@ -20,30 +20,6 @@ loop-holds : tie.Need-loop-holds Inv-loop μ-loop
 unfolding placeSets
 loop-holds c = fill-start _ 16 (replicate 16 0) refl
 
-add-due-lane : tie.Need-add-due-lane Inv-loop μ-loop
-add-due-lane c = omega arith
-
-mul-due-lane : tie.Need-mul-due-lane Inv-loop μ-loop
-mul-due-lane c = omega arith
-
-element-copy-out-due-lane : tie.Need-element-copy-out-due-lane Inv-loop μ-loop
-element-copy-out-due-lane c = omega arith
-
-due-lane-requires : tie.Need-due-lane-requires Inv-loop μ-loop
-due-lane-requires c κs = omega arith
-
-mul-sets : tie.Need-mul-sets Inv-loop μ-loop
-mul-sets c = omega arith
-
-array-write-sets : tie.Need-array-write-sets Inv-loop μ-loop
-array-write-sets c = omega arith
-
-add-nth : tie.Need-add-nth Inv-loop μ-loop
-add-nth c = omega arith
-
-loop-less : tie.Need-loop-less Inv-loop μ-loop
-loop-less c = omega arith
-
 loop-again : tie.Need-loop-again Inv-loop μ-loop
 loop-again c =
     let l = c .before .before .before .loop in
@@ -59,13 +35,7 @@ due-lanes-spec =
     Inv-loop
     μ-loop
     loop-holds
-    add-due-lane
-    mul-due-lane
-    element-copy-out-due-lane
-    due-lane-requires
-    mul-sets
-    array-write-sets
-    add-nth
-    loop-less
+    (λ c. omega arith) (λ c. omega arith) (λ c. omega arith) (λ c. omega arith) (λ c. omega arith) (λ c. omega arith)
+    (λ c. omega arith) (λ c. omega arith)
     loop-again
     returns)

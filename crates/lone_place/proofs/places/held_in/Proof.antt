@@ -8,16 +8,11 @@ use Rattle.cells.specs.code.Places.{spotsIn}
 use Rattle.lone_place.proofs.places.held_in.Statement.{statement}
 use Rattle.lone_place.proofs.places.held_in.Tie as tie
 
-unit-lane-requires : tie.Need-unit-lane-requires
-unit-lane-requires c κs = omega arith
-
-places-of-requires : tie.Need-places-of-requires
-places-of-requires c κs = search needs
-
 returns : tie.Need-returns
 returns c =
     let lane = c .before .before in
     c .places-of .ensures ∙ ap (λ (nine : List ℕ). spotsIn nine (lane .before .args .digit)) (lane .unit-lane .ensures)
 
 pub held-in-spec : {M : Type 1} → statement M
-held-in-spec = tie.close (tie.spec unit-lane-requires places-of-requires returns)
+held-in-spec =
+    tie.close (tie.spec (λ c. omega arith) (search needs) returns)

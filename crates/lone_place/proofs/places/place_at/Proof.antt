@@ -30,18 +30,6 @@ use Rattle.lone_place.proofs.PlaceTurns.{taken}
 use Rattle.lone_place.proofs.places.place_at.Statement.{statement}
 use Rattle.lone_place.proofs.places.place_at.Tie as tie
 
-digit-mask-requires : tie.Need-digit-mask-requires
-digit-mask-requires c κs = search needs
-
-lose-requires : tie.Need-lose-requires
-lose-requires c κs = search needs
-
-unit-cell-requires : tie.Need-unit-cell-requires
-unit-cell-requires c κs = search needs
-
-lose-cell-requires : tie.Need-lose-cell-requires
-lose-cell-requires c κs = search needs
-
 -- the cell
 within : (c : tie.After-unit-cell) → c .unit-cell .result < 81
 within c =
@@ -50,9 +38,6 @@ within c =
 
 lay-cell-requires : tie.Need-lay-cell-requires
 lay-cell-requires c κs = omega (arith, within (c .before .before .before .before .before))
-
-add-note : tie.Need-add-note
-add-note c = omega arith
 
 note-requires : tie.Need-note-requires
 note-requires c κs = omega (arith, within (c .before .before .before .before .before .before .before))
@@ -92,9 +77,6 @@ told c e =
     let a = c .before .before .before .before .before .before .args in
     went-as (c .lose-cell .ensures .1) e (went-cell (a .givens .now) (a .masks .now) (c .before .before .unit-cell .result) (c .before .before .before .lose .result))
 
-same-length : tie.Need-same-length
-same-length c = search needs
-
 returns : tie.Need-returns
 unfolding stepBytes
 returns c =
@@ -129,13 +111,10 @@ pub place-at-spec : {M : Type 1} → statement M
 place-at-spec =
     tie.close
     (tie.spec
-    digit-mask-requires
-    lose-requires
-    unit-cell-requires
-    lose-cell-requires
+    (search needs) (search needs) (search needs) (search needs)
     lay-cell-requires
-    add-note
+    (λ c. omega arith)
     note-requires
-    same-length
+    (search needs)
     returns
     returns-2)

@@ -29,9 +29,6 @@ Inv-loop givens masks₀ log₀ lanes₀ unit digit left₀ masks log lanes left
 abbrev μ-loop : tie.MeasureT-loop
 μ-loop givens masks₀ log₀ lanes₀ unit digit left₀ masks log lanes left = count left
 
-held-in-requires : tie.Need-held-in-requires Inv-loop μ-loop
-held-in-requires c κs = omega arith
-
 -- the places that hold the digit, as the lane shows
 held : (c : tie.After-held-in Inv-loop μ-loop) → let a = c .before .before .before .args in c .held-in .result ≡ heldPlaces (a .masks .now) (a .unit) (a .digit)
 held c =
@@ -50,9 +47,6 @@ loop-holds c =
     let a = start .args in
     (turning-start (a .givens .now) (a .unit) (a .digit) (start .pre .0) (start .pre .1) (a .masks .now) (a .log .now) (c .turns-of .ensures ∙ ap turnsOf (held (c .before))), start .pre .2)
 
-lowest-digit-requires : tie.Need-lowest-digit-requires Inv-loop μ-loop
-lowest-digit-requires c κs = search needs
-
 place-at-requires : tie.Need-place-at-requires Inv-loop μ-loop
 place-at-requires c κs =
     let loop = c .before .before .before .before .before in
@@ -68,9 +62,6 @@ place-at-requires c κs =
       ap (λ (i : ℕ). minus (heldPlaces (l .masks) (start .args .unit) (start .args .digit)) (single i)) e ∙ l .inv .0 .passing (lowest x) (lowest-in x some (omega arith)),
       l .inv .1,
     )
-
-lose-lowest-requires : tie.Need-lose-lowest-requires Inv-loop μ-loop
-lose-lowest-requires c κs = search needs
 
 loop-less : tie.Need-loop-less Inv-loop μ-loop
 loop-less c =
@@ -107,12 +98,12 @@ place-digit-spec =
     (tie.spec
     Inv-loop
     μ-loop
-    held-in-requires
+    (λ c. omega arith)
     turns-of-requires
     loop-holds
-    lowest-digit-requires
+    (search needs)
     place-at-requires
-    lose-lowest-requires
+    (search needs)
     loop-less
     loop-again
     same-length

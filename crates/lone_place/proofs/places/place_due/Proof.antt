@@ -33,35 +33,11 @@ loop-holds : tie.Need-loop-holds Inv-loop μ-loop
 unfolding familyPlaces block
 loop-holds c = (going-start (place-parted (c .before .args .givens .now) (c .before .args .family) (c .before .pre .0)) (c .before .args .masks .now), refl, c .before .pre .2)
 
-mul-if1 : tie.Need-mul-if1 Inv-loop μ-loop
-mul-if1 c = omega arith
-
-element-copy-out-if1 : tie.Need-element-copy-out-if1 Inv-loop μ-loop
-element-copy-out-if1 c = omega arith
-
-mul-unit : tie.Need-mul-unit Inv-loop μ-loop
-mul-unit c = omega arith
-
-add-unit : tie.Need-add-unit Inv-loop μ-loop
-add-unit c = omega arith
-
-mul-place-unit : tie.Need-mul-place-unit Inv-loop μ-loop
-mul-place-unit c = omega arith
-
-element-copy-out-place-unit : tie.Need-element-copy-out-place-unit Inv-loop μ-loop
-element-copy-out-place-unit c = omega arith
-
 place-unit-requires : tie.Need-place-unit-requires Inv-loop μ-loop
 place-unit-requires c κs =
     let l = c .before .before .before .before .before .before .before .loop in
     let start = c .before .before .before .before .before .before .before .before .before in
     (omega arith, start .pre .1 .of (l .nth) (omega arith) (l .masks) (l .inv .0 .same (l .nth) (omega arith) (omega arith)), l .inv .2)
-
-add-nth : tie.Need-add-nth Inv-loop μ-loop
-add-nth c = omega arith
-
-loop-less : tie.Need-loop-less Inv-loop μ-loop
-loop-less c = omega arith
 
 loop-again : tie.Need-loop-again Inv-loop μ-loop
 unfolding block
@@ -108,15 +84,9 @@ place-due-spec =
     Inv-loop
     μ-loop
     loop-holds
-    mul-if1
-    element-copy-out-if1
-    mul-unit
-    add-unit
-    mul-place-unit
-    element-copy-out-place-unit
+    (λ c. omega arith) (λ c. omega arith) (λ c. omega arith) (λ c. omega arith) (λ c. omega arith) (λ c. omega arith)
     place-unit-requires
-    add-nth
-    loop-less
+    (λ c. omega arith) (λ c. omega arith)
     loop-again
     same-length
     returns)

@@ -11,21 +11,6 @@ use Rattle.lone_place.proofs.PlaceLanes.{place-spared, spares-skips, pl
 use Rattle.lone_place.proofs.places.place_family.Statement.{statement}
 use Rattle.lone_place.proofs.places.place_family.Tie as tie
 
-mul-loose : tie.Need-mul-loose
-mul-loose c = omega arith
-
-loose-requires : tie.Need-loose-requires
-loose-requires c κs = omega arith
-
-mul-due-lanes : tie.Need-mul-due-lanes
-mul-due-lanes c = omega arith
-
-due-lanes-requires : tie.Need-due-lanes-requires
-due-lanes-requires c κs = omega arith
-
-join-sets-requires : tie.Need-join-sets-requires
-join-sets-requires c κs = search needs
-
 -- what the sets say
 spares : (c : tie.After-due-lanes)
     → PlaceSpares (c .before .before .before .before .before .before .args .givens .now) (c .before .before .before .before .before .before .args .masks .now) (c .before .before .before .before .before .before .args .family) (c .due-lanes .result)
@@ -48,9 +33,6 @@ place-due-requires c κs =
     let start = tested .before .before .before .before .before .before in
     (start .pre .0, spares tested, start .pre .1 .masks)
 
-same-length : tie.Need-same-length
-same-length c = search needs
-
 returns-2 : tie.Need-returns-2
 returns-2 c = c .before .before .place-due .ensures
 
@@ -58,12 +40,8 @@ pub place-family-spec : {M : Type 1} → statement M
 place-family-spec =
     tie.close
     (tie.spec
-    mul-loose
-    loose-requires
-    mul-due-lanes
-    due-lanes-requires
-    join-sets-requires
+    (λ c. omega arith) (λ c. omega arith) (λ c. omega arith) (λ c. omega arith) (search needs)
     returns
     place-due-requires
-    same-length
+    (search needs)
     returns-2)

@@ -34,12 +34,6 @@ loop-holds c =
 place-family-requires : tie.Need-place-family-requires Inv-loop μ-loop
 place-family-requires c κs = (omega arith, record { doors = c .before .before .before .before .before .before .pre .doors; masks = c .before .before .before .before .loop .inv .2 })
 
-add-family : tie.Need-add-family Inv-loop μ-loop
-add-family c = omega arith
-
-loop-less : tie.Need-loop-less Inv-loop μ-loop
-loop-less c = omega arith
-
 loop-again : tie.Need-loop-again Inv-loop μ-loop
 loop-again c =
     let l = c .before .before .before .before .before .before .before .loop in
@@ -61,4 +55,14 @@ returns c =
     (turns-over (placeFamily g) 3 (l .family) (c .loop-test .left) (l .inv .1), (l .inv .2, log-over g familyPlaces 3 (l .family) (l .masks) (l .log) (c .loop-test .left) (l .inv .3)))
 
 pub place-lanes-spec : {M : Type 1} → statement M
-place-lanes-spec = tie.close (tie.spec Inv-loop μ-loop loop-holds place-family-requires add-family loop-less loop-again same-length returns)
+place-lanes-spec =
+    tie.close
+    (tie.spec
+    Inv-loop
+    μ-loop
+    loop-holds
+    place-family-requires
+    (λ c. omega arith) (λ c. omega arith)
+    loop-again
+    same-length
+    returns)

@@ -28,9 +28,6 @@ Inv-loop givens masks₀ log₀ lanes₀ unit first digit₀ masks log lanes dig
 abbrev μ-loop : tie.MeasureT-loop
 μ-loop givens masks₀ log₀ lanes₀ unit first digit₀ masks log lanes digit = 9 - digit
 
-first-digit-requires : tie.Need-first-digit-requires Inv-loop μ-loop
-first-digit-requires c κs = search needs
-
 loop-holds : tie.Need-loop-holds Inv-loop μ-loop
 unfolding placeUnit unitPlaces
 loop-holds c =
@@ -41,15 +38,6 @@ loop-holds c =
 
 place-digit-requires : tie.Need-place-digit-requires Inv-loop μ-loop
 place-digit-requires c κs = (omega arith, omega arith, c .before .before .before .before .loop .inv .2)
-
-due-digits-requires : tie.Need-due-digits-requires Inv-loop μ-loop
-due-digits-requires c κs = omega arith
-
-add-first-digit : tie.Need-add-first-digit Inv-loop μ-loop
-add-first-digit c = omega arith
-
-first-digit-requires-2 : tie.Need-first-digit-requires-2 Inv-loop μ-loop
-first-digit-requires-2 c κs = search needs
 
 -- what is not due loses nothing
 spared : (g : List ℕ) (u : ℕ) → u < 27 → {due : ℕ} {p n : List ℕ} → due ≡ dueOf (laneMasks p (laneOf u)) → p ≡ laid n → Spares g u due n
@@ -94,12 +82,10 @@ place-unit-spec =
     (tie.spec
     Inv-loop
     μ-loop
-    first-digit-requires
+    (search needs)
     loop-holds
     place-digit-requires
-    due-digits-requires
-    add-first-digit
-    first-digit-requires-2
+    (λ c. omega arith) (λ c. omega arith) (search needs)
     loop-less
     loop-again
     same-length

@@ -13,9 +13,6 @@ use Rattle.lone_place.proofs.PlaceSets.{turns-are}
 use Rattle.lone_place.proofs.places.turns_of.Statement.{statement}
 use Rattle.lone_place.proofs.places.turns_of.Tie as tie
 
-is-one-requires : tie.Need-is-one-requires
-is-one-requires c κs = search needs
-
 -- where a place holds the digit
 some : (x : ℕ) → x < 512 → x ≢ 0 → turnsOf x ≡ cond (eqb (count x) 1) x 0
 some x h n = turns-are x h ∙ cond-false (eqb x 0) 511 (cond (eqb (count x) 1) x 0) (ne-eqb x 0 n)
@@ -39,4 +36,5 @@ returns-3 c =
     sym (some x (held .before .pre) (held .if1 .left) ∙ cond-false (eqb (count x) 1) x 0 (sym (c .before .is-one .ensures) ∙ c .if2 .left))
 
 pub turns-of-spec : {M : Type 1} → statement M
-turns-of-spec = tie.close (tie.spec returns is-one-requires returns-2 returns-3)
+turns-of-spec =
+    tie.close (tie.spec returns (search needs) returns-2 returns-3)

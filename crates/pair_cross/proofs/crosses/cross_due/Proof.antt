@@ -29,27 +29,9 @@ Inv-loop givens masks₀ log₀ doors digits due half first places digit₀ mask
 abbrev μ-loop : tie.MeasureT-loop
 μ-loop givens masks₀ log₀ doors digits due half first places digit₀ masks log digit = 9 - digit
 
-mul-first : tie.Need-mul-first Inv-loop μ-loop
-mul-first c = omega arith
-
-mul-open-places : tie.Need-mul-open-places Inv-loop μ-loop
-mul-open-places c = omega arith
-
-open-places-requires : tie.Need-open-places-requires Inv-loop μ-loop
-open-places-requires c κs = omega arith
-
 loop-holds : tie.Need-loop-holds Inv-loop μ-loop
 unfolding crossInstances
 loop-holds c = let a = c .before .before .args in (going-start (cross-parted (a .givens .now) (9 * a .half)) (a .masks .now), refl)
-
-mul-if1 : tie.Need-mul-if1 Inv-loop μ-loop
-mul-if1 c = omega arith
-
-element-copy-out-if1 : tie.Need-element-copy-out-if1 Inv-loop μ-loop
-element-copy-out-if1 c = omega arith
-
-lane-masks-requires : tie.Need-lane-masks-requires Inv-loop μ-loop
-lane-masks-requires c κs = omega arith
 
 two-frame-requires : tie.Need-two-frame-requires Inv-loop μ-loop
 two-frame-requires c κs =
@@ -63,12 +45,6 @@ two-frame-requires c κs =
       cross-doors (start .args .givens .now) half (l .digit) (start .pre .0) h (start .pre .1) (places .open-places .ensures),
       cross-lines half (l .digit) (start .pre .0) h (start .pre .2) (l .masks) (l .inv .0 .same (l .digit) (omega arith) (omega arith)) (c .lane-masks .ensures),
     )
-
-add-digit : tie.Need-add-digit Inv-loop μ-loop
-add-digit c = omega arith
-
-loop-less : tie.Need-loop-less Inv-loop μ-loop
-loop-less c = omega arith
 
 loop-again : tie.Need-loop-again Inv-loop μ-loop
 loop-again c =
@@ -108,16 +84,11 @@ cross-due-spec =
     (tie.spec
     Inv-loop
     μ-loop
-    mul-first
-    mul-open-places
-    open-places-requires
+    (λ c. omega arith) (λ c. omega arith) (λ c. omega arith)
     loop-holds
-    mul-if1
-    element-copy-out-if1
-    lane-masks-requires
+    (λ c. omega arith) (λ c. omega arith) (λ c. omega arith)
     two-frame-requires
-    add-digit
-    loop-less
+    (λ c. omega arith) (λ c. omega arith)
     loop-again
     same-length
     returns)

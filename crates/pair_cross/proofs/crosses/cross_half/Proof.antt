@@ -13,30 +13,6 @@ use Rattle.pair_cross.proofs.FrameInstances.{cross-each}
 use Rattle.pair_cross.proofs.crosses.cross_half.Statement.{statement}
 use Rattle.pair_cross.proofs.crosses.cross_half.Tie as tie
 
-mul-loose : tie.Need-mul-loose
-mul-loose c = omega arith
-
-loose-requires : tie.Need-loose-requires
-loose-requires c κs = omega arith
-
-join-sets-requires : tie.Need-join-sets-requires
-join-sets-requires c κs = search needs
-
-mul-digit-lanes : tie.Need-mul-digit-lanes
-mul-digit-lanes c = omega arith
-
-digit-lanes-requires : tie.Need-digit-lanes-requires
-digit-lanes-requires c κs = omega arith
-
-places-of-digits-requires : tie.Need-places-of-digits-requires
-places-of-digits-requires c κs = search needs
-
-lively-lanes-requires : tie.Need-lively-lanes-requires
-lively-lanes-requires c κs = omega arith
-
-join-sets-requires-2 : tie.Need-join-sets-requires-2
-join-sets-requires-2 c κs = search needs
-
 -- what the sets say
 skips : (c : tie.After-lively-lanes)
     → CrossSkips (c .before .before .before .before .before .before .before .before .before .before .before .args .givens .now) (c .before .before .before .before .before .before .before .before .before .before .before .args .masks .now) (c .before .before .before .before .before .before .before .before .before .before .before .args .half) (c .lively-lanes .result)
@@ -72,9 +48,6 @@ lay-requires c κs =
     let start = lively .before .before .before .before .before .before .before .before .before .before .before in
     record { of = start .args .masks .now; is = start .pre .1 .masks }
 
-same-length : tie.Need-same-length
-same-length c = search needs
-
 returns-2 : tie.Need-returns-2
 returns-2 c = let due = c .before .before .before .before .before .cross-due .ensures in (due .0, (c .lay .ensures, due .1))
 
@@ -82,16 +55,10 @@ pub cross-half-spec : {M : Type 1} → statement M
 cross-half-spec =
     tie.close
     (tie.spec
-    mul-loose
-    loose-requires
-    join-sets-requires
-    mul-digit-lanes
-    digit-lanes-requires
-    places-of-digits-requires
-    lively-lanes-requires
-    join-sets-requires-2
+    (λ c. omega arith) (λ c. omega arith) (search needs) (λ c. omega arith) (λ c. omega arith) (search needs)
+    (λ c. omega arith) (search needs)
     returns
     cross-due-requires
     lay-requires
-    same-length
+    (search needs)
     returns-2)

@@ -19,9 +19,6 @@ cross-half-requires c κs = (omega arith, c .before .before .before .before .pre
 cross-half-requires-2 : tie.Need-cross-half-requires-2
 cross-half-requires-2 c κs = (omega arith, let rows = c .before .before .before .before .before in record { doors = rows .before .before .before .before .before .pre .doors; masks = rows .cross-half .ensures .1 .0 })
 
-same-length : tie.Need-same-length
-same-length c = search needs
-
 returns : tie.Need-returns
 returns c =
     let half = c .before .before .before .before .before .before .before .before in
@@ -39,4 +36,5 @@ returns c =
     )
 
 pub cross-lanes-spec : {M : Type 1} → statement M
-cross-lanes-spec = tie.close (tie.spec cross-half-requires cross-half-requires-2 same-length returns)
+cross-lanes-spec =
+    tie.close (tie.spec cross-half-requires cross-half-requires-2 (search needs) returns)

@@ -26,24 +26,6 @@ loop-holds : tie.Need-loop-holds Inv-loop μ-loop
 unfolding anyHot turn
 loop-holds c = (omega arith, refl)
 
-mul-heat : tie.Need-mul-heat Inv-loop μ-loop
-mul-heat c = omega arith
-
-element-copy-out-heat : tie.Need-element-copy-out-heat Inv-loop μ-loop
-element-copy-out-heat c = omega arith
-
-heat-requires : tie.Need-heat-requires Inv-loop μ-loop
-heat-requires c κs = search needs
-
-join-requires : tie.Need-join-requires Inv-loop μ-loop
-join-requires c κs = search needs
-
-add-line : tie.Need-add-line Inv-loop μ-loop
-add-line c = omega arith
-
-loop-less : tie.Need-loop-less Inv-loop μ-loop
-loop-less c = omega arith
-
 loop-again : tie.Need-loop-again Inv-loop μ-loop
 unfolding turn
 loop-again c =
@@ -63,11 +45,6 @@ any-hot-spec =
     Inv-loop
     μ-loop
     loop-holds
-    mul-heat
-    element-copy-out-heat
-    heat-requires
-    join-requires
-    add-line
-    loop-less
+    (λ c. omega arith) (λ c. omega arith) (search needs) (search needs) (λ c. omega arith) (λ c. omega arith)
     loop-again
     returns)

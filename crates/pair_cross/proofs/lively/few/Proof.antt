@@ -11,12 +11,6 @@ use borrow.Author.Needs.{needs}
 use Rattle.pair_cross.proofs.lively.few.Statement.{statement}
 use Rattle.pair_cross.proofs.lively.few.Tie as tie
 
-lose-lowest-requires : tie.Need-lose-lowest-requires
-lose-lowest-requires c κs = search needs
-
-lose-lowest-requires-2 : tie.Need-lose-lowest-requires-2
-lose-lowest-requires-2 c κs = omega arith
-
 test : (c : tie.After-lose-lowest2) → eqb (c .lose-lowest2 .result) 0 ≡ small (c .before .before .args .held)
 test c = ap (λ (x : ℕ). eqb x 0) (c .lose-lowest2 .ensures ∙ ap tail (c .before .lose-lowest .ensures))
 
@@ -31,4 +25,5 @@ returns-2 c =
     sym (cond-false (small x) x 0 (sym (test (c .before)) ∙ ne-eqb (c .before .lose-lowest2 .result) 0 (c .if1 .left)))
 
 pub few-spec : {M : Type 1} → statement M
-few-spec = tie.close (tie.spec lose-lowest-requires lose-lowest-requires-2 returns returns-2)
+few-spec =
+    tie.close (tie.spec (search needs) (λ c. omega arith) returns returns-2)

@@ -10,15 +10,6 @@ use borrow.Author.Needs.{needs}
 use Rattle.pair_cross.proofs.lively.heat.Statement.{statement}
 use Rattle.pair_cross.proofs.lively.heat.Tie as tie
 
-lose-lowest-requires : tie.Need-lose-lowest-requires
-lose-lowest-requires c κs = search needs
-
-lose-requires : tie.Need-lose-requires
-lose-requires c κs = search needs
-
-join-requires : tie.Need-join-requires
-join-requires c κs = search needs
-
 test : (c : tie.After-join) → eqb (c .join .result) 0 ≡ hot (c .before .before .before .args .held) (c .before .before .before .args .twice)
 test c = ap (λ (x : ℕ). eqb x 0) (c .join .ensures ∙ ap₂ union (c .before .before .lose-lowest .ensures) (c .before .lose .ensures))
 
@@ -33,4 +24,5 @@ returns-2 c =
     sym (cond-false (hot (a .held) (a .twice)) 511 0 (sym (test (c .before)) ∙ ne-eqb (c .before .join .result) 0 (c .if1 .left)))
 
 pub heat-spec : {M : Type 1} → statement M
-heat-spec = tie.close (tie.spec lose-lowest-requires lose-requires join-requires returns returns-2)
+heat-spec =
+    tie.close (tie.spec (search needs) (search needs) (search needs) returns returns-2)

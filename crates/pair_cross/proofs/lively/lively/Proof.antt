@@ -12,30 +12,6 @@ use Rattle.pair_cross.specs.declared.lively.Tally.{Tally}
 use Rattle.pair_cross.proofs.lively.lively.Statement.{statement}
 use Rattle.pair_cross.proofs.lively.lively.Tie as tie
 
-lane-masks-requires : tie.Need-lane-masks-requires
-lane-masks-requires c κs = omega arith
-
-tally-of-requires : tie.Need-tally-of-requires
-tally-of-requires c κs = search needs
-
-any-hot-requires : tie.Need-any-hot-requires
-any-hot-requires c κs = search needs
-
-two-same-requires : tie.Need-two-same-requires
-two-same-requires c κs = search needs
-
-meet-requires : tie.Need-meet-requires
-meet-requires c κs = search needs
-
-meet-requires-2 : tie.Need-meet-requires-2
-meet-requires-2 c κs = search needs
-
-join-requires : tie.Need-join-requires
-join-requires c κs = omega arith
-
-meet-requires-3 : tie.Need-meet-requires-3
-meet-requires-3 c κs = search needs
-
 returns : tie.Need-returns
 unfolding livelyOf
 returns c =
@@ -57,12 +33,6 @@ pub lively-spec : {M : Type 1} → statement M
 lively-spec =
     tie.close
     (tie.spec
-    lane-masks-requires
-    tally-of-requires
-    any-hot-requires
-    two-same-requires
-    meet-requires
-    meet-requires-2
-    join-requires
-    meet-requires-3
+    (λ c. omega arith) (search needs) (search needs) (search needs) (search needs) (search needs) (λ c. omega arith)
+    (search needs)
     returns)

@@ -20,30 +20,6 @@ loop-holds : tie.Need-loop-holds Inv-loop μ-loop
 unfolding livelySets
 loop-holds c = fill-start _ 16 (replicate 16 0) refl
 
-add-lively : tie.Need-add-lively Inv-loop μ-loop
-add-lively c = omega arith
-
-mul-lively : tie.Need-mul-lively Inv-loop μ-loop
-mul-lively c = omega arith
-
-element-copy-out-lively : tie.Need-element-copy-out-lively Inv-loop μ-loop
-element-copy-out-lively c = omega arith
-
-lively-requires : tie.Need-lively-requires Inv-loop μ-loop
-lively-requires c κs = omega arith
-
-mul-sets : tie.Need-mul-sets Inv-loop μ-loop
-mul-sets c = omega arith
-
-array-write-sets : tie.Need-array-write-sets Inv-loop μ-loop
-array-write-sets c = omega arith
-
-add-nth : tie.Need-add-nth Inv-loop μ-loop
-add-nth c = omega arith
-
-loop-less : tie.Need-loop-less Inv-loop μ-loop
-loop-less c = omega arith
-
 loop-again : tie.Need-loop-again Inv-loop μ-loop
 loop-again c =
     let l = c .before .before .before .loop in
@@ -59,13 +35,7 @@ lively-lanes-spec =
     Inv-loop
     μ-loop
     loop-holds
-    add-lively
-    mul-lively
-    element-copy-out-lively
-    lively-requires
-    mul-sets
-    array-write-sets
-    add-nth
-    loop-less
+    (λ c. omega arith) (λ c. omega arith) (λ c. omega arith) (λ c. omega arith) (λ c. omega arith) (λ c. omega arith)
+    (λ c. omega arith) (λ c. omega arith)
     loop-again
     returns)

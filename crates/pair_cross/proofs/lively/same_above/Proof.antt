@@ -21,39 +21,9 @@ Inv-loop lines line held found₀ other₀ found other = (other ≤ 9) × (each 
 abbrev μ-loop : tie.MeasureT-loop
 μ-loop lines line held found₀ other₀ found other = 9 - other
 
-mul-few : tie.Need-mul-few Inv-loop μ-loop
-mul-few c = omega arith
-
-element-copy-out-few : tie.Need-element-copy-out-few Inv-loop μ-loop
-element-copy-out-few c = omega arith
-
-few-requires : tie.Need-few-requires Inv-loop μ-loop
-few-requires c κs = search needs
-
-add-other : tie.Need-add-other Inv-loop μ-loop
-add-other c = omega arith
-
 loop-holds : tie.Need-loop-holds Inv-loop μ-loop
 unfolding twinsAbove turn
 loop-holds c = (omega arith, refl)
-
-mul-same : tie.Need-mul-same Inv-loop μ-loop
-mul-same c = omega arith
-
-element-copy-out-same : tie.Need-element-copy-out-same Inv-loop μ-loop
-element-copy-out-same c = omega arith
-
-same-requires : tie.Need-same-requires Inv-loop μ-loop
-same-requires c κs = search needs
-
-join-requires : tie.Need-join-requires Inv-loop μ-loop
-join-requires c κs = search needs
-
-add-other-2 : tie.Need-add-other-2 Inv-loop μ-loop
-add-other-2 c = omega arith
-
-loop-less : tie.Need-loop-less Inv-loop μ-loop
-loop-less c = omega arith
 
 loop-again : tie.Need-loop-again Inv-loop μ-loop
 unfolding turn
@@ -74,16 +44,8 @@ same-above-spec =
     (tie.spec
     Inv-loop
     μ-loop
-    mul-few
-    element-copy-out-few
-    few-requires
-    add-other
+    (λ c. omega arith) (λ c. omega arith) (search needs) (λ c. omega arith)
     loop-holds
-    mul-same
-    element-copy-out-same
-    same-requires
-    join-requires
-    add-other-2
-    loop-less
+    (λ c. omega arith) (λ c. omega arith) (search needs) (search needs) (λ c. omega arith) (λ c. omega arith)
     loop-again
     returns)

@@ -30,33 +30,6 @@ loop-holds : tie.Need-loop-holds Inv-loop μ-loop
 unfolding tallyOf turn
 loop-holds c = (omega arith, refl)
 
-mul-held : tie.Need-mul-held Inv-loop μ-loop
-mul-held c = omega arith
-
-element-copy-out-held : tie.Need-element-copy-out-held Inv-loop μ-loop
-element-copy-out-held c = omega arith
-
-meet-requires : tie.Need-meet-requires Inv-loop μ-loop
-meet-requires c κs = search needs
-
-join-requires : tie.Need-join-requires Inv-loop μ-loop
-join-requires c κs = search needs
-
-meet-requires-2 : tie.Need-meet-requires-2 Inv-loop μ-loop
-meet-requires-2 c κs = search needs
-
-join-requires-2 : tie.Need-join-requires-2 Inv-loop μ-loop
-join-requires-2 c κs = omega arith
-
-join-requires-3 : tie.Need-join-requires-3 Inv-loop μ-loop
-join-requires-3 c κs = omega arith
-
-add-line : tie.Need-add-line Inv-loop μ-loop
-add-line c = omega arith
-
-loop-less : tie.Need-loop-less Inv-loop μ-loop
-loop-less c = omega arith
-
 loop-again : tie.Need-loop-again Inv-loop μ-loop
 unfolding turn
 loop-again c =
@@ -82,14 +55,7 @@ tally-of-spec =
     Inv-loop
     μ-loop
     loop-holds
-    mul-held
-    element-copy-out-held
-    meet-requires
-    join-requires
-    meet-requires-2
-    join-requires-2
-    join-requires-3
-    add-line
-    loop-less
+    (λ c. omega arith) (λ c. omega arith) (search needs) (search needs) (search needs) (λ c. omega arith)
+    (λ c. omega arith) (λ c. omega arith) (λ c. omega arith)
     loop-again
     returns)

@@ -8,54 +8,6 @@ use Rattle.pair_cross.specs.code.Lively.{twins}
 use Rattle.pair_cross.proofs.lively.two_same.Statement.{statement}
 use Rattle.pair_cross.proofs.lively.two_same.Tie as tie
 
-same-above-requires : tie.Need-same-above-requires
-same-above-requires c κs = omega arith
-
-join-requires : tie.Need-join-requires
-join-requires c κs = search needs
-
-same-above-requires-2 : tie.Need-same-above-requires-2
-same-above-requires-2 c κs = omega arith
-
-join-requires-2 : tie.Need-join-requires-2
-join-requires-2 c κs = search needs
-
-same-above-requires-3 : tie.Need-same-above-requires-3
-same-above-requires-3 c κs = omega arith
-
-join-requires-3 : tie.Need-join-requires-3
-join-requires-3 c κs = search needs
-
-same-above-requires-4 : tie.Need-same-above-requires-4
-same-above-requires-4 c κs = omega arith
-
-join-requires-4 : tie.Need-join-requires-4
-join-requires-4 c κs = search needs
-
-same-above-requires-5 : tie.Need-same-above-requires-5
-same-above-requires-5 c κs = omega arith
-
-join-requires-5 : tie.Need-join-requires-5
-join-requires-5 c κs = search needs
-
-same-above-requires-6 : tie.Need-same-above-requires-6
-same-above-requires-6 c κs = omega arith
-
-join-requires-6 : tie.Need-join-requires-6
-join-requires-6 c κs = search needs
-
-same-above-requires-7 : tie.Need-same-above-requires-7
-same-above-requires-7 c κs = omega arith
-
-join-requires-7 : tie.Need-join-requires-7
-join-requires-7 c κs = search needs
-
-same-above-requires-8 : tie.Need-same-above-requires-8
-same-above-requires-8 c κs = omega arith
-
-join-requires-8 : tie.Need-join-requires-8
-join-requires-8 c κs = search needs
-
 returns : tie.Need-returns
 unfolding twins each
 returns c =
@@ -80,20 +32,7 @@ pub two-same-spec : {M : Type 1} → statement M
 two-same-spec =
     tie.close
     (tie.spec
-    same-above-requires
-    join-requires
-    same-above-requires-2
-    join-requires-2
-    same-above-requires-3
-    join-requires-3
-    same-above-requires-4
-    join-requires-4
-    same-above-requires-5
-    join-requires-5
-    same-above-requires-6
-    join-requires-6
-    same-above-requires-7
-    join-requires-7
-    same-above-requires-8
-    join-requires-8
+    (λ c. omega arith) (search needs) (λ c. omega arith) (search needs) (λ c. omega arith) (search needs)
+    (λ c. omega arith) (search needs) (λ c. omega arith) (search needs) (λ c. omega arith) (search needs)
+    (λ c. omega arith) (search needs) (λ c. omega arith) (search needs)
     returns)

@@ -34,30 +34,6 @@ loop-holds : tie.Need-loop-holds Inv-loop μ-loop
 unfolding familyInstances
 loop-holds c = (going-start (pair-parted (c .before .args .givens .now) (c .before .args .family) (c .before .pre .0)) (c .before .args .masks .now), refl)
 
-mul-if1 : tie.Need-mul-if1 Inv-loop μ-loop
-mul-if1 c = omega arith
-
-element-copy-out-if1 : tie.Need-element-copy-out-if1 Inv-loop μ-loop
-element-copy-out-if1 c = omega arith
-
-mul-lane : tie.Need-mul-lane Inv-loop μ-loop
-mul-lane c = omega arith
-
-add-lane : tie.Need-add-lane Inv-loop μ-loop
-add-lane c = omega arith
-
-mul-t15 : tie.Need-mul-t15 Inv-loop μ-loop
-mul-t15 c = omega arith
-
-add-t20 : tie.Need-add-t20 Inv-loop μ-loop
-add-t20 c = omega arith
-
-lane-masks-requires : tie.Need-lane-masks-requires Inv-loop μ-loop
-lane-masks-requires c κs = omega arith
-
-lane-masks-requires-2 : tie.Need-lane-masks-requires-2 Inv-loop μ-loop
-lane-masks-requires-2 c κs = omega arith
-
 two-frame-requires : tie.Need-two-frame-requires Inv-loop μ-loop
 two-frame-requires c κs =
     let loop = c .before .before .before .before .before .before .before .before in
@@ -65,12 +41,6 @@ two-frame-requires c κs =
     let start = loop .before .before in
     let w = pair-lines (start .args .family) (l .nth) (start .pre .0) (omega arith) (start .pre .1) (l .masks) (l .inv .0 .same (l .nth) (omega arith) (omega arith)) (c .before .before .lane-masks .ensures) (c .lane-masks2 .ensures) in
     (omega arith, w .0, w .1)
-
-add-nth : tie.Need-add-nth Inv-loop μ-loop
-add-nth c = omega arith
-
-loop-less : tie.Need-loop-less Inv-loop μ-loop
-loop-less c = omega arith
 
 loop-again : tie.Need-loop-again Inv-loop μ-loop
 loop-again c =
@@ -111,17 +81,10 @@ pair-due-spec =
     Inv-loop
     μ-loop
     loop-holds
-    mul-if1
-    element-copy-out-if1
-    mul-lane
-    add-lane
-    mul-t15
-    add-t20
-    lane-masks-requires
-    lane-masks-requires-2
+    (λ c. omega arith) (λ c. omega arith) (λ c. omega arith) (λ c. omega arith) (λ c. omega arith) (λ c. omega arith)
+    (λ c. omega arith) (λ c. omega arith)
     two-frame-requires
-    add-nth
-    loop-less
+    (λ c. omega arith) (λ c. omega arith)
     loop-again
     same-length
     returns)

@@ -10,21 +10,6 @@ use Rattle.pair_cross.proofs.PairLanes.{pair-skipped, pair-parted}
 use Rattle.pair_cross.proofs.pairs.pair_family.Statement.{statement}
 use Rattle.pair_cross.proofs.pairs.pair_family.Tie as tie
 
-mul-loose : tie.Need-mul-loose
-mul-loose c = omega arith
-
-loose-requires : tie.Need-loose-requires
-loose-requires c κs = omega arith
-
-mul-lively-lanes : tie.Need-mul-lively-lanes
-mul-lively-lanes c = omega arith
-
-lively-lanes-requires : tie.Need-lively-lanes-requires
-lively-lanes-requires c κs = omega arith
-
-join-sets-requires : tie.Need-join-sets-requires
-join-sets-requires c κs = search needs
-
 -- what the sets say
 skips : (c : tie.After-lively-lanes)
     → PairSkips (c .before .before .before .before .before .before .args .givens .now) (c .before .before .before .before .before .before .args .masks .now) (c .before .before .before .before .before .before .args .family) (c .lively-lanes .result)
@@ -54,9 +39,6 @@ lay-requires c κs =
     let start = lively .before .before .before .before .before .before in
     record { of = start .args .masks .now; is = start .pre .1 .masks }
 
-same-length : tie.Need-same-length
-same-length c = search needs
-
 returns-2 : tie.Need-returns-2
 returns-2 c = let due = c .before .before .before .before .before .pair-due .ensures in (due .0, (c .lay .ensures, due .1))
 
@@ -64,13 +46,9 @@ pub pair-family-spec : {M : Type 1} → statement M
 pair-family-spec =
     tie.close
     (tie.spec
-    mul-loose
-    loose-requires
-    mul-lively-lanes
-    lively-lanes-requires
-    join-sets-requires
+    (λ c. omega arith) (λ c. omega arith) (λ c. omega arith) (λ c. omega arith) (search needs)
     returns
     pair-due-requires
     lay-requires
-    same-length
+    (search needs)
     returns-2)

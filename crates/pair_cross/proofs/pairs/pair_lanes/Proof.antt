@@ -35,12 +35,6 @@ loop-holds c =
 pair-family-requires : tie.Need-pair-family-requires Inv-loop μ-loop
 pair-family-requires c κs = (omega arith, record { doors = c .before .before .before .before .before .before .pre .doors; masks = c .before .before .before .before .loop .inv .2 })
 
-add-family : tie.Need-add-family Inv-loop μ-loop
-add-family c = omega arith
-
-loop-less : tie.Need-loop-less Inv-loop μ-loop
-loop-less c = omega arith
-
 loop-again : tie.Need-loop-again Inv-loop μ-loop
 loop-again c =
     let loop = c .before .before .before .before .before .before .before in
@@ -63,4 +57,14 @@ returns c =
     (turns-over (pairFamily g) 3 (l .family) (c .loop-test .left) (l .inv .1), (l .inv .2, log-over g familyInstances 3 (l .family) (l .masks) (l .log) (c .loop-test .left) (l .inv .3)))
 
 pub pair-lanes-spec : {M : Type 1} → statement M
-pair-lanes-spec = tie.close (tie.spec Inv-loop μ-loop loop-holds pair-family-requires add-family loop-less loop-again same-length returns)
+pair-lanes-spec =
+    tie.close
+    (tie.spec
+    Inv-loop
+    μ-loop
+    loop-holds
+    pair-family-requires
+    (λ c. omega arith) (λ c. omega arith)
+    loop-again
+    same-length
+    returns)

@@ -7,14 +7,9 @@ use Rattle.pair_cross.specs.declared.lively.Tally.{Tally}
 use Rattle.pair_cross.proofs.search.heat_of.Statement.{statement}
 use Rattle.pair_cross.proofs.search.heat_of.Tie as tie
 
-tally-of-requires : tie.Need-tally-of-requires
-tally-of-requires c κs = search needs
-
-any-hot-requires : tie.Need-any-hot-requires
-any-hot-requires c κs = search needs
-
 returns : tie.Need-returns
 returns c = c .any-hot .ensures ∙ ap (λ (t : Tally). anyHot (at (c .before .before .args .held .now)) (t .twice)) (c .before .tally-of .ensures)
 
 pub heat-of-spec : {M : Type 1} → statement M
-heat-of-spec = tie.close (tie.spec tally-of-requires any-hot-requires returns)
+heat-of-spec =
+    tie.close (tie.spec (search needs) (search needs) returns)

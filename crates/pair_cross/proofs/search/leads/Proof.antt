@@ -10,12 +10,6 @@ use Rattle.pair_cross.specs.code.Lively.{small, lone}
 use Rattle.pair_cross.proofs.search.leads.Statement.{statement}
 use Rattle.pair_cross.proofs.search.leads.Tie as tie
 
-lose-lowest-requires : tie.Need-lose-lowest-requires
-lose-lowest-requires c κs = search needs
-
-lose-lowest-requires-2 : tie.Need-lose-lowest-requires-2
-lose-lowest-requires-2 c κs = search needs
-
 -- at most two places
 test : (c : tie.After-lose-lowest2) → eqb (c .lose-lowest2 .result) 0 ≡ small (c .before .before .args .held)
 test c = ap (λ (x : ℕ). eqb x 0) (c .lose-lowest2 .ensures ∙ ap tail (c .before .lose-lowest .ensures))
@@ -40,4 +34,5 @@ returns-3 c =
     sym (ap (λ (s : Bool). s && (not (eqb (a .heat) 0) || not (lone (a .held)))) (sym (test few) ∙ ne-eqb (few .lose-lowest2 .result) 0 (c .if1 .left)))
 
 pub leads-spec : {M : Type 1} → statement M
-leads-spec = tie.close (tie.spec lose-lowest-requires lose-lowest-requires-2 returns returns-2 returns-3)
+leads-spec =
+    tie.close (tie.spec (search needs) (search needs) returns returns-2 returns-3)

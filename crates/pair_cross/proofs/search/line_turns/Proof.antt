@@ -24,37 +24,13 @@ Inv-loop givens masks₀ log₀ frame doors held₀ start i heat₀ j₀ masks l
 abbrev μ-loop : tie.MeasureT-loop
 μ-loop givens masks₀ log₀ frame doors held₀ start i heat₀ j₀ masks log held heat j = 9 - j
 
-add-j : tie.Need-add-j Inv-loop μ-loop
-add-j c = omega arith
-
 loop-holds : tie.Need-loop-holds Inv-loop μ-loop
 loop-holds c = (omega arith, refl, c .before .pre .0, omega arith, refl)
-
-mul-asks : tie.Need-mul-asks Inv-loop μ-loop
-mul-asks c = omega arith
-
-element-copy-out-asks : tie.Need-element-copy-out-asks Inv-loop μ-loop
-element-copy-out-asks c = omega arith
-
-mul-asks-2 : tie.Need-mul-asks-2 Inv-loop μ-loop
-mul-asks-2 c = omega arith
-
-element-copy-out-asks-2 : tie.Need-element-copy-out-asks-2 Inv-loop μ-loop
-element-copy-out-asks-2 c = omega arith
-
-asks-requires : tie.Need-asks-requires Inv-loop μ-loop
-asks-requires c κs = search needs
 
 two-turn-requires : tie.Need-two-turn-requires Inv-loop μ-loop
 two-turn-requires c κs =
     let l = c .before .before .before .before .before .before .before .before .loop in
     (l .inv .2, l .inv .3, omega arith)
-
-add-j-2 : tie.Need-add-j-2 Inv-loop μ-loop
-add-j-2 c = omega arith
-
-loop-less : tie.Need-loop-less Inv-loop μ-loop
-loop-less c = omega arith
 
 loop-again : tie.Need-loop-again Inv-loop μ-loop
 loop-again c =
@@ -100,16 +76,11 @@ line-turns-spec =
     (tie.spec
     Inv-loop
     μ-loop
-    add-j
+    (λ c. omega arith)
     loop-holds
-    mul-asks
-    element-copy-out-asks
-    mul-asks-2
-    element-copy-out-asks-2
-    asks-requires
+    (λ c. omega arith) (λ c. omega arith) (λ c. omega arith) (λ c. omega arith) (search needs)
     two-turn-requires
-    add-j-2
-    loop-less
+    (λ c. omega arith) (λ c. omega arith)
     loop-again
     same-length
     returns)

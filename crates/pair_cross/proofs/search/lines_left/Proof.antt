@@ -22,36 +22,6 @@ loop-holds : tie.Need-loop-holds Inv-loop μ-loop
 unfolding linesLeft
 loop-holds c = fill-start _ 9 (replicate 9 0) refl
 
-mul-lose : tie.Need-mul-lose Inv-loop μ-loop
-mul-lose c = omega arith
-
-element-copy-out-lose : tie.Need-element-copy-out-lose Inv-loop μ-loop
-element-copy-out-lose c = omega arith
-
-mul-meet : tie.Need-mul-meet Inv-loop μ-loop
-mul-meet c = omega arith
-
-element-copy-out-meet : tie.Need-element-copy-out-meet Inv-loop μ-loop
-element-copy-out-meet c = omega arith
-
-meet-requires : tie.Need-meet-requires Inv-loop μ-loop
-meet-requires c κs = search needs
-
-lose-requires : tie.Need-lose-requires Inv-loop μ-loop
-lose-requires c κs = search needs
-
-mul-left : tie.Need-mul-left Inv-loop μ-loop
-mul-left c = omega arith
-
-array-write-left : tie.Need-array-write-left Inv-loop μ-loop
-array-write-left c = omega arith
-
-add-line : tie.Need-add-line Inv-loop μ-loop
-add-line c = omega arith
-
-loop-less : tie.Need-loop-less Inv-loop μ-loop
-loop-less c = omega arith
-
 loop-again : tie.Need-loop-again Inv-loop μ-loop
 loop-again c =
     let l = c .before .before .before .before .before .loop in
@@ -68,15 +38,7 @@ lines-left-spec =
     Inv-loop
     μ-loop
     loop-holds
-    mul-lose
-    element-copy-out-lose
-    mul-meet
-    element-copy-out-meet
-    meet-requires
-    lose-requires
-    mul-left
-    array-write-left
-    add-line
-    loop-less
+    (λ c. omega arith) (λ c. omega arith) (λ c. omega arith) (λ c. omega arith) (search needs) (search needs)
+    (λ c. omega arith) (λ c. omega arith) (λ c. omega arith) (λ c. omega arith)
     loop-again
     returns)

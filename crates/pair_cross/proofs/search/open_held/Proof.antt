@@ -26,30 +26,6 @@ loop-holds : tie.Need-loop-holds Inv-loop μ-loop
 unfolding openHeld turn
 loop-holds c = (omega arith, refl)
 
-mul-meet : tie.Need-mul-meet Inv-loop μ-loop
-mul-meet c = omega arith
-
-element-copy-out-meet : tie.Need-element-copy-out-meet Inv-loop μ-loop
-element-copy-out-meet c = omega arith
-
-mul-meet-2 : tie.Need-mul-meet-2 Inv-loop μ-loop
-mul-meet-2 c = omega arith
-
-element-copy-out-meet-2 : tie.Need-element-copy-out-meet-2 Inv-loop μ-loop
-element-copy-out-meet-2 c = omega arith
-
-meet-requires : tie.Need-meet-requires Inv-loop μ-loop
-meet-requires c κs = search needs
-
-join-requires : tie.Need-join-requires Inv-loop μ-loop
-join-requires c κs = search needs
-
-add-line : tie.Need-add-line Inv-loop μ-loop
-add-line c = omega arith
-
-loop-less : tie.Need-loop-less Inv-loop μ-loop
-loop-less c = omega arith
-
 loop-again : tie.Need-loop-again Inv-loop μ-loop
 unfolding turn
 loop-again c =
@@ -69,13 +45,7 @@ open-held-spec =
     Inv-loop
     μ-loop
     loop-holds
-    mul-meet
-    element-copy-out-meet
-    mul-meet-2
-    element-copy-out-meet-2
-    meet-requires
-    join-requires
-    add-line
-    loop-less
+    (λ c. omega arith) (λ c. omega arith) (λ c. omega arith) (λ c. omega arith) (search needs) (search needs)
+    (λ c. omega arith) (λ c. omega arith)
     loop-again
     returns)

@@ -31,9 +31,6 @@ Inv-loop givens masks₀ log₀ frame doors held₀ heat₀ i₀ masks log held 
 abbrev μ-loop : tie.MeasureT-loop
 μ-loop givens masks₀ log₀ frame doors held₀ heat₀ i₀ masks log held heat i = 9 - i
 
-heat-of-requires : tie.Need-heat-of-requires Inv-loop μ-loop
-heat-of-requires c κs = search needs
-
 loop-holds : tie.Need-loop-holds Inv-loop μ-loop
 unfolding turn frameInstances
 loop-holds c =
@@ -41,23 +38,8 @@ loop-holds c =
     let a = start .args in
     (omega arith, sym (frame-lines (a .givens .now) (a .frame) (a .masks .now)), record { framed = start .pre .0; doors = start .pre .1; held = start .pre .2; heat = c .heat-of .ensures }, refl)
 
-mul-leads : tie.Need-mul-leads Inv-loop μ-loop
-mul-leads c = omega arith
-
-array-read-leads : tie.Need-array-read-leads Inv-loop μ-loop
-array-read-leads c = omega arith
-
-leads-requires : tie.Need-leads-requires Inv-loop μ-loop
-leads-requires c κs = search needs
-
 line-turns-requires : tie.Need-line-turns-requires Inv-loop μ-loop
 line-turns-requires c κs = (c .before .before .before .before .before .before .loop .inv .2, omega arith)
-
-add-i : tie.Need-add-i Inv-loop μ-loop
-add-i c = omega arith
-
-loop-less : tie.Need-loop-less Inv-loop μ-loop
-loop-less c = omega arith
 
 loop-again : tie.Need-loop-again Inv-loop μ-loop
 unfolding turn
@@ -99,14 +81,11 @@ two-frame-spec =
     (tie.spec
     Inv-loop
     μ-loop
-    heat-of-requires
+    (search needs)
     loop-holds
-    mul-leads
-    array-read-leads
-    leads-requires
+    (λ c. omega arith) (λ c. omega arith) (search needs)
     line-turns-requires
-    add-i
-    loop-less
+    (λ c. omega arith) (λ c. omega arith)
     loop-again
     same-length
     returns)

@@ -18,24 +18,6 @@ use Rattle.pair_cross.proofs.LinesLeft.{open-seen, turned-seen, held-se
 use Rattle.pair_cross.proofs.search.two_turn.Statement.{statement}
 use Rattle.pair_cross.proofs.search.two_turn.Tie as tie
 
-mul-join : tie.Need-mul-join
-mul-join c = omega arith
-
-element-copy-out-join : tie.Need-element-copy-out-join
-element-copy-out-join c = omega arith
-
-mul-join-2 : tie.Need-mul-join-2
-mul-join-2 c = omega arith
-
-element-copy-out-join-2 : tie.Need-element-copy-out-join-2
-element-copy-out-join-2 c = omega arith
-
-join-requires : tie.Need-join-requires
-join-requires c κs = search needs
-
-reach-requires : tie.Need-reach-requires
-reach-requires c κs = search needs
-
 -- what the two can take
 lost-is : (c : tie.After-reach) → c .reach .result ≡ reachOf (union (at (c .before .before .before .before .before .args .held .now) (c .before .before .before .before .before .args .i)) (at (c .before .before .before .before .before .args .held .now) (c .before .before .before .before .before .args .j)))
 lost-is c = c .reach .ensures ∙ ap reachOf (c .before .join .ensures)
@@ -60,12 +42,6 @@ returns c =
 
 other-doors-requires : tie.Need-other-doors-requires
 other-doors-requires c κs = (omega arith, omega arith)
-
-open-held-requires : tie.Need-open-held-requires
-open-held-requires c κs = search needs
-
-meet-requires : tie.Need-meet-requires
-meet-requires c κs = search needs
 
 -- what the open cells of the others hold of it
 open-is : (c : tie.After-meet)
@@ -95,15 +71,6 @@ two-lines-requires c κs =
       ap (λ (x : ℕ). sameMasks (a .masks .now) (linesTurned (a .givens .now) (a .frame) (a .i) (a .j) x (a .masks .now))) (join .join .ensures)
           ∙ lost-seen w (a .i) (a .j) (start .pre .1) (start .pre .2) (λ e. c .before .before .if2 .left (open-is meet ∙ e)),
     )
-
-lines-left-requires : tie.Need-lines-left-requires
-lines-left-requires c κs = search needs
-
-heat-of-requires : tie.Need-heat-of-requires
-heat-of-requires c κs = search needs
-
-same-length : tie.Need-same-length
-same-length c = search needs
 
 returns-3 : tie.Need-returns-3
 returns-3 c =
@@ -136,19 +103,11 @@ pub two-turn-spec : {M : Type 1} → statement M
 two-turn-spec =
     tie.close
     (tie.spec
-    mul-join
-    element-copy-out-join
-    mul-join-2
-    element-copy-out-join-2
-    join-requires
-    reach-requires
+    (λ c. omega arith) (λ c. omega arith) (λ c. omega arith) (λ c. omega arith) (search needs) (search needs)
     returns
     other-doors-requires
-    open-held-requires
-    meet-requires
+    (search needs) (search needs)
     returns-2
     two-lines-requires
-    lines-left-requires
-    heat-of-requires
-    same-length
+    (search needs) (search needs) (search needs)
     returns-3)

@@ -16,21 +16,6 @@ abbrev μ-loop : tie.MeasureT-loop
 loop-holds : tie.Need-loop-holds Inv-loop μ-loop
 loop-holds c = written-start (c .args .lanes .now) (c .args .first)
 
-add-spot-sets : tie.Need-add-spot-sets Inv-loop μ-loop
-add-spot-sets c = omega arith
-
-spot-sets-requires : tie.Need-spot-sets-requires Inv-loop μ-loop
-spot-sets-requires c κs = omega arith
-
-put-sets-requires : tie.Need-put-sets-requires Inv-loop μ-loop
-put-sets-requires c κs = omega arith
-
-add-line : tie.Need-add-line Inv-loop μ-loop
-add-line c = omega arith
-
-loop-less : tie.Need-loop-less Inv-loop μ-loop
-loop-less c = omega arith
-
 loop-again : tie.Need-loop-again Inv-loop μ-loop
 unfolding ones
 loop-again c =
@@ -51,10 +36,6 @@ digit-lanes-spec =
     Inv-loop
     μ-loop
     loop-holds
-    add-spot-sets
-    spot-sets-requires
-    put-sets-requires
-    add-line
-    loop-less
+    (λ c. omega arith) (λ c. omega arith) (λ c. omega arith) (λ c. omega arith) (λ c. omega arith)
     loop-again
     returns)

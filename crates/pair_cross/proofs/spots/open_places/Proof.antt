@@ -18,24 +18,6 @@ loop-holds : tie.Need-loop-holds Inv-loop μ-loop
 unfolding openPlaces
 loop-holds c = fill-start _ 9 (replicate 9 0) refl
 
-add-spots : tie.Need-add-spots Inv-loop μ-loop
-add-spots c = omega arith
-
-spots-requires : tie.Need-spots-requires Inv-loop μ-loop
-spots-requires c κs = omega arith
-
-mul-nine : tie.Need-mul-nine Inv-loop μ-loop
-mul-nine c = omega arith
-
-array-write-nine : tie.Need-array-write-nine Inv-loop μ-loop
-array-write-nine c = omega arith
-
-add-line : tie.Need-add-line Inv-loop μ-loop
-add-line c = omega arith
-
-loop-less : tie.Need-loop-less Inv-loop μ-loop
-loop-less c = omega arith
-
 loop-again : tie.Need-loop-again Inv-loop μ-loop
 loop-again c =
     let l = c .before .before .loop in
@@ -51,11 +33,6 @@ open-places-spec =
     Inv-loop
     μ-loop
     loop-holds
-    add-spots
-    spots-requires
-    mul-nine
-    array-write-nine
-    add-line
-    loop-less
+    (λ c. omega arith) (λ c. omega arith) (λ c. omega arith) (λ c. omega arith) (λ c. omega arith) (λ c. omega arith)
     loop-again
     returns)

@@ -8,9 +8,6 @@ use Rattle.candidates.proofs.Tests.{cond-true, cond-false}
 use Rattle.pair_cross.proofs.spots.places_if.Statement.{statement}
 use Rattle.pair_cross.proofs.spots.places_if.Tie as tie
 
-meet-requires : tie.Need-meet-requires
-meet-requires c κs = search needs
-
 returns : tie.Need-returns
 returns c =
     let a = c .before .before .args in
@@ -23,8 +20,4 @@ returns-2 c =
 
 pub places-if-spec : {M : Type 1} → statement M
 places-if-spec =
-    tie.close
-    (tie.spec
-    meet-requires
-    returns
-    returns-2)
+    tie.close (tie.spec (search needs) returns returns-2)

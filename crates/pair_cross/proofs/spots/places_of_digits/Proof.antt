@@ -23,27 +23,6 @@ loop-holds : tie.Need-loop-holds Inv-loop μ-loop
 unfolding placesIf
 loop-holds c = fill-start _ 16 (replicate 16 0) refl
 
-mul-places-if : tie.Need-mul-places-if Inv-loop μ-loop
-mul-places-if c = omega arith
-
-array-read-places-if : tie.Need-array-read-places-if Inv-loop μ-loop
-array-read-places-if c = omega arith
-
-places-if-requires : tie.Need-places-if-requires Inv-loop μ-loop
-places-if-requires c κs = search needs
-
-mul-sets : tie.Need-mul-sets Inv-loop μ-loop
-mul-sets c = omega arith
-
-array-write-sets : tie.Need-array-write-sets Inv-loop μ-loop
-array-write-sets c = omega arith
-
-add-digit : tie.Need-add-digit Inv-loop μ-loop
-add-digit c = omega arith
-
-loop-less : tie.Need-loop-less Inv-loop μ-loop
-loop-less c = omega arith
-
 loop-again : tie.Need-loop-again Inv-loop μ-loop
 unfolding ones
 loop-again c =
@@ -60,12 +39,7 @@ places-of-digits-spec =
     Inv-loop
     μ-loop
     loop-holds
-    mul-places-if
-    array-read-places-if
-    places-if-requires
-    mul-sets
-    array-write-sets
-    add-digit
-    loop-less
+    (λ c. omega arith) (λ c. omega arith) (search needs) (λ c. omega arith) (λ c. omega arith) (λ c. omega arith)
+    (λ c. omega arith)
     loop-again
     returns)

@@ -24,30 +24,6 @@ loop-holds : tie.Need-loop-holds Inv-loop μ-loop
 unfolding setsPut turn
 loop-holds c = (omega arith, refl)
 
-mul-set : tie.Need-mul-set Inv-loop μ-loop
-mul-set c = omega arith
-
-element-copy-out-set : tie.Need-element-copy-out-set Inv-loop μ-loop
-element-copy-out-set c = omega arith
-
-mul-digits : tie.Need-mul-digits Inv-loop μ-loop
-mul-digits c = omega arith
-
-add-digits : tie.Need-add-digits Inv-loop μ-loop
-add-digits c = omega arith
-
-mul-digits-2 : tie.Need-mul-digits-2 Inv-loop μ-loop
-mul-digits-2 c = omega arith
-
-element-write-digits : tie.Need-element-write-digits Inv-loop μ-loop
-element-write-digits c = omega arith
-
-add-digit : tie.Need-add-digit Inv-loop μ-loop
-add-digit c = omega arith
-
-loop-less : tie.Need-loop-less Inv-loop μ-loop
-loop-less c = omega arith
-
 loop-again : tie.Need-loop-again Inv-loop μ-loop
 unfolding turn
 loop-again c =
@@ -67,13 +43,7 @@ put-sets-spec =
     Inv-loop
     μ-loop
     loop-holds
-    mul-set
-    element-copy-out-set
-    mul-digits
-    add-digits
-    mul-digits-2
-    element-write-digits
-    add-digit
-    loop-less
+    (λ c. omega arith) (λ c. omega arith) (λ c. omega arith) (λ c. omega arith) (λ c. omega arith) (λ c. omega arith)
+    (λ c. omega arith) (λ c. omega arith)
     loop-again
     returns)

@@ -9,16 +9,10 @@ use Rattle.candidates.proofs.Tests.{cond-true, cond-false}
 use Rattle.pair_cross.proofs.spots.spot.Statement.{statement}
 use Rattle.pair_cross.proofs.spots.spot.Tie as tie
 
-meet-requires : tie.Need-meet-requires
-meet-requires c κs = search needs
-
 returns : tie.Need-returns
 returns c =
     let a = c .before .before .args in
     sym (cond-true (eqb (bitAnd (a .held) (a .one)) 0) 0 (placeMask (a .place)) (eq-eqb (bitAnd (a .held) (a .one)) 0 (sym (c .before .meet .ensures) ∙ c .if1 .taken)))
-
-digit-mask-requires : tie.Need-digit-mask-requires
-digit-mask-requires c κs = search needs
 
 returns-2 : tie.Need-returns-2
 returns-2 c =
@@ -28,9 +22,4 @@ returns-2 c =
 
 pub spot-spec : {M : Type 1} → statement M
 spot-spec =
-    tie.close
-    (tie.spec
-    meet-requires
-    returns
-    digit-mask-requires
-    returns-2)
+    tie.close (tie.spec (search needs) returns (search needs) returns-2)

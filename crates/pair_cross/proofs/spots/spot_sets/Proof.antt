@@ -19,27 +19,6 @@ loop-holds : tie.Need-loop-holds Inv-loop μ-loop
 unfolding spotSets
 loop-holds c = fill-start _ 16 (replicate 16 0) refl
 
-mul-spots : tie.Need-mul-spots Inv-loop μ-loop
-mul-spots c = omega arith
-
-element-copy-out-spots : tie.Need-element-copy-out-spots Inv-loop μ-loop
-element-copy-out-spots c = omega arith
-
-spots-requires : tie.Need-spots-requires Inv-loop μ-loop
-spots-requires c κs = omega arith
-
-mul-sets : tie.Need-mul-sets Inv-loop μ-loop
-mul-sets c = omega arith
-
-array-write-sets : tie.Need-array-write-sets Inv-loop μ-loop
-array-write-sets c = omega arith
-
-add-digit : tie.Need-add-digit Inv-loop μ-loop
-add-digit c = omega arith
-
-loop-less : tie.Need-loop-less Inv-loop μ-loop
-loop-less c = omega arith
-
 loop-again : tie.Need-loop-again Inv-loop μ-loop
 loop-again c =
     let l = c .before .before .before .loop in
@@ -55,12 +34,7 @@ spot-sets-spec =
     Inv-loop
     μ-loop
     loop-holds
-    mul-spots
-    element-copy-out-spots
-    spots-requires
-    mul-sets
-    array-write-sets
-    add-digit
-    loop-less
+    (λ c. omega arith) (λ c. omega arith) (λ c. omega arith) (λ c. omega arith) (λ c. omega arith) (λ c. omega arith)
+    (λ c. omega arith)
     loop-again
     returns)

@@ -28,30 +28,6 @@ loop-holds : tie.Need-loop-holds Inv-loop μ-loop
 unfolding spotsOf turn
 loop-holds c = (omega arith, refl)
 
-mul-spot : tie.Need-mul-spot Inv-loop μ-loop
-mul-spot c = omega arith
-
-add-spot : tie.Need-add-spot Inv-loop μ-loop
-add-spot c = omega arith
-
-mul-spot-2 : tie.Need-mul-spot-2 Inv-loop μ-loop
-mul-spot-2 c = omega arith
-
-element-copy-out-spot : tie.Need-element-copy-out-spot Inv-loop μ-loop
-element-copy-out-spot c = omega arith
-
-spot-requires : tie.Need-spot-requires Inv-loop μ-loop
-spot-requires c κs = search needs
-
-join-requires : tie.Need-join-requires Inv-loop μ-loop
-join-requires c κs = search needs
-
-add-place : tie.Need-add-place Inv-loop μ-loop
-add-place c = omega arith
-
-loop-less : tie.Need-loop-less Inv-loop μ-loop
-loop-less c = omega arith
-
 loop-again : tie.Need-loop-again Inv-loop μ-loop
 unfolding turn
 loop-again c =
@@ -71,13 +47,7 @@ spots-spec =
     Inv-loop
     μ-loop
     loop-holds
-    mul-spot
-    add-spot
-    mul-spot-2
-    element-copy-out-spot
-    spot-requires
-    join-requires
-    add-place
-    loop-less
+    (λ c. omega arith) (λ c. omega arith) (λ c. omega arith) (λ c. omega arith) (search needs) (search needs)
+    (λ c. omega arith) (λ c. omega arith)
     loop-again
     returns)

@@ -13,47 +13,11 @@ use Rattle.pair_cross.proofs.Frames.{crossed, first-le, pair-lose}
 use Rattle.pair_cross.proofs.twos.lose_two.Statement.{statement}
 use Rattle.pair_cross.proofs.twos.lose_two.Tie as tie
 
-all-but-requires : tie.Need-all-but-requires
-all-but-requires c κs = search needs
-
-enum-known-frame : tie.Need-enum-known-frame
-enum-known-frame c = search needs
-
-digit-mask-requires : tie.Need-digit-mask-requires
-digit-mask-requires c κs = search needs
-
-digit-mask-requires-2 : tie.Need-digit-mask-requires-2
-digit-mask-requires-2 c κs = search needs
-
-join-requires : tie.Need-join-requires
-join-requires c κs = search needs
-
-lose-places-requires : tie.Need-lose-places-requires
-lose-places-requires c κs = search needs
-
-enum-known-frame-2 : tie.Need-enum-known-frame-2
-enum-known-frame-2 c = search needs
-
-digit-mask-requires-3 : tie.Need-digit-mask-requires-3
-digit-mask-requires-3 c κs = search needs
-
 sub-lose-places : tie.Need-sub-lose-places
 sub-lose-places c = first-le _ (subst Framed (c .before .before .before .frame2 .given .1) (c .before .before .before .before .before .before .pre .0) .0)
 
-add-lose-places : tie.Need-add-lose-places
-add-lose-places c = search needs
-
-lose-places-requires-2 : tie.Need-lose-places-requires-2
-lose-places-requires-2 c κs = search needs
-
 sub-lose-places-2 : tie.Need-sub-lose-places-2
 sub-lose-places-2 c = first-le _ (subst Framed (c .before .before .before .before .before .frame2 .given .1) (c .before .before .before .before .before .before .before .before .pre .0) .0)
-
-add-lose-places-2 : tie.Need-add-lose-places-2
-add-lose-places-2 c = search needs
-
-lose-places-requires-3 : tie.Need-lose-places-requires-3
-lose-places-requires-3 c κs = search needs
 
 returns : tie.Need-returns
 returns c =
@@ -92,19 +56,11 @@ pub lose-two-spec : {M : Type 1} → statement M
 lose-two-spec =
     tie.close
     (tie.spec
-    all-but-requires
-    enum-known-frame
-    digit-mask-requires
-    digit-mask-requires-2
-    join-requires
-    lose-places-requires
-    enum-known-frame-2
-    digit-mask-requires-3
+    (search needs) (search needs) (search needs) (search needs) (search needs) (search needs) (search needs)
+    (search needs)
     sub-lose-places
-    add-lose-places
-    lose-places-requires-2
+    (search needs) (search needs)
     sub-lose-places-2
-    add-lose-places-2
-    lose-places-requires-3
+    (search needs) (search needs)
     returns
     returns-2)

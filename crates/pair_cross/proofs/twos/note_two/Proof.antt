@@ -16,21 +16,6 @@ use Rattle.pair_cross.specs.declared.twos.Frame.the-variants.{Lines}
 use Rattle.pair_cross.proofs.twos.note_two.Statement.{statement}
 use Rattle.pair_cross.proofs.twos.note_two.Tie as tie
 
-enum-known-frame : tie.Need-enum-known-frame
-enum-known-frame c = search needs
-
-unit-cell-requires : tie.Need-unit-cell-requires
-unit-cell-requires c κs = search needs
-
-unit-cell-requires-2 : tie.Need-unit-cell-requires-2
-unit-cell-requires-2 c κs = search needs
-
-add-note : tie.Need-add-note
-add-note c = search needs
-
-add-note-2 : tie.Need-add-note-2
-add-note-2 c = search needs
-
 note-requires : tie.Need-note-requires
 note-requires c κs =
     let second = c .before in
@@ -48,9 +33,6 @@ note-requires c κs =
       omega arith,
     )
 
-enum-known-frame-2 : tie.Need-enum-known-frame-2
-enum-known-frame-2 c = search needs
-
 -- the digit of rows or columns
 digit-below : (c : tie.After-known-told2) → c .before .frame2 .given .0 .1 .0 < 9
 digit-below c = subst Framed (c .before .frame2 .given .1) (c .before .before .before .before .pre .0) .1
@@ -58,29 +40,14 @@ digit-below c = subst Framed (c .before .frame2 .given .1) (c .before .before .b
 add-note-3 : tie.Need-add-note-3
 add-note-3 c = omega (arith, digit-below (c .before .before))
 
-add-note-4 : tie.Need-add-note-4
-add-note-4 c = search needs
-
-add-note-5 : tie.Need-add-note-5
-add-note-5 c = search needs
-
 note-requires-2 : tie.Need-note-requires-2
 note-requires-2 c κs = (omega arith, omega (arith, digit-below (c .before .before)), omega arith, omega arith, omega arith, omega arith)
 
 add-note-6 : tie.Need-add-note-6
 add-note-6 c = omega (arith, digit-below (c .before .before))
 
-add-note-7 : tie.Need-add-note-7
-add-note-7 c = search needs
-
-add-note-8 : tie.Need-add-note-8
-add-note-8 c = search needs
-
 note-requires-3 : tie.Need-note-requires-3
 note-requires-3 c κs = (omega arith, omega (arith, digit-below (c .before .before)), omega arith, omega arith, omega arith, omega arith)
-
-same-length : tie.Need-same-length
-same-length c = search needs
 
 returns : tie.Need-returns
 unfolding stepBytes
@@ -101,15 +68,9 @@ module _ (c : tie.After-frame2) where
   lines-step : (x : Instance) → given (Lines (c .frame2 .given .0 .0) (c .frame2 .given .0 .1 .0)) ≡ x → noted (stepBytes x) (c .before .before .before .args .log .now) ≡ noted (stepBytes (given (c .before .before .before .args .frame))) (c .before .before .before .args .log .now)
   lines-step x e = ap (λ (y : Instance). noted (stepBytes y) (c .before .before .before .args .log .now)) (sym (ap given (c .frame2 .given .1) ∙ e))
 
-same-length-2 : tie.Need-same-length-2
-same-length-2 c = search needs
-
 returns-2 : tie.Need-returns-2
 unfolding stepBytes
 returns-2 c = c .before .before .note2 .ensures ∙ lines-step (c .before .before .before .before .before .before) _ (cond-true _ _ _ (eq-eqb _ 0 (c .before .before .before .before .if1 .taken)))
-
-same-length-3 : tie.Need-same-length-3
-same-length-3 c = search needs
 
 returns-3 : tie.Need-returns-3
 unfolding stepBytes
@@ -119,24 +80,18 @@ pub note-two-spec : {M : Type 1} → statement M
 note-two-spec =
     tie.close
     (tie.spec
-    enum-known-frame
-    unit-cell-requires
-    unit-cell-requires-2
-    add-note
-    add-note-2
+    (search needs) (search needs) (search needs) (search needs) (search needs)
     note-requires
-    enum-known-frame-2
+    (search needs)
     add-note-3
-    add-note-4
-    add-note-5
+    (search needs) (search needs)
     note-requires-2
     add-note-6
-    add-note-7
-    add-note-8
+    (search needs) (search needs)
     note-requires-3
-    same-length
+    (search needs)
     returns
-    same-length-2
+    (search needs)
     returns-2
-    same-length-3
+    (search needs)
     returns-3)

@@ -10,12 +10,6 @@ use Rattle.pair_cross.specs.code.Twos.{reachOf}
 use Rattle.pair_cross.proofs.twos.reach.Statement.{statement}
 use Rattle.pair_cross.proofs.twos.reach.Tie as tie
 
-lose-lowest-requires : tie.Need-lose-lowest-requires
-lose-lowest-requires c κs = search needs
-
-is-none-requires : tie.Need-is-none-requires
-is-none-requires c κs = search needs
-
 -- the two tests
 one-left : (c : tie.After-is-none) → c .is-none .result ≡ eqb (count (tail (c .before .before .args .held))) 0
 one-left c = c .is-none .ensures ∙ ap (λ (x : ℕ). eqb (count x) 0) (c .before .lose-lowest .ensures)
@@ -28,12 +22,6 @@ unfolding reachOf
 returns c =
     let k = c .before .before .before .args .held in
     sym (cond-true (eqb (count (tail k)) 0) 511 (cond (eqb (count (tail (tail k))) 0) k 0) (sym (one-left (c .before)) ∙ c .if1 .taken))
-
-lose-lowest-requires-2 : tie.Need-lose-lowest-requires-2
-lose-lowest-requires-2 c κs = search needs
-
-is-none-requires-2 : tie.Need-is-none-requires-2
-is-none-requires-2 c κs = search needs
 
 returns-2 : tie.Need-returns-2
 unfolding reachOf
@@ -51,12 +39,4 @@ returns-3 c =
 
 pub reach-spec : {M : Type 1} → statement M
 reach-spec =
-    tie.close
-    (tie.spec
-    lose-lowest-requires
-    is-none-requires
-    returns
-    lose-lowest-requires-2
-    is-none-requires-2
-    returns-2
-    returns-3)
+    tie.close (tie.spec (search needs) (search needs) returns (search needs) (search needs) returns-2 returns-3)

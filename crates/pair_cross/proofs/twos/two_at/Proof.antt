@@ -20,28 +20,10 @@ use Rattle.pair_cross.proofs.FrameLogs.{turn-taken}
 use Rattle.pair_cross.proofs.twos.two_at.Statement.{statement}
 use Rattle.pair_cross.proofs.twos.two_at.Tie as tie
 
-digit-mask-requires : tie.Need-digit-mask-requires
-digit-mask-requires c κs = search needs
-
-digit-mask-requires-2 : tie.Need-digit-mask-requires-2
-digit-mask-requires-2 c κs = search needs
-
-join-requires : tie.Need-join-requires
-join-requires c κs = search needs
-
-lose-requires : tie.Need-lose-requires
-lose-requires c κs = search needs
-
-is-none-requires : tie.Need-is-none-requires
-is-none-requires c κs = search needs
-
 lose-two-requires : tie.Need-lose-two-requires
 lose-two-requires c κs =
     let start = c .before .before .before .before .before .before .before .before .before in
     (start .pre .0, start .pre .1, start .pre .2, start .pre .3, start .pre .4)
-
-changed-requires : tie.Need-changed-requires
-changed-requires c κs = search needs
 
 note-two-requires : tie.Need-note-two-requires
 note-two-requires c κs =
@@ -86,9 +68,6 @@ module _ (c : tie.After-is-none) where
   fails : c .is-none .result ≡ false → cond the-test lost now ≡ now
   fails t = cond-false the-test lost now (sym (tested c) ∙ t)
 
-same-length : tie.Need-same-length
-same-length c = search needs
-
 returns : tie.Need-returns
 unfolding twoTurn
 returns c =
@@ -124,15 +103,11 @@ pub two-at-spec : {M : Type 1} → statement M
 two-at-spec =
     tie.close
     (tie.spec
-    digit-mask-requires
-    digit-mask-requires-2
-    join-requires
-    lose-requires
-    is-none-requires
+    (search needs) (search needs) (search needs) (search needs) (search needs)
     lose-two-requires
-    changed-requires
+    (search needs)
     note-two-requires
-    same-length
+    (search needs)
     returns
     returns-2
     returns-3)

@@ -41,18 +41,6 @@ loop-holds : tie.Need-loop-holds Inv-loop μ-loop
 unfolding linesTurned linesInstances turn
 loop-holds c = (omega arith, refl, c .before .before .before .pre .3, refl)
 
-is-two-requires : tie.Need-is-two-requires Inv-loop μ-loop
-is-two-requires c κs = search needs
-
-lowest-digit-requires : tie.Need-lowest-digit-requires Inv-loop μ-loop
-lowest-digit-requires c κs = search needs
-
-lose-lowest-requires : tie.Need-lose-lowest-requires Inv-loop μ-loop
-lose-lowest-requires c κs = search needs
-
-lowest-digit-requires-2 : tie.Need-lowest-digit-requires-2 Inv-loop μ-loop
-lowest-digit-requires-2 c κs = search needs
-
 -- the two places that the lines hold
 two : (c : tie.Then1 Inv-loop μ-loop) → count (c .before .before .before .args .held) ≡ 2
 two c = eqb-true (count (c .before .before .before .args .held)) 2 (sym (c .before .is-two .ensures) ∙ c .if1 .taken)
@@ -84,9 +72,6 @@ lose-two-requires c κs = there (c .before)
 note-two-requires : tie.Need-note-two-requires Inv-loop μ-loop
 note-two-requires c κs = there (c .before .before .before)
 
-same-length : tie.Need-same-length Inv-loop μ-loop
-same-length c = search needs
-
 returns : tie.Need-returns Inv-loop μ-loop
 returns c =
     let lose = c .before .before .before .before in
@@ -103,12 +88,6 @@ returns c =
           ∙ sym (two-noted g (a .frame) (p .0) (a .i) (a .j) (p .1) (p .2) m (p .3) (two t) (p .4) (a .log .now)),
     )
 
-entry-requires : tie.Need-entry-requires Inv-loop μ-loop
-entry-requires c κs = omega arith
-
-entry-requires-2 : tie.Need-entry-requires-2 Inv-loop μ-loop
-entry-requires-2 c κs = omega arith
-
 two-at-requires : tie.Need-two-at-requires Inv-loop μ-loop
 unfolding firstOf secondOf
 two-at-requires c κs =
@@ -122,12 +101,6 @@ two-at-requires c κs =
       subst (λ (x : ℕ). x < 9) (sym (c .entry2 .ensures)) (second-below q (omega arith)),
       loop .loop .inv .2,
     )
-
-add-pair : tie.Need-add-pair Inv-loop μ-loop
-add-pair c = omega arith
-
-loop-less : tie.Need-loop-less Inv-loop μ-loop
-loop-less c = omega arith
 
 loop-again : tie.Need-loop-again Inv-loop μ-loop
 unfolding turn firstOf secondOf
@@ -168,20 +141,15 @@ two-lines-spec =
     (tie.spec
     Inv-loop
     μ-loop
-    is-two-requires
-    lowest-digit-requires
-    lose-lowest-requires
-    lowest-digit-requires-2
+    (search needs) (search needs) (search needs) (search needs)
     lose-two-requires
     note-two-requires
-    same-length
+    (search needs)
     returns
     loop-holds
-    entry-requires
-    entry-requires-2
+    (λ c. omega arith) (λ c. omega arith)
     two-at-requires
-    add-pair
-    loop-less
+    (λ c. omega arith) (λ c. omega arith)
     loop-again
     same-length-2
     returns-2)

@@ -27,27 +27,6 @@ loop-holds : tie.Need-loop-holds Inv-loop μ-loop
 unfolding besideOne turn
 loop-holds c = (omega arith, refl)
 
-mul-meet : tie.Need-mul-meet Inv-loop μ-loop
-mul-meet c = omega arith
-
-element-copy-out-meet : tie.Need-element-copy-out-meet Inv-loop μ-loop
-element-copy-out-meet c = omega arith
-
-meet-requires : tie.Need-meet-requires Inv-loop μ-loop
-meet-requires c κs = search needs
-
-lose-lowest-requires : tie.Need-lose-lowest-requires Inv-loop μ-loop
-lose-lowest-requires c κs = search needs
-
-join-requires : tie.Need-join-requires Inv-loop μ-loop
-join-requires c κs = search needs
-
-add-cell : tie.Need-add-cell Inv-loop μ-loop
-add-cell c = omega arith
-
-loop-less : tie.Need-loop-less Inv-loop μ-loop
-loop-less c = omega arith
-
 loop-again : tie.Need-loop-again Inv-loop μ-loop
 unfolding turn
 loop-again c =
@@ -67,12 +46,7 @@ beside-one-spec =
     Inv-loop
     μ-loop
     loop-holds
-    mul-meet
-    element-copy-out-meet
-    meet-requires
-    lose-lowest-requires
-    join-requires
-    add-cell
-    loop-less
+    (λ c. omega arith) (λ c. omega arith) (search needs) (search needs) (search needs) (λ c. omega arith)
+    (λ c. omega arith)
     loop-again
     returns)

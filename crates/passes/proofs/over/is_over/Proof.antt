@@ -35,18 +35,12 @@ returns c =
     let a = c .before .args in
     many (a .left) (besideOne (a .masks .now)) (looseDigits (a .givens .now) (a .masks .now)) (lackedIn (a .lanes .now)) (c .if1 .taken)
 
-beside-one-requires : tie.Need-beside-one-requires
-beside-one-requires c κs = search needs
-
 returns-2 : tie.Need-returns-2
 unfolding isOver
 returns-2 c =
     let b = c .before in
     let a = b .before .before .args in
     several (a .left) (besideOne (a .masks .now)) (looseDigits (a .givens .now) (a .masks .now)) (lackedIn (a .lanes .now)) (omega (arith, b .before .if1 .left)) (λ e. c .if2 .taken (b .beside-one .ensures ∙ e))
-
-loose-digits-requires : tie.Need-loose-digits-requires
-loose-digits-requires c κs = search needs
 
 returns-3 : tie.Need-returns-3
 unfolding isOver
@@ -55,9 +49,6 @@ returns-3 c =
     let b = l .before .before in
     let a = b .before .before .args in
     dead (a .left) (besideOne (a .masks .now)) (looseDigits (a .givens .now) (a .masks .now)) (lackedIn (a .lanes .now)) (omega (arith, b .before .if1 .left)) (sym (b .beside-one .ensures) ∙ l .before .if2 .left) (sym (l .loose-digits .ensures) ∙ c .if3 .taken)
-
-lacked-requires : tie.Need-lacked-requires
-lacked-requires c κs = search needs
 
 returns-4 : tie.Need-returns-4
 unfolding isOver
@@ -70,12 +61,4 @@ returns-4 c =
 
 pub is-over-spec : {M : Type 1} → statement M
 is-over-spec =
-    tie.close
-    (tie.spec
-    returns
-    beside-one-requires
-    returns-2
-    loose-digits-requires
-    returns-3
-    lacked-requires
-    returns-4)
+    tie.close (tie.spec returns (search needs) returns-2 (search needs) returns-3 (search needs) returns-4)

@@ -27,30 +27,6 @@ loop-holds : tie.Need-loop-holds Inv-loop μ-loop
 unfolding lackedIn turn
 loop-holds c = (omega arith, refl)
 
-mul-lane-masks : tie.Need-mul-lane-masks Inv-loop μ-loop
-mul-lane-masks c = omega arith
-
-add-lane-masks : tie.Need-add-lane-masks Inv-loop μ-loop
-add-lane-masks c = omega arith
-
-lane-masks-requires : tie.Need-lane-masks-requires Inv-loop μ-loop
-lane-masks-requires c κs = omega arith
-
-join-all-requires : tie.Need-join-all-requires Inv-loop μ-loop
-join-all-requires c κs = search needs
-
-lose-requires : tie.Need-lose-requires Inv-loop μ-loop
-lose-requires c κs = search needs
-
-join-requires : tie.Need-join-requires Inv-loop μ-loop
-join-requires c κs = search needs
-
-add-unit : tie.Need-add-unit Inv-loop μ-loop
-add-unit c = omega arith
-
-loop-less : tie.Need-loop-less Inv-loop μ-loop
-loop-less c = omega arith
-
 loop-again : tie.Need-loop-again Inv-loop μ-loop
 unfolding turn
 loop-again c =
@@ -71,13 +47,7 @@ lacked-spec =
     Inv-loop
     μ-loop
     loop-holds
-    mul-lane-masks
-    add-lane-masks
-    lane-masks-requires
-    join-all-requires
-    lose-requires
-    join-requires
-    add-unit
-    loop-less
+    (λ c. omega arith) (λ c. omega arith) (λ c. omega arith) (search needs) (search needs) (search needs)
+    (λ c. omega arith) (λ c. omega arith)
     loop-again
     returns)

@@ -25,12 +25,6 @@ element-copy-out-out c = omega (arith, c .before .before .pre .0)
 slice-write-out : tie.Need-slice-write-out Inv-loop μ-loop
 slice-write-out c = omega (arith, c .before .before .loop .inv .0, c .before .before .before .pre .1)
 
-add-at : tie.Need-add-at Inv-loop μ-loop
-add-at c = omega arith
-
-loop-less : tie.Need-loop-less Inv-loop μ-loop
-loop-less c = omega arith
-
 loop-again : tie.Need-loop-again Inv-loop μ-loop
 loop-again c =
     let l = c .before .before in (
@@ -55,8 +49,7 @@ copy-spec =
     loop-holds
     element-copy-out-out
     slice-write-out
-    add-at
-    loop-less
+    (λ c. omega arith) (λ c. omega arith)
     loop-again
     same-length
     returns)

@@ -13,20 +13,11 @@ use native.Mathlib.Omega.{arith}
 use Rattle.record.proofs.forms.copy_out.Statement.{statement}
 use Rattle.record.proofs.forms.copy_out.Tie as tie
 
-cast-t7 : tie.Need-cast-t7
-cast-t7 c = search needs
-
 returns : tie.Need-returns
 returns c =
     let a = c .before .before .args in
     let e = placed TooFewBytes (omega arith) ∙ write-short (a .count) (length (a .out .now)) (c .if1 .taken) in
     (e, ap (λ (w : Answer ℕ). written w (leading (a .count) (a .bytes .now)) (a .out .now)) e)
-
-copy-requires : tie.Need-copy-requires
-copy-requires c κs = search needs
-
-same-length : tie.Need-same-length
-same-length c = search needs
 
 returns-2 : tie.Need-returns-2
 returns-2 c =
@@ -35,4 +26,5 @@ returns-2 c =
     (e, c .before .before .copy .ensures ∙ ap (λ (w : Answer ℕ). written w (leading (a .count) (a .bytes .now)) (a .out .now)) e)
 
 pub copy-out-spec : {M : Type 1} → statement M
-copy-out-spec = tie.close (tie.spec cast-t7 returns copy-requires same-length returns-2)
+copy-out-spec =
+    tie.close (tie.spec (search needs) returns (search needs) (search needs) returns-2)

@@ -11,12 +11,6 @@ use Rattle.record.specs.Sections.{stored}
 use Rattle.record.proofs.forms.put_entered.Statement.{statement}
 use Rattle.record.proofs.forms.put_entered.Tie as tie
 
-enum-told : tie.Need-enum-told
-enum-told c = search needs
-
-enum-told-2 : tie.Need-enum-told-2
-enum-told-2 c = search needs
-
 put-section-requires : tie.Need-put-section-requires
 put-section-requires c κs =
     let t = c .before in
@@ -42,5 +36,4 @@ returns-2 c =
 
 pub put-entered-spec : {M : Type 1} → statement M
 put-entered-spec =
-    tie.close
-    (tie.spec enum-told enum-told-2 put-section-requires returns returns-2)
+    tie.close (tie.spec (search needs) (search needs) put-section-requires returns returns-2)

@@ -16,27 +16,6 @@ use native.Mathlib.Omega.{arith}
 use Rattle.record.proofs.forms.put_record.Statement.{statement}
 use Rattle.record.proofs.forms.put_record.Tie as tie
 
-givens-of-requires : tie.Need-givens-of-requires
-givens-of-requires c κs = search needs
-
-fresh-masks-requires : tie.Need-fresh-masks-requires
-fresh-masks-requires c κs = search needs
-
-givens-of-requires-2 : tie.Need-givens-of-requires-2
-givens-of-requires-2 c κs = search needs
-
-digit-sets-requires : tie.Need-digit-sets-requires
-digit-sets-requires c κs = search needs
-
-givens-of-requires-3 : tie.Need-givens-of-requires-3
-givens-of-requires-3 c κs = search needs
-
-digit-sets-requires-2 : tie.Need-digit-sets-requires-2
-digit-sets-requires-2 c κs = search needs
-
-lacking-sets-requires : tie.Need-lacking-sets-requires
-lacking-sets-requires c κs = search needs
-
 -- the sections of clues and of entries are short
 printed-length : (c : tie.After-lacking-sets) → length (sectionBytes Digits (c .before .before .before .before .before .digit-sets .result)) ≤ 163
 printed-length c =
@@ -103,13 +82,7 @@ pub put-record-spec : {M : Type 1} → statement M
 put-record-spec =
     tie.close
     (tie.spec
-    givens-of-requires
-    fresh-masks-requires
-    givens-of-requires-2
-    digit-sets-requires
-    givens-of-requires-3
-    digit-sets-requires-2
-    lacking-sets-requires
+    (search needs) (search needs) (search needs) (search needs) (search needs) (search needs) (search needs)
     put-section-requires
     put-entered-requires
     put-section-requires-2

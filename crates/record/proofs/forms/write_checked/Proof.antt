@@ -15,27 +15,12 @@ use native.Mathlib.Omega.{arith}
 use Rattle.record.proofs.forms.write_checked.Statement.{statement}
 use Rattle.record.proofs.forms.write_checked.Tie as tie
 
-enum-known-check : tie.Need-enum-known-check
-enum-known-check c = search needs
-
-enum-told : tie.Need-enum-told
-enum-told c = search needs
-
-put-record-requires : tie.Need-put-record-requires
-put-record-requires c κs = search needs
-
-copy-out-requires : tie.Need-copy-out-requires
-copy-out-requires c κs = search needs
-
 returns : tie.Need-returns
 returns c =
     let a = c .before .before .before .before .before .before .before .args in
     let b = boardOf (a .board) in
     let e = ap (λ (k : Check). then (checkAnswer k) (λ _. writeIn (length (bytesIn (a .form) b)) (length (a .out .now)))) (sym (c .before .check .given .1)) in
     (e, ap (λ (w : Answer ℕ). written w (bytesIn (a .form) b) (a .out .now)) e)
-
-same-length : tie.Need-same-length
-same-length c = search needs
 
 returns-2 : tie.Need-returns-2
 returns-2 c =
@@ -56,12 +41,4 @@ returns-2 c =
 
 pub write-checked-spec : {M : Type 1} → statement M
 write-checked-spec =
-    tie.close
-    (tie.spec
-    enum-known-check
-    enum-told
-    put-record-requires
-    copy-out-requires
-    returns
-    same-length
-    returns-2)
+    tie.close (tie.spec (search needs) (search needs) (search needs) (search needs) returns (search needs) returns-2)

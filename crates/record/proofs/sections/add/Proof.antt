@@ -10,24 +10,6 @@ use borrow.Author.Needs.{needs}
 use Rattle.record.proofs.sections.add.Statement.{statement}
 use Rattle.record.proofs.sections.add.Tie as tie
 
-mul-join : tie.Need-mul-join
-mul-join c = search needs
-
-element-copy-out-join : tie.Need-element-copy-out-join
-element-copy-out-join c = search needs
-
-digit-mask-requires : tie.Need-digit-mask-requires
-digit-mask-requires c κs = search needs
-
-join-requires : tie.Need-join-requires
-join-requires c κs = search needs
-
-mul-sets : tie.Need-mul-sets
-mul-sets c = search needs
-
-element-write-sets : tie.Need-element-write-sets
-element-write-sets c = search needs
-
 returns : tie.Need-returns
 returns c =
     let a = c .before .before .before .args in
@@ -37,10 +19,5 @@ pub add-spec : {M : Type 1} → statement M
 add-spec =
     tie.close
     (tie.spec
-    mul-join
-    element-copy-out-join
-    digit-mask-requires
-    join-requires
-    mul-sets
-    element-write-sets
+    (search needs) (search needs) (search needs) (search needs) (search needs) (search needs)
     returns)

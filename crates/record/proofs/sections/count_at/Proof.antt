@@ -6,21 +6,6 @@ use native.Mathlib.Omega.{arith}
 use Rattle.record.proofs.sections.count_at.Statement.{statement}
 use Rattle.record.proofs.sections.count_at.Tie as tie
 
-value-at-requires : tie.Need-value-at-requires
-value-at-requires c κs = search needs
-
-enum-told : tie.Need-enum-told
-enum-told c = search needs
-
-enum-told-2 : tie.Need-enum-told-2
-enum-told-2 c = search needs
-
-add-value-at : tie.Need-add-value-at
-add-value-at c = search needs
-
-value-at-requires-2 : tie.Need-value-at-requires-2
-value-at-requires-2 c κs = search needs
-
 mul-result : tie.Need-mul-result
 mul-result c = omega (arith, c .value-at2 .ensures, c .before .before .before .before .shared-slice-known .given (c .before .before .before .before .before .args .at + 1))
 
@@ -44,11 +29,7 @@ pub count-at-spec : {M : Type 1} → statement M
 count-at-spec =
     tie.close
     (tie.spec
-    value-at-requires
-    enum-told
-    enum-told-2
-    add-value-at
-    value-at-requires-2
+    (search needs) (search needs) (search needs) (search needs) (search needs)
     mul-result
     add-result
     returns

@@ -27,39 +27,15 @@ held : (c : tie.Else3) {m : ℕ} → m ≡ maskAt (c .before .before .before .be
     → has (at (c .before .before .before .before .before .before .before .args .free .now) (c .before .before .before .value-at .result)) (c .before .before .value-at2 .result - 1) ≡ has m (c .before .before .value-at2 .result - 1)
 held c e = ap (λ (x : ℕ). has x (c .before .before .value-at2 .result - 1)) (sym (e ∙ cell-mask (c .before .before .before .before .before .before .before .args .free .now) (is-formed c)))
 
-cast-t11 : tie.Need-cast-t11
-cast-t11 c = search needs
-
 returns : tie.Need-returns
 returns c =
     let a = c .before .before .args in
     placed RecordBytes (omega arith) ∙ entry-missing (a .section) (a .free .now) (a .bytes .now) (a .low) (a .at) (omega arith)
 
-sub-if2 : tie.Need-sub-if2
-sub-if2 c = search needs
-
-cast-t15 : tie.Need-cast-t15
-cast-t15 c = search needs
-
 returns-2 : tie.Need-returns-2
 returns-2 c =
     let a = c .before .before .before .args in
     placed RecordBytes (omega arith) ∙ entry-missing (a .section) (a .free .now) (a .bytes .now) (a .low) (a .at) (omega arith)
-
-value-at-requires : tie.Need-value-at-requires
-value-at-requires c κs = search needs
-
-add-value-at : tie.Need-add-value-at
-add-value-at c = search needs
-
-value-at-requires-2 : tie.Need-value-at-requires-2
-value-at-requires-2 c κs = search needs
-
-well-formed-requires : tie.Need-well-formed-requires
-well-formed-requires c κs = search needs
-
-cast-t18 : tie.Need-cast-t18
-cast-t18 c = search needs
 
 returns-3 : tie.Need-returns-3
 returns-3 c =
@@ -72,20 +48,8 @@ returns-3 c =
     ∙ entry-bad (a .section) (a .free .now) (a .bytes .now) (a .low) (a .at) (omega arith) (e .value-at .ensures) (d .value-at2 .ensures)
     (sym (w .well-formed .ensures) ∙ not-true (w .well-formed .result) (c .if3 .taken))
 
-mask-at-requires : tie.Need-mask-at-requires
-mask-at-requires c κs = search needs
-
 sub-has-digit : tie.Need-sub-has-digit
 sub-has-digit c = is-formed (c .before) .some
-
-has-digit-requires : tie.Need-has-digit-requires
-has-digit-requires c κs = search needs
-
-cast-outside-stop : tie.Need-cast-outside-stop
-cast-outside-stop c = search needs
-
-outside-stop-requires : tie.Need-outside-stop-requires
-outside-stop-requires c κs = search needs
 
 returns-4 : tie.Need-returns-4
 returns-4 c =
@@ -122,22 +86,15 @@ pub entry-at-spec : {M : Type 1} → statement M
 entry-at-spec =
     tie.close
     (tie.spec
-    cast-t11
+    (search needs)
     returns
-    sub-if2
-    cast-t15
+    (search needs) (search needs)
     returns-2
-    value-at-requires
-    add-value-at
-    value-at-requires-2
-    well-formed-requires
-    cast-t18
+    (search needs) (search needs) (search needs) (search needs) (search needs)
     returns-3
-    mask-at-requires
+    (search needs)
     sub-has-digit
-    has-digit-requires
-    cast-outside-stop
-    outside-stop-requires
+    (search needs) (search needs) (search needs)
     returns-4
     mul-t8
     sub-t13

@@ -6,21 +6,6 @@ use borrow.Author.Needs.{needs}
 use Rattle.record.proofs.sections.next_low.Statement.{statement}
 use Rattle.record.proofs.sections.next_low.Tie as tie
 
-enum-told : tie.Need-enum-told
-enum-told c = search needs
-
-add-result : tie.Need-add-result
-add-result c = search needs
-
-mul-result : tie.Need-mul-result
-mul-result c = search needs
-
-enum-told-2 : tie.Need-enum-told-2
-enum-told-2 c = search needs
-
-add-result-2 : tie.Need-add-result-2
-add-result-2 c = search needs
-
 returns : tie.Need-returns
 returns c = ap (λ (k : Section). after k (c .before .before .args .candidate)) (sym (c .enum-told .given .1))
 
@@ -29,4 +14,4 @@ returns-2 c = ap (λ (k : Section). after k (c .before .before .args .candidate)
 
 pub next-low-spec : {M : Type 1} → statement M
 next-low-spec =
-    tie.close (tie.spec enum-told add-result mul-result enum-told-2 add-result-2 returns returns-2)
+    tie.close (tie.spec (search needs) (search needs) (search needs) (search needs) (search needs) returns returns-2)

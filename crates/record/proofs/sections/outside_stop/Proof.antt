@@ -8,12 +8,6 @@ use borrow.Author.Needs.{needs}
 use Rattle.record.proofs.sections.outside_stop.Statement.{statement}
 use Rattle.record.proofs.sections.outside_stop.Tie as tie
 
-enum-told : tie.Need-enum-told
-enum-told c = search needs
-
-enum-told-2 : tie.Need-enum-told-2
-enum-told-2 c = search needs
-
 returns : tie.Need-returns
 returns c =
     let a = c .before .before in
@@ -25,4 +19,5 @@ returns-2 c =
     ap NotFresh (toZ-ofZ (a .fits .at)) ∙ ap (λ (k : Section). outside k (a .args .at)) (sym (c .enum-told2 .given .1))
 
 pub outside-stop-spec : {M : Type 1} → statement M
-outside-stop-spec = tie.close (tie.spec enum-told enum-told-2 returns returns-2)
+outside-stop-spec =
+    tie.close (tie.spec (search needs) (search needs) returns returns-2)

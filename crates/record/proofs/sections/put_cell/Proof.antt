@@ -22,9 +22,6 @@ Inv-loop cell set bytes₀ start at₀ left₀ bytes at left =
 abbrev μ-loop : tie.MeasureT-loop
 μ-loop cell set bytes₀ start at₀ left₀ bytes at left = length (cellCandidates cell left)
 
-meet-requires : tie.Need-meet-requires Inv-loop μ-loop
-meet-requires c κs = search needs
-
 loop-holds : tie.Need-loop-holds Inv-loop μ-loop
 loop-holds c =
     let a = c .before .args in
@@ -47,9 +44,6 @@ cast-bytes c = omega (arith, c .before .before .before .pre .0)
 element-write-bytes : tie.Need-element-write-bytes Inv-loop μ-loop
 element-write-bytes c = omega (arith, room c)
 
-lowest-digit-requires : tie.Need-lowest-digit-requires Inv-loop μ-loop
-lowest-digit-requires c κs = search needs
-
 -- the digit that is written
 place : (c : tie.After-lowest-digit Inv-loop μ-loop) → c .lowest-digit .result < 9
 place c =
@@ -67,9 +61,6 @@ add-bytes-2 c = omega (arith, room (c .before))
 
 element-write-bytes-2 : tie.Need-element-write-bytes-2 Inv-loop μ-loop
 element-write-bytes-2 c = omega (arith, room (c .before))
-
-lose-lowest-requires : tie.Need-lose-lowest-requires Inv-loop μ-loop
-lose-lowest-requires c κs = search needs
 
 add-at : tie.Need-add-at Inv-loop μ-loop
 add-at c = omega (arith, room (c .before .before))
@@ -112,16 +103,16 @@ put-cell-spec =
     (tie.spec
     Inv-loop
     μ-loop
-    meet-requires
+    (search needs)
     loop-holds
     cast-bytes
     element-write-bytes
-    lowest-digit-requires
+    (search needs)
     add-bytes
     cast-bytes-2
     add-bytes-2
     element-write-bytes-2
-    lose-lowest-requires
+    (search needs)
     add-at
     loop-less
     loop-again

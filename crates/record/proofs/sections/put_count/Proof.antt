@@ -9,24 +9,12 @@ use native.Mathlib.Omega.{arith}
 use Rattle.record.proofs.sections.put_count.Statement.{statement}
 use Rattle.record.proofs.sections.put_count.Tie as tie
 
-cast-bytes : tie.Need-cast-bytes
-cast-bytes c = search needs
-
 element-write-bytes : tie.Need-element-write-bytes
 element-write-bytes c = omega (arith, c .pre .0, width-some (c .args .section))
-
-enum-told : tie.Need-enum-told
-enum-told c = search needs
-
-enum-told-2 : tie.Need-enum-told-2
-enum-told-2 c = search needs
 
 -- there is room for the second byte
 second : (c : tie.After-enum-told2) → c .before .before .args .start + 2 ≤ 1786
 second c = omega (arith, c .before .before .pre .0, ap width (c .enum-told2 .given .1))
-
-cast-bytes-2 : tie.Need-cast-bytes-2
-cast-bytes-2 c = search needs
 
 add-bytes : tie.Need-add-bytes
 add-bytes c = omega (arith, second c)
@@ -48,11 +36,9 @@ pub put-count-spec : {M : Type 1} → statement M
 put-count-spec =
     tie.close
     (tie.spec
-    cast-bytes
+    (search needs)
     element-write-bytes
-    enum-told
-    enum-told-2
-    cast-bytes-2
+    (search needs) (search needs) (search needs)
     add-bytes
     element-write-bytes-2
     returns

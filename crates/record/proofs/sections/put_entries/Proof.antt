@@ -26,24 +26,12 @@ loop-holds c =
       ap (λ (ks : List ℕ). stored (c .args .bytes .now) (c .args .start) (entryBytes ks)) (rest-start s),
     )
 
-mul-put-cell : tie.Need-mul-put-cell Inv-loop μ-loop
-mul-put-cell c = omega arith
-
-element-copy-out-put-cell : tie.Need-element-copy-out-put-cell Inv-loop μ-loop
-element-copy-out-put-cell c = omega arith
-
 put-cell-requires : tie.Need-put-cell-requires Inv-loop μ-loop
 put-cell-requires c κs =
     let l = c .before .before .before in
     let s = l .before .args .sets .now in
     let k = l .loop .cell in
     (omega arith, omega (arith, l .before .pre, l .loop .inv .1, cell-rest-length s k (omega arith)))
-
-add-cell : tie.Need-add-cell Inv-loop μ-loop
-add-cell c = omega arith
-
-loop-less : tie.Need-loop-less Inv-loop μ-loop
-loop-less c = omega arith
 
 loop-again : tie.Need-loop-again Inv-loop μ-loop
 loop-again c =
@@ -73,10 +61,8 @@ put-entries-spec =
     Inv-loop
     μ-loop
     loop-holds
-    mul-put-cell
-    element-copy-out-put-cell
+    (λ c. omega arith) (λ c. omega arith)
     put-cell-requires
-    add-cell
-    loop-less
+    (λ c. omega arith) (λ c. omega arith)
     loop-again
     returns)

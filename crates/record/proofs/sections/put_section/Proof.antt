@@ -10,9 +10,6 @@ use native.Mathlib.Omega.{arith}
 use Rattle.record.proofs.sections.put_section.Statement.{statement}
 use Rattle.record.proofs.sections.put_section.Tie as tie
 
-count-width-requires : tie.Need-count-width-requires
-count-width-requires c κs = search needs
-
 -- the count and the entries have room
 room : (c : tie.After-count-width) → c .before .args .start + width (c .before .args .section) + 2 * length (candidates (c .before .args .sets .now)) ≤ 1786
 room c = omega (arith, c .before .pre, section-length (c .before .args .section) (c .before .args .sets .now))
@@ -22,9 +19,6 @@ add-first c = omega (arith, c .count-width .ensures, room c)
 
 put-entries-requires : tie.Need-put-entries-requires
 put-entries-requires c κs = omega (arith, c .before .count-width .ensures, room (c .before))
-
-sub-put-count : tie.Need-sub-put-count
-sub-put-count c = search needs
 
 put-count-requires : tie.Need-put-count-requires
 put-count-requires c κs =
@@ -50,11 +44,4 @@ returns c =
 
 pub put-section-spec : {M : Type 1} → statement M
 put-section-spec =
-    tie.close
-    (tie.spec
-    count-width-requires
-    add-first
-    put-entries-requires
-    sub-put-count
-    put-count-requires
-    returns)
+    tie.close (tie.spec (search needs) add-first put-entries-requires (search needs) put-count-requires returns)

@@ -21,15 +21,6 @@ abbrev μ-loop : tie.MeasureT-loop
 loop-holds : tie.Need-loop-holds Inv-loop μ-loop
 loop-holds c = refl
 
-entry-at-requires : tie.Need-entry-at-requires Inv-loop μ-loop
-entry-at-requires c κs = search needs
-
-enum-known-entry : tie.Need-enum-known-entry Inv-loop μ-loop
-enum-known-entry c = search needs
-
-enum-told : tie.Need-enum-told Inv-loop μ-loop
-enum-told c = search needs
-
 returns : tie.Need-returns Inv-loop μ-loop
 returns c =
     let e = c .before .before in
@@ -56,12 +47,6 @@ next-low-requires c κs = named-small _ _ _ _ _ (is-named (c .before .before .be
 add-at : tie.Need-add-at Inv-loop μ-loop
 add-at c = omega (arith, is-named (c .before .before .before .before) .within)
 
-sub-left : tie.Need-sub-left Inv-loop μ-loop
-sub-left c = omega arith
-
-loop-less : tie.Need-loop-less Inv-loop μ-loop
-loop-less c = omega arith
-
 loop-again : tie.Need-loop-again Inv-loop μ-loop
 loop-again c =
     let e = c .before .before .before .before in
@@ -85,14 +70,11 @@ read-entries-spec =
     Inv-loop
     μ-loop
     loop-holds
-    entry-at-requires
-    enum-known-entry
-    enum-told
+    (search needs) (search needs) (search needs)
     returns
     add-requires
     next-low-requires
     add-at
-    sub-left
-    loop-less
+    (λ c. omega arith) (λ c. omega arith)
     loop-again
     returns-2)

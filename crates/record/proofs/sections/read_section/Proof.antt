@@ -11,22 +11,10 @@ use native.Mathlib.Omega.{arith}
 use Rattle.record.proofs.sections.read_section.Statement.{statement}
 use Rattle.record.proofs.sections.read_section.Tie as tie
 
-count-width-requires : tie.Need-count-width-requires
-count-width-requires c κs = search needs
-
-cast-t11 : tie.Need-cast-t11
-cast-t11 c = search needs
-
 returns : tie.Need-returns
 returns c =
     let a = c .before .before .before .args in
     placed RecordBytes (omega arith) ∙ section-missing (a .section) (a .free .now) (a .bytes .now) (a .start) (omega (arith, c .before .count-width .ensures))
-
-sub-if2 : tie.Need-sub-if2
-sub-if2 c = search needs
-
-cast-t15 : tie.Need-cast-t15
-cast-t15 c = search needs
 
 returns-2 : tie.Need-returns-2
 returns-2 c =
@@ -35,12 +23,6 @@ returns-2 c =
 
 count-at-requires : tie.Need-count-at-requires
 count-at-requires c κs = omega (arith, c .before .before .count-width .ensures, width-some (c .before .before .before .before .args .section))
-
-add-read-entries : tie.Need-add-read-entries
-add-read-entries c = search needs
-
-read-entries-requires : tie.Need-read-entries-requires
-read-entries-requires c κs = search needs
 
 returns-3 : tie.Need-returns-3
 returns-3 c =
@@ -57,13 +39,10 @@ pub read-section-spec : {M : Type 1} → statement M
 read-section-spec =
     tie.close
     (tie.spec
-    count-width-requires
-    cast-t11
+    (search needs) (search needs)
     returns
-    sub-if2
-    cast-t15
+    (search needs) (search needs)
     returns-2
     count-at-requires
-    add-read-entries
-    read-entries-requires
+    (search needs) (search needs)
     returns-3)

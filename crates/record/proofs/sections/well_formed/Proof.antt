@@ -19,16 +19,11 @@ returns-3 c =
     let a = c .before .before .before .args in
     digit-above (a .low) (a .cell) (a .digit) (c .before .before .if1 .left) (c .before .if2 .left) (c .if3 .taken)
 
-mul-result : tie.Need-mul-result
-mul-result c = search needs
-
-add-result : tie.Need-add-result
-add-result c = search needs
-
 returns-4 : tie.Need-returns-4
 returns-4 c =
     let a = c .before .before .before .args in
     rising (a .low) (a .cell) (a .digit) (c .before .before .if1 .left) (c .before .if2 .left) (c .if3 .left)
 
 pub well-formed-spec : {M : Type 1} → statement M
-well-formed-spec = tie.close (tie.spec returns returns-2 returns-3 mul-result add-result returns-4)
+well-formed-spec =
+    tie.close (tie.spec returns returns-2 returns-3 (search needs) (search needs) returns-4)

@@ -6,11 +6,9 @@ use native.Mathlib.Omega.{arith}
 use Rattle.record.proofs.sets.clue_of.Statement.{statement}
 use Rattle.record.proofs.sets.clue_of.Tie as tie
 
-cast-result : tie.Need-cast-result
-cast-result c = search needs
-
 returns : tie.Need-returns
 returns c = toZ-pos w32 {n = c .args .digit} (omega arith)
 
 pub clue-of-spec : {M : Type 1} → statement M
-clue-of-spec = tie.close (tie.spec cast-result returns)
+clue-of-spec =
+    tie.close (tie.spec (search needs) returns)

@@ -24,24 +24,6 @@ loop-holds : tie.Need-loop-holds Inv-loop μ-loop
 unfolding cells
 loop-holds c = fill-start _ 81 (replicate 81 (pos 0)) refl
 
-element-copy-out-clue-of : tie.Need-element-copy-out-clue-of Inv-loop μ-loop
-element-copy-out-clue-of c = omega arith
-
-clue-of-requires : tie.Need-clue-of-requires Inv-loop μ-loop
-clue-of-requires c κs = search needs
-
-mul-clues : tie.Need-mul-clues Inv-loop μ-loop
-mul-clues c = omega arith
-
-array-set-from-clues : tie.Need-array-set-from-clues Inv-loop μ-loop
-array-set-from-clues c = omega arith
-
-add-cell : tie.Need-add-cell Inv-loop μ-loop
-add-cell c = omega arith
-
-loop-less : tie.Need-loop-less Inv-loop μ-loop
-loop-less c = omega arith
-
 loop-again : tie.Need-loop-again Inv-loop μ-loop
 loop-again c =
     let l = c .before .before .before in
@@ -57,11 +39,6 @@ clues-from-spec =
     Inv-loop
     μ-loop
     loop-holds
-    element-copy-out-clue-of
-    clue-of-requires
-    mul-clues
-    array-set-from-clues
-    add-cell
-    loop-less
+    (λ c. omega arith) (search needs) (λ c. omega arith) (λ c. omega arith) (λ c. omega arith) (λ c. omega arith)
     loop-again
     returns)

@@ -14,9 +14,6 @@ use Rattle.record.proofs.sets.digit_in.Tie as tie
 returns : tie.Need-returns
 returns c = sym (cond-true (eqb (c .before .args .set) 0) 0 (lowest (c .before .args .set) + 1) (eq-eqb _ _ (c .if1 .taken)))
 
-lowest-digit-requires : tie.Need-lowest-digit-requires
-lowest-digit-requires c κs = search needs
-
 add-result : tie.Need-add-result
 add-result c = omega (arith, c .lowest-digit .ensures, lowest-le (c .before .before .args .set))
 
@@ -29,4 +26,5 @@ returns-2 c =
     ap (λ (n : ℕ). n + 1) (c .lowest-digit .ensures) ∙ sym (cond-false (eqb s 0) 0 (lowest s + 1) (ne-eqb s 0 (c .before .if1 .left)))
 
 pub digit-in-spec : {M : Type 1} → statement M
-digit-in-spec = tie.close (tie.spec returns lowest-digit-requires add-result cast-result returns-2)
+digit-in-spec =
+    tie.close (tie.spec returns (search needs) add-result cast-result returns-2)

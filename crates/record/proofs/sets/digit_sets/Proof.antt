@@ -21,24 +21,6 @@ loop-holds : tie.Need-loop-holds Inv-loop μ-loop
 unfolding digitSets cells
 loop-holds c = fill-start _ 81 (replicate 81 0) refl
 
-element-copy-out-given-mask : tie.Need-element-copy-out-given-mask Inv-loop μ-loop
-element-copy-out-given-mask c = omega arith
-
-given-mask-requires : tie.Need-given-mask-requires Inv-loop μ-loop
-given-mask-requires c κs = search needs
-
-mul-sets : tie.Need-mul-sets Inv-loop μ-loop
-mul-sets c = omega arith
-
-array-write-sets : tie.Need-array-write-sets Inv-loop μ-loop
-array-write-sets c = omega arith
-
-add-cell : tie.Need-add-cell Inv-loop μ-loop
-add-cell c = omega arith
-
-loop-less : tie.Need-loop-less Inv-loop μ-loop
-loop-less c = omega arith
-
 loop-again : tie.Need-loop-again Inv-loop μ-loop
 loop-again c =
     let l = c .before .before .before in
@@ -54,11 +36,6 @@ digit-sets-spec =
     Inv-loop
     μ-loop
     loop-holds
-    element-copy-out-given-mask
-    given-mask-requires
-    mul-sets
-    array-write-sets
-    add-cell
-    loop-less
+    (λ c. omega arith) (search needs) (λ c. omega arith) (λ c. omega arith) (λ c. omega arith) (λ c. omega arith)
     loop-again
     returns)

@@ -21,24 +21,6 @@ loop-holds : tie.Need-loop-holds Inv-loop μ-loop
 unfolding digitsIn cells
 loop-holds c = fill-start _ 81 (replicate 81 0) refl
 
-mul-digit-in : tie.Need-mul-digit-in Inv-loop μ-loop
-mul-digit-in c = omega arith
-
-element-copy-out-digit-in : tie.Need-element-copy-out-digit-in Inv-loop μ-loop
-element-copy-out-digit-in c = omega arith
-
-digit-in-requires : tie.Need-digit-in-requires Inv-loop μ-loop
-digit-in-requires c κs = search needs
-
-array-write-digits : tie.Need-array-write-digits Inv-loop μ-loop
-array-write-digits c = omega arith
-
-add-cell : tie.Need-add-cell Inv-loop μ-loop
-add-cell c = omega arith
-
-loop-less : tie.Need-loop-less Inv-loop μ-loop
-loop-less c = omega arith
-
 loop-again : tie.Need-loop-again Inv-loop μ-loop
 loop-again c =
     let l = c .before .before .before in
@@ -54,11 +36,6 @@ digits-in-spec =
     Inv-loop
     μ-loop
     loop-holds
-    mul-digit-in
-    element-copy-out-digit-in
-    digit-in-requires
-    array-write-digits
-    add-cell
-    loop-less
+    (λ c. omega arith) (λ c. omega arith) (search needs) (λ c. omega arith) (λ c. omega arith) (λ c. omega arith)
     loop-again
     returns)

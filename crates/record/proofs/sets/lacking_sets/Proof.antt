@@ -22,33 +22,6 @@ loop-holds : tie.Need-loop-holds Inv-loop μ-loop
 unfolding lacking cells
 loop-holds c = fill-start _ 81 (replicate 81 0) refl
 
-mul-lose : tie.Need-mul-lose Inv-loop μ-loop
-mul-lose c = omega arith
-
-element-copy-out-lose : tie.Need-element-copy-out-lose Inv-loop μ-loop
-element-copy-out-lose c = omega arith
-
-mul-lose-2 : tie.Need-mul-lose-2 Inv-loop μ-loop
-mul-lose-2 c = omega arith
-
-element-copy-out-lose-2 : tie.Need-element-copy-out-lose-2 Inv-loop μ-loop
-element-copy-out-lose-2 c = omega arith
-
-lose-requires : tie.Need-lose-requires Inv-loop μ-loop
-lose-requires c κs = search needs
-
-mul-sets : tie.Need-mul-sets Inv-loop μ-loop
-mul-sets c = omega arith
-
-array-write-sets : tie.Need-array-write-sets Inv-loop μ-loop
-array-write-sets c = omega arith
-
-add-cell : tie.Need-add-cell Inv-loop μ-loop
-add-cell c = omega arith
-
-loop-less : tie.Need-loop-less Inv-loop μ-loop
-loop-less c = omega arith
-
 loop-again : tie.Need-loop-again Inv-loop μ-loop
 loop-again c =
     let l = c .before .before .before .before in
@@ -64,14 +37,7 @@ lacking-sets-spec =
     Inv-loop
     μ-loop
     loop-holds
-    mul-lose
-    element-copy-out-lose
-    mul-lose-2
-    element-copy-out-lose-2
-    lose-requires
-    mul-sets
-    array-write-sets
-    add-cell
-    loop-less
+    (λ c. omega arith) (λ c. omega arith) (λ c. omega arith) (λ c. omega arith) (search needs) (λ c. omega arith)
+    (λ c. omega arith) (λ c. omega arith) (λ c. omega arith)
     loop-again
     returns)

@@ -24,21 +24,6 @@ loop-holds : tie.Need-loop-holds Inv-loop μ-loop
 unfolding openSets cells
 loop-holds c = fill-start _ 81 (replicate 81 0) refl
 
-open-mask-requires : tie.Need-open-mask-requires Inv-loop μ-loop
-open-mask-requires c κs = search needs
-
-mul-sets : tie.Need-mul-sets Inv-loop μ-loop
-mul-sets c = omega arith
-
-array-write-sets : tie.Need-array-write-sets Inv-loop μ-loop
-array-write-sets c = omega arith
-
-add-cell : tie.Need-add-cell Inv-loop μ-loop
-add-cell c = omega arith
-
-loop-less : tie.Need-loop-less Inv-loop μ-loop
-loop-less c = omega arith
-
 loop-again : tie.Need-loop-again Inv-loop μ-loop
 loop-again c =
     let l = c .before .before in
@@ -54,10 +39,6 @@ open-sets-spec =
     Inv-loop
     μ-loop
     loop-holds
-    open-mask-requires
-    mul-sets
-    array-write-sets
-    add-cell
-    loop-less
+    (search needs) (λ c. omega arith) (λ c. omega arith) (λ c. omega arith) (λ c. omega arith)
     loop-again
     returns)

@@ -10,17 +10,11 @@ use Rattle.rounds.specs.declared.answers.Checked.the-variants.{Wrong}
 use Rattle.rounds.proofs.answers.check_answer.Statement.{statement}
 use Rattle.rounds.proofs.answers.check_answer.Tie as tie
 
-is-full-requires : tie.Need-is-full-requires
-is-full-requires c κs = search needs
-
 returns : tie.Need-returns
 returns c =
     let f = c .before in
     let a = f .before .before .before .args in
     sym (cond-false (isFull (a .answer .now)) (judged (firstBroken (a .grid .now) (a .answer .now)) (verified (cluesOf (a .answer .now)))) Wrong (sym (f .is-full .ensures) ∙ not-true _ (c .if1 .taken)))
-
-judge-requires : tie.Need-judge-requires
-judge-requires c κs = search needs
 
 returns-2 : tie.Need-returns-2
 returns-2 c =
@@ -31,4 +25,5 @@ returns-2 c =
     ∙ sym (cond-true (isFull (a .answer .now)) (judged (firstBroken (a .grid .now) (a .answer .now)) (verified (cluesOf (a .answer .now)))) Wrong (sym (f .is-full .ensures) ∙ not-false _ (e .if1 .left)))
 
 pub check-answer-spec : {M : Type 1} → statement M
-check-answer-spec = tie.close (tie.spec is-full-requires returns judge-requires returns-2)
+check-answer-spec =
+    tie.close (tie.spec (search needs) returns (search needs) returns-2)

@@ -17,18 +17,6 @@ use Rattle.rounds.proofs.answers.check_text.Tie as tie
 slice-aggregate-check-answer : tie.Need-slice-aggregate-check-answer
 slice-aggregate-check-answer c = sym (length-take-le 81 (c .before .before .before .args .text .now) (omega arith))
 
-sub-check-answer : tie.Need-sub-check-answer
-sub-check-answer c = search needs
-
-part-check-answer-start : tie.Need-part-check-answer-start
-part-check-answer-start c = search needs
-
-part-check-answer-end : tie.Need-part-check-answer-end
-part-check-answer-end c = search needs
-
-check-answer-requires : tie.Need-check-answer-requires
-check-answer-requires c κs = search needs
-
 returns : tie.Need-returns
 returns c =
     let e = c .before .before .before in
@@ -47,9 +35,6 @@ check-text-spec =
     tie.close
     (tie.spec
     slice-aggregate-check-answer
-    sub-check-answer
-    part-check-answer-start
-    part-check-answer-end
-    check-answer-requires
+    (search needs) (search needs) (search needs) (search needs)
     returns
     returns-2)

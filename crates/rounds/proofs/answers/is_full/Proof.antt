@@ -27,22 +27,10 @@ loop-holds : tie.Need-loop-holds Inv-loop μ-loop
 unfolding isFull cells
 loop-holds c = rw (eq-eqb _ 81 (c .if1 .left))
 
-byte-at-requires : tie.Need-byte-at-requires Inv-loop μ-loop
-byte-at-requires c κs = search needs
-
-is-numeral-requires : tie.Need-is-numeral-requires Inv-loop μ-loop
-is-numeral-requires c κs = search needs
-
 returns-2 : tie.Need-returns-2 Inv-loop μ-loop
 returns-2 c =
     let l = c .before .before .before .before .loop in
     sym (all-stop _ 81 (l .cell) (omega arith) (sym (c .before .is-numeral .ensures ∙ ap isNumeral (c .before .before .byte-at .ensures)) ∙ not-true _ (c .if2 .taken))) ∙ l .inv
-
-add-cell : tie.Need-add-cell Inv-loop μ-loop
-add-cell c = omega arith
-
-loop-less : tie.Need-loop-less Inv-loop μ-loop
-loop-less c = omega arith
 
 loop-again : tie.Need-loop-again Inv-loop μ-loop
 loop-again c =
@@ -62,10 +50,8 @@ is-full-spec =
     μ-loop
     returns
     loop-holds
-    byte-at-requires
-    is-numeral-requires
+    (search needs) (search needs)
     returns-2
-    add-cell
-    loop-less
+    (λ c. omega arith) (λ c. omega arith)
     loop-again
     returns-3)

@@ -26,15 +26,6 @@ loop-holds : tie.Need-loop-holds Inv-loop μ-loop
 unfolding cells
 loop-holds c = refl
 
-byte-at-requires : tie.Need-byte-at-requires Inv-loop μ-loop
-byte-at-requires c κs = search needs
-
-byte-at-requires-2 : tie.Need-byte-at-requires-2 Inv-loop μ-loop
-byte-at-requires-2 c κs = search needs
-
-is-broken-requires : tie.Need-is-broken-requires Inv-loop μ-loop
-is-broken-requires c κs = search needs
-
 returns : tie.Need-returns Inv-loop μ-loop
 returns c =
     let b = c .before in
@@ -43,23 +34,11 @@ returns c =
     ap (λ (o : Option ℕ). judged o (verified (cluesOf (a .answer .now))))
     (found _ 81 (l .loop .cell) (l .loop .inv) (omega arith) (b .is-broken .ensures ∙ ap₂ isBroken (b .before .before .byte-at .ensures) (b .before .byte-at2 .ensures)) (c .if1 .taken))
 
-add-cell : tie.Need-add-cell Inv-loop μ-loop
-add-cell c = omega arith
-
-loop-less : tie.Need-loop-less Inv-loop μ-loop
-loop-less c = omega arith
-
 loop-again : tie.Need-loop-again Inv-loop μ-loop
 loop-again c =
     let b = c .before in
     let l = b .before .before .before .before in
     passed _ 81 (l .loop .cell) (l .loop .inv) (omega arith) (b .is-broken .ensures ∙ ap₂ isBroken (b .before .before .byte-at .ensures) (b .before .byte-at2 .ensures)) (c .if1 .left)
-
-clues-of-requires : tie.Need-clues-of-requires Inv-loop μ-loop
-clues-of-requires c κs = search needs
-
-verify-solution-requires : tie.Need-verify-solution-requires Inv-loop μ-loop
-verify-solution-requires c κs = search needs
 
 -- no clue is broken, and the verifier says yes or no
 says : (c : tie.After-verify-solution Inv-loop μ-loop) {t : Bool} → c .verify-solution .result ≡ t → let a = c .before .before .before .before .before .before .before .args in judged none t ≡ judged (firstBroken (a .grid .now) (a .answer .now)) (verified (cluesOf (a .answer .now)))
@@ -81,14 +60,10 @@ judge-spec =
     Inv-loop
     μ-loop
     loop-holds
-    byte-at-requires
-    byte-at-requires-2
-    is-broken-requires
+    (search needs) (search needs) (search needs)
     returns
-    add-cell
-    loop-less
+    (λ c. omega arith) (λ c. omega arith)
     loop-again
-    clues-of-requires
-    verify-solution-requires
+    (search needs) (search needs)
     returns-2
     returns-3)

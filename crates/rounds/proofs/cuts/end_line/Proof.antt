@@ -18,12 +18,6 @@ use Rattle.rounds.proofs.Short.{done-short}
 use Rattle.rounds.proofs.cuts.end_line.Statement.{statement}
 use Rattle.rounds.proofs.cuts.end_line.Tie as tie
 
-element-write-out : tie.Need-element-write-out
-element-write-out c = search needs
-
-fresh-line-requires : tie.Need-fresh-line-requires
-fresh-line-requires c κs = search needs
-
 returns : tie.Need-returns
 returns c =
     let e = c .before in
@@ -34,18 +28,6 @@ returns c =
       ap length bytes,
       over-push [] (a .out .now) 10 ∙ ap (λ (b : List ℕ). over b (a .out .now)) bytes,
     )
-
-bare-grid-requires : tie.Need-bare-grid-requires
-bare-grid-requires c κs = search needs
-
-least-requires : tie.Need-least-requires
-least-requires c κs = search needs
-
-print-kept-requires : tie.Need-print-kept-requires
-print-kept-requires c κs = search needs
-
-fresh-line-requires-2 : tie.Need-fresh-line-requires-2
-fresh-line-requires-2 c κs = search needs
 
 returns-2 : tie.Need-returns-2
 returns-2 c =
@@ -68,11 +50,7 @@ pub end-line-spec : {M : Type 1} → statement M
 end-line-spec =
     tie.close
     (tie.spec
-    element-write-out
-    fresh-line-requires
+    (search needs) (search needs)
     returns
-    bare-grid-requires
-    least-requires
-    print-kept-requires
-    fresh-line-requires-2
+    (search needs) (search needs) (search needs) (search needs)
     returns-2)

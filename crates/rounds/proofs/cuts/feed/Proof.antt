@@ -30,18 +30,6 @@ keeps c =
     let s = a .state in
     ap (λ (h : Held). stateWith (h .kept) (h .line) (s .tally)) (c .keep .ensures ∙ ap (λ (n : ℕ). each keptOne (take n (a .piece .now)) (held (s .kept) (s .line))) (e .line-end .ensures .0))
 
-line-end-requires : tie.Need-line-end-requires
-line-end-requires c κs = search needs
-
-byte-at-requires : tie.Need-byte-at-requires
-byte-at-requires c κs = search needs
-
-is-passed-requires : tie.Need-is-passed-requires
-is-passed-requires c κs = search needs
-
-pass-on-requires : tie.Need-pass-on-requires
-pass-on-requires c κs = search needs
-
 returns : tie.Need-returns
 returns c =
     let t = c .before in
@@ -57,15 +45,6 @@ slice-aggregate-keep : tie.Need-slice-aggregate-keep
 slice-aggregate-keep c =
     let e = c .before .before .before .before .before .before .before .before in
     sym (length-take-le (e .line-end .result) (e .before .before .args .piece .now) (e .line-end .ensures .1))
-
-keep-requires : tie.Need-keep-requires
-keep-requires c κs = search needs
-
-end-line-requires : tie.Need-end-line-requires
-end-line-requires c κs = search needs
-
-add-used : tie.Need-add-used
-add-used c = search needs
 
 returns-2 : tie.Need-returns-2
 returns-2 c =
@@ -107,14 +86,9 @@ pub feed-spec : {M : Type 1} → statement M
 feed-spec =
     tie.close
     (tie.spec
-    line-end-requires
-    byte-at-requires
-    is-passed-requires
-    pass-on-requires
+    (search needs) (search needs) (search needs) (search needs)
     returns
     slice-aggregate-keep
-    keep-requires
-    add-used
-    end-line-requires
+    (search needs) (search needs) (search needs)
     returns-2
     returns-3)

@@ -12,9 +12,6 @@ use Rattle.rounds.proofs.Cutting.{begun-bytes, begun-state, unbegun-byt
 use Rattle.rounds.proofs.cuts.finish.Statement.{statement}
 use Rattle.rounds.proofs.cuts.finish.Tie as tie
 
-end-line-requires : tie.Need-end-line-requires
-end-line-requires c κs = search needs
-
 returns : tie.Need-returns
 returns c =
     let e = c .before .before in
@@ -23,9 +20,6 @@ returns c =
     let begun : isBegun (s .line) ≡ true = rw (e .if1 .taken) in
     let bytes = begun-bytes s begun in
     (c .end-line .ensures .0 ∙ begun-state s begun, c .end-line .ensures .1 ∙ ap length bytes, c .end-line .ensures .2 ∙ ap (λ (b : List ℕ). over b (a .out .now)) bytes)
-
-end-line-requires-2 : tie.Need-end-line-requires-2
-end-line-requires-2 c κs = search needs
 
 returns-2 : tie.Need-returns-2
 returns-2 c =
@@ -48,5 +42,4 @@ returns-3 c =
 
 pub finish-spec : {M : Type 1} → statement M
 finish-spec =
-    tie.close
-    (tie.spec end-line-requires returns end-line-requires-2 returns-2 returns-3)
+    tie.close (tie.spec (search needs) returns (search needs) returns-2 returns-3)

@@ -8,11 +8,9 @@ use Rattle.rounds.specs.code.Cuts.{stateWith}
 use Rattle.rounds.proofs.cuts.fresh_state.Statement.{statement}
 use Rattle.rounds.proofs.cuts.fresh_state.Tie as tie
 
-fresh-line-requires : tie.Need-fresh-line-requires
-fresh-line-requires c κs = search needs
-
 returns : tie.Need-returns
 returns c = ap (λ (l : Line). stateWith (replicate 256 0) l noTally) (c .fresh-line .ensures)
 
 pub fresh-state-spec : {M : Type 1} → statement M
-fresh-state-spec = tie.close (tie.spec fresh-line-requires returns)
+fresh-state-spec =
+    tie.close (tie.spec (search needs) returns)

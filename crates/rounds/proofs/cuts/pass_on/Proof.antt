@@ -11,15 +11,6 @@ use Rattle.rounds.specs.code.Cuts.{stateWith, fedWith, freshLine, passed
 use Rattle.rounds.proofs.cuts.pass_on.Statement.{statement}
 use Rattle.rounds.proofs.cuts.pass_on.Tie as tie
 
-fresh-line-requires : tie.Need-fresh-line-requires
-fresh-line-requires c κs = search needs
-
-add-t10 : tie.Need-add-t10
-add-t10 c = search needs
-
-add-t11 : tie.Need-add-t11
-add-t11 c = search needs
-
 returns : tie.Need-returns
 unfolding passOn
 returns c =
@@ -41,4 +32,5 @@ returns-2 c =
     sym (cond-false (ltb (a .end) (a .length)) on all (le-ltb (a .end) (a .length) (c .if1 .left)))
 
 pub pass-on-spec : {M : Type 1} → statement M
-pass-on-spec = tie.close (tie.spec fresh-line-requires add-t10 add-t11 returns returns-2)
+pass-on-spec =
+    tie.close (tie.spec (search needs) (search needs) (search needs) returns returns-2)

@@ -13,9 +13,6 @@ use Rattle.rounds.proofs.Cutting.{most}
 use Rattle.rounds.proofs.cuts.print_kept.Statement.{statement}
 use Rattle.rounds.proofs.cuts.print_kept.Tie as tie
 
-least-requires : tie.Need-least-requires
-least-requires c κs = search needs
-
 array-share-prefix-kept : tie.Need-array-share-prefix-kept
 array-share-prefix-kept c = omega (arith, c .least .ensures .1)
 
@@ -23,9 +20,6 @@ slice-aggregate-write-line : tie.Need-slice-aggregate-write-line
 slice-aggregate-write-line c =
     let l = c .before in
     omega (arith, length-take (l .least .result) (l .before .args .t1), l .least .ensures .1)
-
-write-line-requires : tie.Need-write-line-requires
-write-line-requires c κs = search needs
 
 returns : tie.Need-returns
 returns c =
@@ -39,10 +33,4 @@ returns c =
 
 pub print-kept-spec : {M : Type 1} → statement M
 print-kept-spec =
-    tie.close
-    (tie.spec
-    least-requires
-    array-share-prefix-kept
-    slice-aggregate-write-line
-    write-line-requires
-    returns)
+    tie.close (tie.spec (search needs) array-share-prefix-kept slice-aggregate-write-line (search needs) returns)

@@ -7,39 +7,6 @@ use Rattle.rounds.specs.Rounds.{checkBytes}
 use Rattle.rounds.proofs.fields.push_check.Statement.{statement}
 use Rattle.rounds.proofs.fields.push_check.Tie as tie
 
-enum-told : tie.Need-enum-told
-enum-told c = search needs
-
-slice-aggregate-push-word : tie.Need-slice-aggregate-push-word
-slice-aggregate-push-word c = search needs
-
-push-word-requires : tie.Need-push-word-requires
-push-word-requires c κs = search needs
-
-enum-told-2 : tie.Need-enum-told-2
-enum-told-2 c = search needs
-
-slice-aggregate-push-word-2 : tie.Need-slice-aggregate-push-word-2
-slice-aggregate-push-word-2 c = search needs
-
-push-word-requires-2 : tie.Need-push-word-requires-2
-push-word-requires-2 c κs = search needs
-
-enum-known-check : tie.Need-enum-known-check
-enum-known-check c = search needs
-
-push-clue-requires : tie.Need-push-clue-requires
-push-clue-requires c κs = search needs
-
-enum-told-3 : tie.Need-enum-told-3
-enum-told-3 c = search needs
-
-slice-aggregate-push-word-3 : tie.Need-slice-aggregate-push-word-3
-slice-aggregate-push-word-3 c = search needs
-
-push-word-requires-3 : tie.Need-push-word-requires-3
-push-word-requires-3 c κs = search needs
-
 returns : tie.Need-returns
 unfolding checkBytes
 returns c =
@@ -71,17 +38,8 @@ pub push-check-spec : {M : Type 1} → statement M
 push-check-spec =
     tie.close
     (tie.spec
-    enum-told
-    slice-aggregate-push-word
-    push-word-requires
-    enum-told-2
-    slice-aggregate-push-word-2
-    push-word-requires-2
-    enum-known-check
-    push-clue-requires
-    enum-told-3
-    slice-aggregate-push-word-3
-    push-word-requires-3
+    (search needs) (search needs) (search needs) (search needs) (search needs) (search needs) (search needs)
+    (search needs) (search needs) (search needs) (search needs)
     returns
     returns-2
     returns-3

@@ -8,15 +8,6 @@ use Rattle.rounds.specs.Rounds.{checkBytes}
 use Rattle.rounds.proofs.fields.push_clue.Statement.{statement}
 use Rattle.rounds.proofs.fields.push_clue.Tie as tie
 
-slice-aggregate-push-word : tie.Need-slice-aggregate-push-word
-slice-aggregate-push-word c = search needs
-
-push-word-requires : tie.Need-push-word-requires
-push-word-requires c κs = search needs
-
-push-number-requires : tie.Need-push-number-requires
-push-number-requires c κs = search needs
-
 returns : tie.Need-returns
 unfolding checkBytes
 returns c =
@@ -26,4 +17,4 @@ returns c =
 
 pub push-clue-spec : {M : Type 1} → statement M
 push-clue-spec =
-    tie.close (tie.spec slice-aggregate-push-word push-word-requires push-number-requires returns)
+    tie.close (tie.spec (search needs) (search needs) (search needs) returns)

@@ -9,12 +9,6 @@ use Rattle.rounds.specs.Rounds.{field}
 use Rattle.rounds.proofs.fields.push_field.Statement.{statement}
 use Rattle.rounds.proofs.fields.push_field.Tie as tie
 
-push-number-requires : tie.Need-push-number-requires
-push-number-requires c κs = search needs
-
-push-requires : tie.Need-push-requires
-push-requires c κs = search needs
-
 returns : tie.Need-returns
 unfolding field
 returns c =
@@ -23,4 +17,5 @@ returns c =
     joined 256 (decimal (a .n)) (32 ∷ []) (tape (a .line .now) (a .at)) (n .push-number .ensures) (c .push .ensures ∙ append-one 256 32 _)
 
 pub push-field-spec : {M : Type 1} → statement M
-push-field-spec = tie.close (tie.spec push-number-requires push-requires returns)
+push-field-spec =
+    tie.close (tie.spec (search needs) (search needs) returns)

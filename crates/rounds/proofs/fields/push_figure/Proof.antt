@@ -9,21 +9,6 @@ use Rattle.rounds.specs.Rounds.{figureBytes}
 use Rattle.rounds.proofs.fields.push_figure.Statement.{statement}
 use Rattle.rounds.proofs.fields.push_figure.Tie as tie
 
-push-number-requires : tie.Need-push-number-requires
-push-number-requires c κs = search needs
-
-push-requires : tie.Need-push-requires
-push-requires c κs = search needs
-
-push-number-requires-2 : tie.Need-push-number-requires-2
-push-number-requires-2 c κs = search needs
-
-push-requires-2 : tie.Need-push-requires-2
-push-requires-2 c κs = search needs
-
-push-number-requires-3 : tie.Need-push-number-requires-3
-push-number-requires-3 c κs = search needs
-
 returns : tie.Need-returns
 unfolding figureBytes
 returns c =
@@ -43,11 +28,4 @@ returns c =
 
 pub push-figure-spec : {M : Type 1} → statement M
 push-figure-spec =
-    tie.close
-    (tie.spec
-    push-number-requires
-    push-requires
-    push-number-requires-2
-    push-requires-2
-    push-number-requires-3
-    returns)
+    tie.close (tie.spec (search needs) (search needs) (search needs) (search needs) (search needs) returns)

@@ -8,21 +8,6 @@ use Rattle.rounds.specs.Rounds.{figureBytes}
 use Rattle.rounds.proofs.fields.push_rating.Statement.{statement}
 use Rattle.rounds.proofs.fields.push_rating.Tie as tie
 
-enum-told : tie.Need-enum-told
-enum-told c = search needs
-
-slice-aggregate-push-word : tie.Need-slice-aggregate-push-word
-slice-aggregate-push-word c = search needs
-
-push-word-requires : tie.Need-push-word-requires
-push-word-requires c κs = search needs
-
-enum-known-rating : tie.Need-enum-known-rating
-enum-known-rating c = search needs
-
-push-figure-requires : tie.Need-push-figure-requires
-push-figure-requires c κs = search needs
-
 returns : tie.Need-returns
 unfolding figureBytes
 returns c =
@@ -38,12 +23,4 @@ returns-2 c =
 
 pub push-rating-spec : {M : Type 1} → statement M
 push-rating-spec =
-    tie.close
-    (tie.spec
-    enum-told
-    slice-aggregate-push-word
-    push-word-requires
-    enum-known-rating
-    push-figure-requires
-    returns
-    returns-2)
+    tie.close (tie.spec (search needs) (search needs) (search needs) (search needs) (search needs) returns returns-2)

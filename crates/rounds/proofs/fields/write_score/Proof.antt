@@ -11,36 +11,6 @@ use Rattle.rounds.specs.Rounds.{field, figureBytes, checkBytes, scoreByt
 use Rattle.rounds.proofs.fields.write_score.Statement.{statement}
 use Rattle.rounds.proofs.fields.write_score.Tie as tie
 
-push-field-requires : tie.Need-push-field-requires
-push-field-requires c κs = search needs
-
-push-field-requires-2 : tie.Need-push-field-requires-2
-push-field-requires-2 c κs = search needs
-
-push-field-requires-3 : tie.Need-push-field-requires-3
-push-field-requires-3 c κs = search needs
-
-push-field-requires-4 : tie.Need-push-field-requires-4
-push-field-requires-4 c κs = search needs
-
-push-verdict-requires : tie.Need-push-verdict-requires
-push-verdict-requires c κs = search needs
-
-push-requires : tie.Need-push-requires
-push-requires c κs = search needs
-
-push-rating-requires : tie.Need-push-rating-requires
-push-rating-requires c κs = search needs
-
-push-requires-2 : tie.Need-push-requires-2
-push-requires-2 c κs = search needs
-
-push-check-requires : tie.Need-push-check-requires
-push-check-requires c κs = search needs
-
-push-requires-3 : tie.Need-push-requires-3
-push-requires-3 c κs = search needs
-
 returns : tie.Need-returns
 unfolding scoreBytes field
 returns c =
@@ -72,14 +42,6 @@ pub write-score-spec : {M : Type 1} → statement M
 write-score-spec =
     tie.close
     (tie.spec
-    push-field-requires
-    push-field-requires-2
-    push-field-requires-3
-    push-field-requires-4
-    push-verdict-requires
-    push-requires
-    push-rating-requires
-    push-requires-2
-    push-check-requires
-    push-requires-3
+    (search needs) (search needs) (search needs) (search needs) (search needs) (search needs) (search needs)
+    (search needs) (search needs) (search needs)
     returns)

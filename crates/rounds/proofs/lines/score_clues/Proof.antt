@@ -18,23 +18,11 @@ use Rattle.rounds.specs.Summaries.{raised, verdictPlace, checkTallied, t
 use Rattle.rounds.proofs.lines.score_clues.Statement.{statement}
 use Rattle.rounds.proofs.lines.score_clues.Tie as tie
 
-score-requires : tie.Need-score-requires
-score-requires c κs = search needs
-
-givens-of-requires : tie.Need-givens-of-requires
-givens-of-requires c κs = search needs
-
 rating-of-requires : tie.Need-rating-of-requires
 rating-of-requires c κs =
     let s = c .before .before in
     let z = s .before .before .args .clues .now in
     subst (λ (l : List ℕ). summed l ≤ 729) (sym (s .score .ensures .1)) (counts-few (givensOf z) (clues-givens z))
-
-tally-grid-requires : tie.Need-tally-grid-requires
-tally-grid-requires c κs = search needs
-
-write-score-requires : tie.Need-write-score-requires
-write-score-requires c κs = search needs
 
 returns : tie.Need-returns
 unfolding tallied
@@ -53,11 +41,4 @@ returns c =
 
 pub score-clues-spec : {M : Type 1} → statement M
 score-clues-spec =
-    tie.close
-    (tie.spec
-    score-requires
-    givens-of-requires
-    rating-of-requires
-    tally-grid-requires
-    write-score-requires
-    returns)
+    tie.close (tie.spec (search needs) (search needs) rating-of-requires (search needs) (search needs) returns)

@@ -2,7 +2,6 @@
 use borrow.Author.Needs.{needs}
 use mathlib.Core.Path.{_≡_, sym, ap, _∙_}
 use mathlib.Core.List.{[]}
-use native.Mathlib.Omega.{arith}
 use lib.ListN.{take}
 use lib.Seq.{length-take-le}
 use Rattle.stops.specs.Answer.{passing, checkAnswer, stop, gives}
@@ -23,34 +22,10 @@ case c {d} e =
     let z = c .parse-string .result .clues in
     ap (λ (k : Check). passing (checkAnswer k) z) (sym e) ∙ c .parse-string .ensures .0 ∙ ap parseOf (shorter (l .before .before .args .text .now) (l .least .ensures .2))
 
-least-requires : tie.Need-least-requires
-least-requires c κs = search needs
-
 slice-aggregate-parse-string : tie.Need-slice-aggregate-parse-string
 slice-aggregate-parse-string c =
     let l = c .before in
     sym (length-take-le (l .least .result) (l .before .before .args .text .now) (l .least .ensures .1))
-
-parse-string-requires : tie.Need-parse-string-requires
-parse-string-requires c κs = search needs
-
-enum-known-answer : tie.Need-enum-known-answer
-enum-known-answer c = search needs
-
-tally-refused-requires : tie.Need-tally-refused-requires
-tally-refused-requires c κs = search needs
-
-refusal-lines-requires : tie.Need-refusal-lines-requires
-refusal-lines-requires c κs = search needs
-
-enum-told : tie.Need-enum-told
-enum-told c = search needs
-
-check-text-requires : tie.Need-check-text-requires
-check-text-requires c κs = search needs
-
-score-clues-requires : tie.Need-score-clues-requires
-score-clues-requires c κs = search needs
 
 returns : tie.Need-returns
 unfolding tallied
@@ -80,14 +55,8 @@ pub score-text-spec : {M : Type 1} → statement M
 score-text-spec =
     tie.close
     (tie.spec
-    least-requires
+    (search needs)
     slice-aggregate-parse-string
-    parse-string-requires
-    enum-known-answer
-    tally-refused-requires
-    refusal-lines-requires
-    enum-told
-    check-text-requires
-    score-clues-requires
+    (search needs) (search needs) (search needs) (search needs) (search needs) (search needs) (search needs)
     returns
     returns-2)

@@ -18,15 +18,6 @@ use Rattle.rounds.proofs.Kept.{refused-one, scored-bytes, from-none, fr
 use Rattle.rounds.proofs.lines.write_line.Statement.{statement}
 use Rattle.rounds.proofs.lines.write_line.Tie as tie
 
-length-without-requires : tie.Need-length-without-requires
-length-without-requires c κs = search needs
-
-push-word-requires : tie.Need-push-word-requires
-push-word-requires c κs = search needs
-
-push-requires : tie.Need-push-requires
-push-requires c κs = search needs
-
 returns : tie.Need-returns
 unfolding tallied
 returns c =
@@ -39,15 +30,6 @@ returns c =
           ∙ ap (λ (o : Outcome). append 256 (outcomeBytes (a .kept .now) o) (tape (a .out .now) 0)) is,
       ap (λ (o : Outcome). tallied o (a .tally .now)) is,
     )
-
-tally-refused-requires : tie.Need-tally-refused-requires
-tally-refused-requires c κs = search needs
-
-slice-aggregate-number-line : tie.Need-slice-aggregate-number-line
-slice-aggregate-number-line c = search needs
-
-number-line-requires : tie.Need-number-line-requires
-number-line-requires c κs = search needs
 
 returns-2 : tie.Need-returns-2
 unfolding tallied
@@ -70,9 +52,6 @@ slice-aggregate-score-text c =
     let a = l .before .before .args in
     sym (length-take-le (l .length-without .result) (a .kept .now) (omega (arith, l .length-without .ensures, text-most 13 (a .kept .now))))
 
-score-text-requires : tie.Need-score-text-requires
-score-text-requires c κs = search needs
-
 returns-3 : tie.Need-returns-3
 returns-3 c =
     let e = c .before .before .before .before in
@@ -90,14 +69,10 @@ pub write-line-spec : {M : Type 1} → statement M
 write-line-spec =
     tie.close
     (tie.spec
-    length-without-requires
-    push-word-requires
-    push-requires
+    (search needs) (search needs) (search needs)
     returns
-    tally-refused-requires
-    slice-aggregate-number-line
-    number-line-requires
+    (search needs) (search needs) (search needs)
     returns-2
     slice-aggregate-score-text
-    score-text-requires
+    (search needs)
     returns-3)

@@ -6,30 +6,6 @@ use Rattle.rounds.specs.Summaries.{checkTallied}
 use Rattle.rounds.proofs.tallies.tally_check.Statement.{statement}
 use Rattle.rounds.proofs.tallies.tally_check.Tie as tie
 
-enum-told : tie.Need-enum-told
-enum-told c = search needs
-
-enum-told-2 : tie.Need-enum-told-2
-enum-told-2 c = search needs
-
-raise-requires : tie.Need-raise-requires
-raise-requires c κs = search needs
-
-enum-told-3 : tie.Need-enum-told-3
-enum-told-3 c = search needs
-
-raise-requires-2 : tie.Need-raise-requires-2
-raise-requires-2 c κs = search needs
-
-enum-told-4 : tie.Need-enum-told-4
-enum-told-4 c = search needs
-
-raise-requires-3 : tie.Need-raise-requires-3
-raise-requires-3 c κs = search needs
-
-returns : tie.Need-returns
-returns c = search needs
-
 returns-2 : tie.Need-returns-2
 returns-2 c =
     let e = c .before .before in
@@ -52,14 +28,8 @@ pub tally-check-spec : {M : Type 1} → statement M
 tally-check-spec =
     tie.close
     (tie.spec
-    enum-told
-    enum-told-2
-    raise-requires
-    enum-told-3
-    raise-requires-2
-    enum-told-4
-    raise-requires-3
-    returns
+    (search needs) (search needs) (search needs) (search needs) (search needs) (search needs) (search needs)
+    (λ c. search needs)
     returns-2
     returns-3
     returns-4)

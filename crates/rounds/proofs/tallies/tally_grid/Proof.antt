@@ -5,18 +5,6 @@ use Rattle.rounds.specs.Summaries.{raised, checkTallied}
 use Rattle.rounds.proofs.tallies.tally_grid.Statement.{statement}
 use Rattle.rounds.proofs.tallies.tally_grid.Tie as tie
 
-raise-requires : tie.Need-raise-requires
-raise-requires c κs = search needs
-
-verdict-place-requires : tie.Need-verdict-place-requires
-verdict-place-requires c κs = search needs
-
-raise-requires-2 : tie.Need-raise-requires-2
-raise-requires-2 c κs = search needs
-
-tally-check-requires : tie.Need-tally-check-requires
-tally-check-requires c κs = search needs
-
 returns : tie.Need-returns
 returns c =
     let two = c .before .before in
@@ -27,5 +15,4 @@ returns c =
 
 pub tally-grid-spec : {M : Type 1} → statement M
 tally-grid-spec =
-    tie.close
-    (tie.spec raise-requires verdict-place-requires raise-requires-2 tally-check-requires returns)
+    tie.close (tie.spec (search needs) (search needs) (search needs) (search needs) returns)

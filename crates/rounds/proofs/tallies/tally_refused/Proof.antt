@@ -5,14 +5,9 @@ use Rattle.rounds.specs.Summaries.{raised}
 use Rattle.rounds.proofs.tallies.tally_refused.Statement.{statement}
 use Rattle.rounds.proofs.tallies.tally_refused.Tie as tie
 
-raise-requires : tie.Need-raise-requires
-raise-requires c κs = search needs
-
-raise-requires-2 : tie.Need-raise-requires-2
-raise-requires-2 c κs = search needs
-
 returns : tie.Need-returns
 returns c = c .raise2 .ensures ∙ ap (raised 4) (c .before .before .raise .ensures)
 
 pub tally-refused-spec : {M : Type 1} → statement M
-tally-refused-spec = tie.close (tie.spec raise-requires raise-requires-2 returns)
+tally-refused-spec =
+    tie.close (tie.spec (search needs) (search needs) returns)

@@ -10,69 +10,6 @@ use Rattle.rounds.specs.Summaries.{gridsLabel, finishedLabel, openLabel,
 use Rattle.rounds.proofs.tallies.write_summary.Statement.{statement}
 use Rattle.rounds.proofs.tallies.write_summary.Tie as tie
 
-slice-aggregate-number-line : tie.Need-slice-aggregate-number-line
-slice-aggregate-number-line c = search needs
-
-array-read-number-line : tie.Need-array-read-number-line
-array-read-number-line c = search needs
-
-number-line-requires : tie.Need-number-line-requires
-number-line-requires c κs = search needs
-
-slice-aggregate-number-line-2 : tie.Need-slice-aggregate-number-line-2
-slice-aggregate-number-line-2 c = search needs
-
-array-read-number-line-2 : tie.Need-array-read-number-line-2
-array-read-number-line-2 c = search needs
-
-number-line-requires-2 : tie.Need-number-line-requires-2
-number-line-requires-2 c κs = search needs
-
-slice-aggregate-number-line-3 : tie.Need-slice-aggregate-number-line-3
-slice-aggregate-number-line-3 c = search needs
-
-array-read-number-line-3 : tie.Need-array-read-number-line-3
-array-read-number-line-3 c = search needs
-
-number-line-requires-3 : tie.Need-number-line-requires-3
-number-line-requires-3 c κs = search needs
-
-slice-aggregate-number-line-4 : tie.Need-slice-aggregate-number-line-4
-slice-aggregate-number-line-4 c = search needs
-
-array-read-number-line-4 : tie.Need-array-read-number-line-4
-array-read-number-line-4 c = search needs
-
-number-line-requires-4 : tie.Need-number-line-requires-4
-number-line-requires-4 c κs = search needs
-
-slice-aggregate-number-line-5 : tie.Need-slice-aggregate-number-line-5
-slice-aggregate-number-line-5 c = search needs
-
-array-read-number-line-5 : tie.Need-array-read-number-line-5
-array-read-number-line-5 c = search needs
-
-number-line-requires-5 : tie.Need-number-line-requires-5
-number-line-requires-5 c κs = search needs
-
-slice-aggregate-number-line-6 : tie.Need-slice-aggregate-number-line-6
-slice-aggregate-number-line-6 c = search needs
-
-array-read-number-line-6 : tie.Need-array-read-number-line-6
-array-read-number-line-6 c = search needs
-
-number-line-requires-6 : tie.Need-number-line-requires-6
-number-line-requires-6 c κs = search needs
-
-slice-aggregate-number-line-7 : tie.Need-slice-aggregate-number-line-7
-slice-aggregate-number-line-7 c = search needs
-
-array-read-number-line-7 : tie.Need-array-read-number-line-7
-array-read-number-line-7 c = search needs
-
-number-line-requires-7 : tie.Need-number-line-requires-7
-number-line-requires-7 c κs = search needs
-
 returns : tie.Need-returns
 unfolding summaryBytes
 returns c =
@@ -101,25 +38,7 @@ pub write-summary-spec : {M : Type 1} → statement M
 write-summary-spec =
     tie.close
     (tie.spec
-    slice-aggregate-number-line
-    array-read-number-line
-    number-line-requires
-    slice-aggregate-number-line-2
-    array-read-number-line-2
-    number-line-requires-2
-    slice-aggregate-number-line-3
-    array-read-number-line-3
-    number-line-requires-3
-    slice-aggregate-number-line-4
-    array-read-number-line-4
-    number-line-requires-4
-    slice-aggregate-number-line-5
-    array-read-number-line-5
-    number-line-requires-5
-    slice-aggregate-number-line-6
-    array-read-number-line-6
-    number-line-requires-6
-    slice-aggregate-number-line-7
-    array-read-number-line-7
-    number-line-requires-7
+    (search needs) (search needs) (search needs) (search needs) (search needs) (search needs) (search needs)
+    (search needs) (search needs) (search needs) (search needs) (search needs) (search needs) (search needs)
+    (search needs) (search needs) (search needs) (search needs) (search needs) (search needs) (search needs)
     returns)

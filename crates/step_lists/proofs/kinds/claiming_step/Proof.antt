@@ -14,9 +14,6 @@ use Rattle.step_lists.proofs.Named.{after-taken, after-left, claiming-t
 use Rattle.step_lists.proofs.kinds.claiming_step.Statement.{statement}
 use Rattle.step_lists.proofs.kinds.claiming_step.Tie as tie
 
-is-claiming-requires : tie.Need-is-claiming-requires
-is-claiming-requires c κs = search needs
-
 -- what the parts are, where the test passes
 parts : (c : tie.Then1) → ClaimingParts (c .before .before .args .line) (c .before .before .args .digit) (c .before .before .args .block) (c .before .before .args .y) (c .before .before .args .z)
 parts c =
@@ -25,9 +22,6 @@ parts c =
 
 sub-take-locked : tie.Need-sub-take-locked
 sub-take-locked c = let w = parts (c .before) in omega (arith, w .digit .0)
-
-box-in-requires : tie.Need-box-in-requires
-box-in-requires c κs = search needs
 
 take-locked-requires : tie.Need-take-locked-requires
 take-locked-requires c κs =
@@ -51,4 +45,5 @@ returns-2 c =
     after-left (a .givens .now) (a .masks .now) (claiming (a .line) (a .digit - 1) (boxIn (a .line) (a .block))) (sym (c .before .is-claiming .ensures) ∙ c .if1 .left)
 
 pub claiming-step-spec : {M : Type 1} → statement M
-claiming-step-spec = tie.close (tie.spec is-claiming-requires sub-take-locked box-in-requires take-locked-requires returns returns-2)
+claiming-step-spec =
+    tie.close (tie.spec (search needs) sub-take-locked (search needs) take-locked-requires returns returns-2)

@@ -10,9 +10,6 @@ use Rattle.step_lists.proofs.Named.{after-taken, after-left, exchanged-
 use Rattle.step_lists.proofs.kinds.exchanged_step.Statement.{statement}
 use Rattle.step_lists.proofs.kinds.exchanged_step.Tie as tie
 
-is-cross-requires : tie.Need-is-cross-requires
-is-cross-requires c κs = search needs
-
 -- what the parts are, where the test passes
 parts : (c : tie.Then1) → CrossParts 9 0 (c .before .before .args .digit) (c .before .before .args .u) (c .before .before .args .v) (c .before .before .args .x) (c .before .before .args .y)
 parts c =
@@ -49,4 +46,13 @@ returns-2 c =
     after-left (a .givens .now) (a .masks .now) (exchanged (a .digit - 1) (a .u - 9) (a .v - 9) (a .x) (a .y)) (sym (c .before .is-cross .ensures) ∙ c .if1 .left)
 
 pub exchanged-step-spec : {M : Type 1} → statement M
-exchanged-step-spec = tie.close (tie.spec is-cross-requires sub-take-cross sub-take-cross-2 sub-take-cross-3 take-cross-requires returns returns-2)
+exchanged-step-spec =
+    tie.close
+    (tie.spec
+    (search needs)
+    sub-take-cross
+    sub-take-cross-2
+    sub-take-cross-3
+    take-cross-requires
+    returns
+    returns-2)

@@ -9,9 +9,6 @@ use Rattle.step_lists.proofs.Named.{after-taken, after-left}
 use Rattle.step_lists.proofs.kinds.lone_step.Statement.{statement}
 use Rattle.step_lists.proofs.kinds.lone_step.Tie as tie
 
-is-lone-requires : tie.Need-is-lone-requires
-is-lone-requires c κs = search needs
-
 -- what the parts are, where the test passes
 parts : (c : tie.Then1) → LoneParts (c .before .before .args .cell) (c .before .before .args .digit) (c .before .before .args .x) (c .before .before .args .y) (c .before .before .args .z)
 parts c =
@@ -41,4 +38,5 @@ returns-2 c =
     after-left (a .givens .now) (a .masks .now) (lone (a .cell) (a .digit - 1)) (sym (c .before .is-lone .ensures) ∙ c .if1 .left)
 
 pub lone-step-spec : {M : Type 1} → statement M
-lone-step-spec = tie.close (tie.spec is-lone-requires sub-take-lone take-lone-requires returns returns-2)
+lone-step-spec =
+    tie.close (tie.spec (search needs) sub-take-lone take-lone-requires returns returns-2)

@@ -11,20 +11,11 @@ use Rattle.step_lists.proofs.Named.{after-taken, after-left}
 use Rattle.step_lists.proofs.kinds.pair_step.Statement.{statement}
 use Rattle.step_lists.proofs.kinds.pair_step.Tie as tie
 
-is-pair-requires : tie.Need-is-pair-requires
-is-pair-requires c κs = search needs
-
 -- what the parts are, where the test passes
 parts : (c : tie.Then1) → PairParts (c .before .before .args .unit) (c .before .before .args .first) (c .before .before .args .second) (c .before .before .args .a) (c .before .before .args .b)
 parts c =
     let a = c .before .before .args in
     pair-parts (a .unit) (a .first) (a .second) (a .a) (a .b) (sym (c .before .is-pair .ensures) ∙ c .if1 .taken)
-
-place-in-requires : tie.Need-place-in-requires
-place-in-requires c κs = search needs
-
-place-in-requires-2 : tie.Need-place-in-requires-2
-place-in-requires-2 c κs = search needs
 
 sub-take-pair : tie.Need-sub-take-pair
 sub-take-pair c = let w = parts (c .before .before .before) in omega (arith, w .one .0)
@@ -54,4 +45,12 @@ returns-2 c =
     after-left (a .givens .now) (a .masks .now) (pair (a .unit) (placeIn (a .unit) (a .first)) (placeIn (a .unit) (a .second)) (a .a - 1) (a .b - 1)) (sym (c .before .is-pair .ensures) ∙ c .if1 .left)
 
 pub pair-step-spec : {M : Type 1} → statement M
-pair-step-spec = tie.close (tie.spec is-pair-requires place-in-requires place-in-requires-2 sub-take-pair sub-take-pair-2 take-pair-requires returns returns-2)
+pair-step-spec =
+    tie.close
+    (tie.spec
+    (search needs) (search needs) (search needs)
+    sub-take-pair
+    sub-take-pair-2
+    take-pair-requires
+    returns
+    returns-2)

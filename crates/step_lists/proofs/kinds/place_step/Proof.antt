@@ -11,9 +11,6 @@ use Rattle.step_lists.proofs.Named.{after-taken, after-left}
 use Rattle.step_lists.proofs.kinds.place_step.Statement.{statement}
 use Rattle.step_lists.proofs.kinds.place_step.Tie as tie
 
-is-place-requires : tie.Need-is-place-requires
-is-place-requires c κs = search needs
-
 -- what the parts are, where the test passes
 parts : (c : tie.Then1) → PlaceParts (c .before .before .args .unit) (c .before .before .args .digit) (c .before .before .args .cell) (c .before .before .args .y) (c .before .before .args .z)
 parts c =
@@ -22,9 +19,6 @@ parts c =
 
 sub-take-place : tie.Need-sub-take-place
 sub-take-place c = let w = parts (c .before) in omega (arith, w .digit .0)
-
-place-in-requires : tie.Need-place-in-requires
-place-in-requires c κs = search needs
 
 take-place-requires : tie.Need-take-place-requires
 take-place-requires c κs =
@@ -46,4 +40,5 @@ returns-2 c =
     after-left (a .givens .now) (a .masks .now) (place (a .unit) (a .digit - 1) (placeIn (a .unit) (a .cell))) (sym (c .before .is-place .ensures) ∙ c .if1 .left)
 
 pub place-step-spec : {M : Type 1} → statement M
-place-step-spec = tie.close (tie.spec is-place-requires sub-take-place place-in-requires take-place-requires returns returns-2)
+place-step-spec =
+    tie.close (tie.spec (search needs) sub-take-place (search needs) take-place-requires returns returns-2)

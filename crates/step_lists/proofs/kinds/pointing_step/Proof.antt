@@ -14,9 +14,6 @@ use Rattle.step_lists.proofs.Named.{after-taken, after-left, pointing-t
 use Rattle.step_lists.proofs.kinds.pointing_step.Statement.{statement}
 use Rattle.step_lists.proofs.kinds.pointing_step.Tie as tie
 
-is-pointing-requires : tie.Need-is-pointing-requires
-is-pointing-requires c κs = search needs
-
 -- what the parts are, where the test passes
 parts : (c : tie.Then1) → PointingParts (c .before .before .args .block) (c .before .before .args .digit) (c .before .before .args .line) (c .before .before .args .y) (c .before .before .args .z)
 parts c =
@@ -25,9 +22,6 @@ parts c =
 
 sub-take-locked : tie.Need-sub-take-locked
 sub-take-locked c = let w = parts (c .before) in omega (arith, w .digit .0)
-
-line-in-requires : tie.Need-line-in-requires
-line-in-requires c κs = search needs
 
 take-locked-requires : tie.Need-take-locked-requires
 take-locked-requires c κs =
@@ -51,4 +45,5 @@ returns-2 c =
     after-left (a .givens .now) (a .masks .now) (pointing (a .block - 18) (a .digit - 1) (lineIn (a .line))) (sym (c .before .is-pointing .ensures) ∙ c .if1 .left)
 
 pub pointing-step-spec : {M : Type 1} → statement M
-pointing-step-spec = tie.close (tie.spec is-pointing-requires sub-take-locked line-in-requires take-locked-requires returns returns-2)
+pointing-step-spec =
+    tie.close (tie.spec (search needs) sub-take-locked (search needs) take-locked-requires returns returns-2)

@@ -7,27 +7,6 @@ use Rattle.step_lists.proofs.Named.{of-kind, no-kind}
 use Rattle.step_lists.proofs.kinds.take_step.Statement.{statement}
 use Rattle.step_lists.proofs.kinds.take_step.Tie as tie
 
-lone-step-requires : tie.Need-lone-step-requires
-lone-step-requires c κs = search needs
-
-place-step-requires : tie.Need-place-step-requires
-place-step-requires c κs = search needs
-
-pair-step-requires : tie.Need-pair-step-requires
-pair-step-requires c κs = search needs
-
-pointing-step-requires : tie.Need-pointing-step-requires
-pointing-step-requires c κs = search needs
-
-claiming-step-requires : tie.Need-claiming-step-requires
-claiming-step-requires c κs = search needs
-
-cross-step-requires : tie.Need-cross-step-requires
-cross-step-requires c κs = search needs
-
-exchanged-step-requires : tie.Need-exchanged-step-requires
-exchanged-step-requires c κs = search needs
-
 returns : tie.Need-returns
 returns c =
     let a = c .before .before .before .args in
@@ -76,4 +55,15 @@ returns-8 c =
     no-kind (a .givens .now) (a .masks .now) (a .p) (a .q) (a .r) (a .s) (a .t) (a .kind) (past from6 (r .1))
 
 pub take-step-spec : {M : Type 1} → statement M
-take-step-spec = tie.close (tie.spec lone-step-requires place-step-requires pair-step-requires pointing-step-requires claiming-step-requires cross-step-requires exchanged-step-requires returns returns-2 returns-3 returns-4 returns-5 returns-6 returns-7 returns-8)
+take-step-spec =
+    tie.close
+    (tie.spec
+    (search needs) (search needs) (search needs) (search needs) (search needs) (search needs) (search needs)
+    returns
+    returns-2
+    returns-3
+    returns-4
+    returns-5
+    returns-6
+    returns-7
+    returns-8)

@@ -5,12 +5,6 @@ use Rattle.step_lists.proofs.Tests.{passed, failed}
 use Rattle.step_lists.proofs.naming.are_digits.Statement.{statement}
 use Rattle.step_lists.proofs.naming.are_digits.Tie as tie
 
-is-digit-requires : tie.Need-is-digit-requires
-is-digit-requires c κs = search needs
-
-is-digit-requires-2 : tie.Need-is-digit-requires-2
-is-digit-requires-2 c κs = search needs
-
 returns : tie.Need-returns
 returns c =
     let a = c .before .before .before .before .args in
@@ -27,4 +21,5 @@ returns-3 c =
     failed _ (sym (c .before .is-digit .ensures) ∙ c .if1 .left)
 
 pub are-digits-spec : {M : Type 1} → statement M
-are-digits-spec = tie.close (tie.spec is-digit-requires is-digit-requires-2 returns returns-2 returns-3)
+are-digits-spec =
+    tie.close (tie.spec (search needs) (search needs) returns returns-2 returns-3)

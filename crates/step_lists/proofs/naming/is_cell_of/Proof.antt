@@ -9,12 +9,6 @@ use Rattle.step_lists.proofs.Tests.{passed, failed}
 use Rattle.step_lists.proofs.naming.is_cell_of.Statement.{statement}
 use Rattle.step_lists.proofs.naming.is_cell_of.Tie as tie
 
-place-in-requires : tie.Need-place-in-requires
-place-in-requires c κs = search needs
-
-unit-cell-requires : tie.Need-unit-cell-requires
-unit-cell-requires c κs = search needs
-
 returns : tie.Need-returns
 returns c =
     let a = c .before .before .before .args in
@@ -26,4 +20,5 @@ returns-2 c =
     failed _ (le-ltb (a .cell) 81 (c .if1 .left))
 
 pub is-cell-of-spec : {M : Type 1} → statement M
-is-cell-of-spec = tie.close (tie.spec place-in-requires unit-cell-requires returns returns-2)
+is-cell-of-spec =
+    tie.close (tie.spec (search needs) (search needs) returns returns-2)

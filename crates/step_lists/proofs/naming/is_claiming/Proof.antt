@@ -7,12 +7,6 @@ use Rattle.step_lists.proofs.Tests.{passed, failed}
 use Rattle.step_lists.proofs.naming.is_claiming.Statement.{statement}
 use Rattle.step_lists.proofs.naming.is_claiming.Tie as tie
 
-box-in-requires : tie.Need-box-in-requires
-box-in-requires c κs = search needs
-
-is-met-requires : tie.Need-is-met-requires
-is-met-requires c κs = search needs
-
 returns : tie.Need-returns
 returns c =
     let a = c .before .before .before .args in
@@ -24,4 +18,5 @@ returns-2 c =
     failed _ (le-ltb (a .line) 18 (c .if1 .left))
 
 pub is-claiming-spec : {M : Type 1} → statement M
-is-claiming-spec = tie.close (tie.spec box-in-requires is-met-requires returns returns-2)
+is-claiming-spec =
+    tie.close (tie.spec (search needs) (search needs) returns returns-2)

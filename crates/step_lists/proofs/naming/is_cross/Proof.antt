@@ -5,15 +5,6 @@ use Rattle.step_lists.proofs.Tests.{passed, failed}
 use Rattle.step_lists.proofs.naming.is_cross.Statement.{statement}
 use Rattle.step_lists.proofs.naming.is_cross.Tie as tie
 
-is-digit-requires : tie.Need-is-digit-requires
-is-digit-requires c κs = search needs
-
-is-two-requires : tie.Need-is-two-requires
-is-two-requires c κs = search needs
-
-is-two-requires-2 : tie.Need-is-two-requires-2
-is-two-requires-2 c κs = search needs
-
 returns : tie.Need-returns
 returns c =
     let a = c .before .before .before .before .before .args in
@@ -30,4 +21,5 @@ returns-3 c =
     failed _ (sym (c .before .is-digit .ensures) ∙ c .if1 .left)
 
 pub is-cross-spec : {M : Type 1} → statement M
-is-cross-spec = tie.close (tie.spec is-digit-requires is-two-requires is-two-requires-2 returns returns-2 returns-3)
+is-cross-spec =
+    tie.close (tie.spec (search needs) (search needs) (search needs) returns returns-2 returns-3)

@@ -6,12 +6,6 @@ use Rattle.step_lists.proofs.Tests.{passed, failed}
 use Rattle.step_lists.proofs.naming.is_lone.Statement.{statement}
 use Rattle.step_lists.proofs.naming.is_lone.Tie as tie
 
-is-digit-requires : tie.Need-is-digit-requires
-is-digit-requires c κs = search needs
-
-no-parts-requires : tie.Need-no-parts-requires
-no-parts-requires c κs = search needs
-
 returns : tie.Need-returns
 returns c =
     let a = c .before .before .before .before .before .args in
@@ -33,4 +27,5 @@ returns-4 c =
     failed _ (le-ltb (a .cell) 81 (c .if1 .left))
 
 pub is-lone-spec : {M : Type 1} → statement M
-is-lone-spec = tie.close (tie.spec is-digit-requires no-parts-requires returns returns-2 returns-3 returns-4)
+is-lone-spec =
+    tie.close (tie.spec (search needs) (search needs) returns returns-2 returns-3 returns-4)

@@ -7,15 +7,6 @@ use Rattle.step_lists.proofs.Tests.{passed, failed}
 use Rattle.step_lists.proofs.naming.is_met.Statement.{statement}
 use Rattle.step_lists.proofs.naming.is_met.Tie as tie
 
-is-digit-requires : tie.Need-is-digit-requires
-is-digit-requires c κs = search needs
-
-met-unit-requires : tie.Need-met-unit-requires
-met-unit-requires c κs = search needs
-
-no-parts-requires : tie.Need-no-parts-requires
-no-parts-requires c κs = search needs
-
 returns : tie.Need-returns
 returns c =
     let a = c .before .before .before .before .before .args in
@@ -32,4 +23,5 @@ returns-3 c =
     failed _ (sym (c .before .is-digit .ensures) ∙ c .if1 .left)
 
 pub is-met-spec : {M : Type 1} → statement M
-is-met-spec = tie.close (tie.spec is-digit-requires met-unit-requires no-parts-requires returns returns-2 returns-3)
+is-met-spec =
+    tie.close (tie.spec (search needs) (search needs) (search needs) returns returns-2 returns-3)

@@ -6,15 +6,6 @@ use Rattle.step_lists.proofs.Tests.{passed, failed}
 use Rattle.step_lists.proofs.naming.is_pair.Statement.{statement}
 use Rattle.step_lists.proofs.naming.is_pair.Tie as tie
 
-is-cell-of-requires : tie.Need-is-cell-of-requires
-is-cell-of-requires c κs = search needs
-
-is-cell-of-requires-2 : tie.Need-is-cell-of-requires-2
-is-cell-of-requires-2 c κs = search needs
-
-are-digits-requires : tie.Need-are-digits-requires
-are-digits-requires c κs = search needs
-
 returns : tie.Need-returns
 returns c =
     let a = c .before .before .before .before .before .before .before .args in
@@ -41,4 +32,5 @@ returns-5 c =
     failed _ (le-ltb (a .unit) 27 (c .if1 .left))
 
 pub is-pair-spec : {M : Type 1} → statement M
-is-pair-spec = tie.close (tie.spec is-cell-of-requires is-cell-of-requires-2 are-digits-requires returns returns-2 returns-3 returns-4 returns-5)
+is-pair-spec =
+    tie.close (tie.spec (search needs) (search needs) (search needs) returns returns-2 returns-3 returns-4 returns-5)

@@ -6,15 +6,6 @@ use Rattle.step_lists.proofs.Tests.{passed, failed}
 use Rattle.step_lists.proofs.naming.is_place.Statement.{statement}
 use Rattle.step_lists.proofs.naming.is_place.Tie as tie
 
-is-digit-requires : tie.Need-is-digit-requires
-is-digit-requires c κs = search needs
-
-is-cell-of-requires : tie.Need-is-cell-of-requires
-is-cell-of-requires c κs = search needs
-
-no-parts-requires : tie.Need-no-parts-requires
-no-parts-requires c κs = search needs
-
 returns : tie.Need-returns
 returns c =
     let a = c .before .before .before .before .before .before .args in
@@ -36,4 +27,5 @@ returns-4 c =
     failed _ (le-ltb (a .unit) 27 (c .if1 .left))
 
 pub is-place-spec : {M : Type 1} → statement M
-is-place-spec = tie.close (tie.spec is-digit-requires is-cell-of-requires no-parts-requires returns returns-2 returns-3 returns-4)
+is-place-spec =
+    tie.close (tie.spec (search needs) (search needs) (search needs) returns returns-2 returns-3 returns-4)

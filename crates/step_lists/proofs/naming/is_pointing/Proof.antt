@@ -7,12 +7,6 @@ use Rattle.step_lists.proofs.Tests.{passed, failed}
 use Rattle.step_lists.proofs.naming.is_pointing.Statement.{statement}
 use Rattle.step_lists.proofs.naming.is_pointing.Tie as tie
 
-line-in-requires : tie.Need-line-in-requires
-line-in-requires c κs = search needs
-
-is-met-requires : tie.Need-is-met-requires
-is-met-requires c κs = search needs
-
 returns : tie.Need-returns
 returns c =
     let a = c .before .before .before .before .args in
@@ -29,4 +23,5 @@ returns-3 c =
     failed _ (lt-leb 18 (a .block) (c .if1 .left))
 
 pub is-pointing-spec : {M : Type 1} → statement M
-is-pointing-spec = tie.close (tie.spec line-in-requires is-met-requires returns returns-2 returns-3)
+is-pointing-spec =
+    tie.close (tie.spec (search needs) (search needs) returns returns-2 returns-3)

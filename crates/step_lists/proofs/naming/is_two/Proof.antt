@@ -7,9 +7,6 @@ use Rattle.step_lists.proofs.Tests.{passed, failed}
 use Rattle.step_lists.proofs.naming.is_two.Statement.{statement}
 use Rattle.step_lists.proofs.naming.is_two.Tie as tie
 
-sub-result : tie.Need-sub-result
-sub-result c = search needs
-
 returns : tie.Need-returns
 returns c =
     let a = c .before .before .args in
@@ -26,4 +23,5 @@ returns-3 c =
     failed _ (lt-leb (a .first) (a .one) (c .if1 .left))
 
 pub is-two-spec : {M : Type 1} → statement M
-is-two-spec = tie.close (tie.spec sub-result returns returns-2 returns-3)
+is-two-spec =
+    tie.close (tie.spec (search needs) returns returns-2 returns-3)

@@ -13,13 +13,11 @@ returns c =
     let a = c .before .args in
     sym (cond-true (ltb (a .line) 9) (a .line % 3) (3 + a .line % 3) (lt-ltb (a .line) 9 (c .if1 .taken)))
 
-add-result : tie.Need-add-result
-add-result c = search needs
-
 returns-2 : tie.Need-returns-2
 returns-2 c =
     let a = c .before .args in
     sym (cond-false (ltb (a .line) 9) (a .line % 3) (3 + a .line % 3) (le-ltb (a .line) 9 (c .if1 .left)))
 
 pub line-in-spec : {M : Type 1} → statement M
-line-in-spec = tie.close (tie.spec returns add-result returns-2)
+line-in-spec =
+    tie.close (tie.spec returns (search needs) returns-2)

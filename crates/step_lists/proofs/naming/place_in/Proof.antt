@@ -28,16 +28,11 @@ returns-2 c =
     let a = c .before .before .args in
     sym (other (a .unit) (a .cell) (c .before .if1 .left) ∙ cond-true (ltb (a .unit) 18) (row (a .cell)) (boxed (a .cell)) (lt-ltb (a .unit) 18 (c .if2 .taken)))
 
-mul-result : tie.Need-mul-result
-mul-result c = search needs
-
-add-result : tie.Need-add-result
-add-result c = search needs
-
 returns-3 : tie.Need-returns-3
 returns-3 c =
     let a = c .before .before .args in
     sym (other (a .unit) (a .cell) (c .before .if1 .left) ∙ cond-false (ltb (a .unit) 18) (row (a .cell)) (boxed (a .cell)) (le-ltb (a .unit) 18 (c .if2 .left)))
 
 pub place-in-spec : {M : Type 1} → statement M
-place-in-spec = tie.close (tie.spec returns returns-2 mul-result add-result returns-3)
+place-in-spec =
+    tie.close (tie.spec returns returns-2 (search needs) (search needs) returns-3)

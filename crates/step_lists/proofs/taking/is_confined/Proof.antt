@@ -8,15 +8,6 @@ use Rattle.candidates.proofs.Counts.{test-none}
 use Rattle.step_lists.proofs.taking.is_confined.Statement.{statement}
 use Rattle.step_lists.proofs.taking.is_confined.Tie as tie
 
-held-places-requires : tie.Need-held-places-requires
-held-places-requires c κs = search needs
-
-lose-requires : tie.Need-lose-requires
-lose-requires c κs = search needs
-
-is-none-requires : tie.Need-is-none-requires
-is-none-requires c κs = search needs
-
 returns : tie.Need-returns
 returns c =
     let a = c .before .before .before .args in
@@ -24,4 +15,5 @@ returns c =
     ∙ ap (λ (x : ℕ). eqb x 0) (c .before .lose .ensures ∙ ap (λ (x : ℕ). minus x (a .places)) (c .before .before .held-places .ensures))
 
 pub is-confined-spec : {M : Type 1} → statement M
-is-confined-spec = tie.close (tie.spec held-places-requires lose-requires is-none-requires returns)
+is-confined-spec =
+    tie.close (tie.spec (search needs) (search needs) (search needs) returns)

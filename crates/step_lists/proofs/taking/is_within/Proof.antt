@@ -8,15 +8,6 @@ use Rattle.candidates.proofs.Counts.{test-none}
 use Rattle.step_lists.proofs.taking.is_within.Statement.{statement}
 use Rattle.step_lists.proofs.taking.is_within.Tie as tie
 
-lose-requires : tie.Need-lose-requires
-lose-requires c κs = search needs
-
-meet-requires : tie.Need-meet-requires
-meet-requires c κs = search needs
-
-is-none-requires : tie.Need-is-none-requires
-is-none-requires c κs = search needs
-
 returns : tie.Need-returns
 returns c =
     let a = c .before .before .before .args in
@@ -24,4 +15,5 @@ returns c =
     ∙ ap (λ (x : ℕ). eqb x 0) (c .before .meet .ensures ∙ ap (bitAnd (a .mask)) (c .before .before .lose .ensures))
 
 pub is-within-spec : {M : Type 1} → statement M
-is-within-spec = tie.close (tie.spec lose-requires meet-requires is-none-requires returns)
+is-within-spec =
+    tie.close (tie.spec (search needs) (search needs) (search needs) returns)

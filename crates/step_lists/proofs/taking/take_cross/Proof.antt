@@ -18,47 +18,17 @@ use Rattle.step_lists.proofs.taking.take_cross.Tie as tie
 most : (c : tie.Start) → (c .args .first ≤ 9) × (c .args .across ≤ 9)
 most c = first-most (c .args .first) (c .args .across) (c .pre .0)
 
-digit-mask-requires : tie.Need-digit-mask-requires
-digit-mask-requires c κs = search needs
-
-digit-mask-requires-2 : tie.Need-digit-mask-requires-2
-digit-mask-requires-2 c κs = search needs
-
-join-requires : tie.Need-join-requires
-join-requires c κs = search needs
-
 add-is-confined : tie.Need-add-is-confined
 add-is-confined c = omega (arith, most (c .before .before .before .before), c .before .before .before .before .pre .2, c .before .before .before .before .pre .3, c .before .before .before .before .pre .4, c .before .before .before .before .pre .5)
-
-is-confined-requires : tie.Need-is-confined-requires
-is-confined-requires c κs = search needs
 
 add-is-confined-2 : tie.Need-add-is-confined-2
 add-is-confined-2 c = omega (arith, most (c .before .before .before .before .before .before .before), c .before .before .before .before .before .before .before .pre .2, c .before .before .before .before .before .before .before .pre .3, c .before .before .before .before .before .before .before .pre .4, c .before .before .before .before .before .before .before .pre .5)
 
-is-confined-requires-2 : tie.Need-is-confined-requires-2
-is-confined-requires-2 c κs = search needs
-
-digit-mask-requires-3 : tie.Need-digit-mask-requires-3
-digit-mask-requires-3 c κs = search needs
-
 add-lose-places : tie.Need-add-lose-places
 add-lose-places c = omega (arith, most (c .before .before .before .before .before .before .before .before .before .before .before), c .before .before .before .before .before .before .before .before .before .before .before .pre .2, c .before .before .before .before .before .before .before .before .before .before .before .pre .3, c .before .before .before .before .before .before .before .before .before .before .before .pre .4, c .before .before .before .before .before .before .before .before .before .before .before .pre .5)
 
-all-but-requires : tie.Need-all-but-requires
-all-but-requires c κs = search needs
-
-lose-places-requires : tie.Need-lose-places-requires
-lose-places-requires c κs = search needs
-
 add-lose-places-2 : tie.Need-add-lose-places-2
 add-lose-places-2 c = omega (arith, most (c .before .before .before .before .before .before .before .before .before .before .before .before .before .before), c .before .before .before .before .before .before .before .before .before .before .before .before .before .before .pre .2, c .before .before .before .before .before .before .before .before .before .before .before .before .before .before .pre .3, c .before .before .before .before .before .before .before .before .before .before .before .before .before .before .pre .4, c .before .before .before .before .before .before .before .before .before .before .before .before .before .before .pre .5)
-
-all-but-requires-2 : tie.Need-all-but-requires-2
-all-but-requires-2 c κs = search needs
-
-lose-places-requires-2 : tie.Need-lose-places-requires-2
-lose-places-requires-2 c κs = search needs
 
 -- the mask of the two places
 two : (c : tie.After-join) → c .join .result ≡ instances.both (c .before .before .before .args .a) (c .before .before .before .args .b)
@@ -99,4 +69,18 @@ returns-3 c =
     cross-first g m (a .first) (a .across) (a .digit) (a .i) (a .j) (a .a) (a .b) (p .0) (p .1) (p .2) (p .3) (p .4) (p .5) (sym (c .before .is-confined .ensures ∙ ap (confinedTo m (a .first + a .i) (a .digit)) (two (c .before .before .before))) ∙ c .if1 .left)
 
 pub take-cross-spec : {M : Type 1} → statement M
-take-cross-spec = tie.close (tie.spec digit-mask-requires digit-mask-requires-2 join-requires add-is-confined is-confined-requires add-is-confined-2 is-confined-requires-2 digit-mask-requires-3 add-lose-places all-but-requires lose-places-requires add-lose-places-2 all-but-requires-2 lose-places-requires-2 returns returns-2 returns-3)
+take-cross-spec =
+    tie.close
+    (tie.spec
+    (search needs) (search needs) (search needs)
+    add-is-confined
+    (search needs)
+    add-is-confined-2
+    (search needs) (search needs)
+    add-lose-places
+    (search needs) (search needs)
+    add-lose-places-2
+    (search needs) (search needs)
+    returns
+    returns-2
+    returns-3)

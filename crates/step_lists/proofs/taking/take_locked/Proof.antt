@@ -7,12 +7,6 @@ use Rattle.step_lists.proofs.Instances.{locked-taken}
 use Rattle.step_lists.proofs.taking.take_locked.Statement.{statement}
 use Rattle.step_lists.proofs.taking.take_locked.Tie as tie
 
-held-places-requires : tie.Need-held-places-requires
-held-places-requires c κs = search needs
-
-lose-met-requires : tie.Need-lose-met-requires
-lose-met-requires c κs = search needs
-
 returns : tie.Need-returns
 returns c =
     let start = c .before .before .before .before in
@@ -21,4 +15,5 @@ returns c =
     ∙ locked-taken (a .givens .now) (a .masks .now) (a .unit) (a .digit) (a .nth) (start .pre .0) (start .pre .1) (start .pre .2)
 
 pub take-locked-spec : {M : Type 1} → statement M
-take-locked-spec = tie.close (tie.spec held-places-requires lose-met-requires returns)
+take-locked-spec =
+    tie.close (tie.spec (search needs) (search needs) returns)

@@ -11,18 +11,6 @@ use Rattle.step_lists.proofs.Instances.{lone-taken, lone-left}
 use Rattle.step_lists.proofs.taking.take_lone.Statement.{statement}
 use Rattle.step_lists.proofs.taking.take_lone.Tie as tie
 
-digit-mask-requires : tie.Need-digit-mask-requires
-digit-mask-requires c κs = search needs
-
-mask-at-requires : tie.Need-mask-at-requires
-mask-at-requires c κs = search needs
-
-is-within-requires : tie.Need-is-within-requires
-is-within-requires c κs = search needs
-
-lose-peers-requires : tie.Need-lose-peers-requires
-lose-peers-requires c κs = search needs
-
 -- the digit's mask
 one : (c : tie.After-digit-mask) → c .digit-mask .result ≡ single (c .before .args .digit)
 one c = c .digit-mask .ensures ∙ place-is (c .before .args .digit) (c .before .pre .1)
@@ -47,4 +35,5 @@ returns-2 c =
     lone-left (a .givens .now) (a .masks .now) (a .cell) (a .digit) (start .pre .0) (sym (tested (c .before)) ∙ c .if1 .left)
 
 pub take-lone-spec : {M : Type 1} → statement M
-take-lone-spec = tie.close (tie.spec digit-mask-requires mask-at-requires is-within-requires lose-peers-requires returns returns-2)
+take-lone-spec =
+    tie.close (tie.spec (search needs) (search needs) (search needs) (search needs) returns returns-2)

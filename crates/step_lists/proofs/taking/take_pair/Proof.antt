@@ -11,39 +11,6 @@ use Rattle.step_lists.proofs.Instances.{cell-within, pair-taken, pair-f
 use Rattle.step_lists.proofs.taking.take_pair.Statement.{statement}
 use Rattle.step_lists.proofs.taking.take_pair.Tie as tie
 
-digit-mask-requires : tie.Need-digit-mask-requires
-digit-mask-requires c κs = search needs
-
-digit-mask-requires-2 : tie.Need-digit-mask-requires-2
-digit-mask-requires-2 c κs = search needs
-
-join-requires : tie.Need-join-requires
-join-requires c κs = search needs
-
-unit-cell-requires : tie.Need-unit-cell-requires
-unit-cell-requires c κs = search needs
-
-mask-at-requires : tie.Need-mask-at-requires
-mask-at-requires c κs = search needs
-
-is-within-requires : tie.Need-is-within-requires
-is-within-requires c κs = search needs
-
-unit-cell-requires-2 : tie.Need-unit-cell-requires-2
-unit-cell-requires-2 c κs = search needs
-
-mask-at-requires-2 : tie.Need-mask-at-requires-2
-mask-at-requires-2 c κs = search needs
-
-is-within-requires-2 : tie.Need-is-within-requires-2
-is-within-requires-2 c κs = search needs
-
-all-but-requires : tie.Need-all-but-requires
-all-but-requires c κs = search needs
-
-lose-places-requires : tie.Need-lose-places-requires
-lose-places-requires c κs = search needs
-
 -- the mask of the two digits
 two : (c : tie.After-join) → c .join .result ≡ instances.both (c .before .before .before .args .a) (c .before .before .before .args .b)
 two c =
@@ -83,4 +50,11 @@ returns-3 c =
     (sym (cell-within m (a .unit) (a .i) (start .pre .0) (start .pre .1) (c .before .is-within .ensures) (c .before .before .mask-at .ensures) (c .before .before .before .unit-cell .ensures) (two (c .before .before .before .before .before))) ∙ c .if1 .left)
 
 pub take-pair-spec : {M : Type 1} → statement M
-take-pair-spec = tie.close (tie.spec digit-mask-requires digit-mask-requires-2 join-requires unit-cell-requires mask-at-requires is-within-requires unit-cell-requires-2 mask-at-requires-2 is-within-requires-2 all-but-requires lose-places-requires returns returns-2 returns-3)
+take-pair-spec =
+    tie.close
+    (tie.spec
+    (search needs) (search needs) (search needs) (search needs) (search needs) (search needs) (search needs)
+    (search needs) (search needs) (search needs) (search needs)
+    returns
+    returns-2
+    returns-3)

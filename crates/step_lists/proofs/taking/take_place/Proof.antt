@@ -12,21 +12,6 @@ use Rattle.step_lists.proofs.Instances.{place-taken, place-left}
 use Rattle.step_lists.proofs.taking.take_place.Statement.{statement}
 use Rattle.step_lists.proofs.taking.take_place.Tie as tie
 
-digit-mask-requires : tie.Need-digit-mask-requires
-digit-mask-requires c κs = search needs
-
-is-confined-requires : tie.Need-is-confined-requires
-is-confined-requires c κs = search needs
-
-lose-digit-requires : tie.Need-lose-digit-requires
-lose-digit-requires c κs = search needs
-
-unit-cell-requires : tie.Need-unit-cell-requires
-unit-cell-requires c κs = search needs
-
-lose-at-requires : tie.Need-lose-at-requires
-lose-at-requires c κs = search needs
-
 -- what is tested
 tested : (c : tie.After-is-confined) → c .is-confined .result ≡ confinedTo (c .before .before .before .args .masks .now) (c .before .before .before .args .unit) (c .before .before .before .args .digit) (single (c .before .before .before .args .place))
 tested c =
@@ -51,4 +36,5 @@ returns-2 c =
     place-left (a .givens .now) (a .masks .now) (a .unit) (a .digit) (a .place) (start .pre .0) (start .pre .2) (sym (tested (c .before)) ∙ c .if1 .left)
 
 pub take-place-spec : {M : Type 1} → statement M
-take-place-spec = tie.close (tie.spec digit-mask-requires is-confined-requires lose-digit-requires unit-cell-requires lose-at-requires returns returns-2)
+take-place-spec =
+    tie.close (tie.spec (search needs) (search needs) (search needs) (search needs) (search needs) returns returns-2)

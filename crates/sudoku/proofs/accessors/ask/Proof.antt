@@ -19,28 +19,10 @@ use Rattle.sudoku.proofs.Fitting.{passing-fits, few-clues}
 use Rattle.sudoku.proofs.accessors.ask.Statement.{statement}
 use Rattle.sudoku.proofs.accessors.ask.Tie as tie
 
-clue-count-requires : tie.Need-clue-count-requires
-clue-count-requires c κs = search needs
-
 of-counting-requires : tie.Need-of-counting-requires
 of-counting-requires c κs =
     let b = boardOf (c .before .before .args .board) in
     subst (λ (a : Answer ℕ). Fitting (map pos a)) (sym (c .clue-count .ensures)) (passing-fits (checkOf b) (few-clues (givensOf (b .clues))))
-
-verdict-requires : tie.Need-verdict-requires
-verdict-requires c κs = search needs
-
-of-verdict-requires : tie.Need-of-verdict-requires
-of-verdict-requires c κs = search needs
-
-cell-mask-requires : tie.Need-cell-mask-requires
-cell-mask-requires c κs = search needs
-
-of-cell-mask-requires : tie.Need-of-cell-mask-requires
-of-cell-mask-requires c κs = search needs
-
-of-unknown-requires : tie.Need-of-unknown-requires
-of-unknown-requires c κs = search needs
 
 returns : tie.Need-returns
 returns c =
@@ -79,13 +61,9 @@ pub ask-spec : {M : Type 1} → statement M
 ask-spec =
     tie.close
     (tie.spec
-    clue-count-requires
+    (search needs)
     of-counting-requires
-    verdict-requires
-    of-verdict-requires
-    cell-mask-requires
-    of-cell-mask-requires
-    of-unknown-requires
+    (search needs) (search needs) (search needs) (search needs) (search needs)
     returns
     returns-2
     returns-3

@@ -11,21 +11,6 @@ use borrow.Author.Needs.{needs}
 use Rattle.sudoku.proofs.accessors.of_cell_mask.Statement.{statement}
 use Rattle.sudoku.proofs.accessors.of_cell_mask.Tie as tie
 
-enum-known-found : tie.Need-enum-known-found
-enum-known-found c = search needs
-
-of-stop-requires : tie.Need-of-stop-requires
-of-stop-requires c κs = search needs
-
-enum-known-found-2 : tie.Need-enum-known-found-2
-enum-known-found-2 c = search needs
-
-cast-of-given : tie.Need-cast-of-given
-cast-of-given c = search needs
-
-of-given-requires : tie.Need-of-given-requires
-of-given-requires c κs = search needs
-
 returns : tie.Need-returns
 returns c = c .of-stop .ensures ∙ ap (λ (w : CellMask). coded (map pos (cellMaskAnswer w)) 0) (sym (c .before .before .found .given .1))
 
@@ -36,12 +21,4 @@ returns-2 c =
 
 pub of-cell-mask-spec : {M : Type 1} → statement M
 of-cell-mask-spec =
-    tie.close
-    (tie.spec
-    enum-known-found
-    of-stop-requires
-    enum-known-found-2
-    cast-of-given
-    of-given-requires
-    returns
-    returns-2)
+    tie.close (tie.spec (search needs) (search needs) (search needs) (search needs) (search needs) returns returns-2)

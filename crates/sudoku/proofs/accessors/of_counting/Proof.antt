@@ -10,15 +10,6 @@ use borrow.Author.Needs.{needs}
 use Rattle.sudoku.proofs.accessors.of_counting.Statement.{statement}
 use Rattle.sudoku.proofs.accessors.of_counting.Tie as tie
 
-enum-known-counting : tie.Need-enum-known-counting
-enum-known-counting c = search needs
-
-of-stop-requires : tie.Need-of-stop-requires
-of-stop-requires c κs = search needs
-
-enum-known-counting-2 : tie.Need-enum-known-counting-2
-enum-known-counting-2 c = search needs
-
 of-count-requires : tie.Need-of-count-requires
 of-count-requires c κs = subst (λ (w : Counting). Fitting (map pos (countingAnswer w))) (c .before .counting2 .given .1) (c .before .before .before .pre)
 
@@ -30,11 +21,4 @@ returns-2 c = c .of-count .ensures ∙ ap (λ (w : Counting). coded (map pos (co
 
 pub of-counting-spec : {M : Type 1} → statement M
 of-counting-spec =
-    tie.close
-    (tie.spec
-    enum-known-counting
-    of-stop-requires
-    enum-known-counting-2
-    of-count-requires
-    returns
-    returns-2)
+    tie.close (tie.spec (search needs) (search needs) (search needs) of-count-requires returns returns-2)

@@ -11,21 +11,6 @@ use borrow.Author.Needs.{needs}
 use Rattle.sudoku.proofs.accessors.of_verdict.Statement.{statement}
 use Rattle.sudoku.proofs.accessors.of_verdict.Tie as tie
 
-enum-known-verdict : tie.Need-enum-known-verdict
-enum-known-verdict c = search needs
-
-of-stop-requires : tie.Need-of-stop-requires
-of-stop-requires c κs = search needs
-
-enum-known-verdict-2 : tie.Need-enum-known-verdict-2
-enum-known-verdict-2 c = search needs
-
-verdict-number-requires : tie.Need-verdict-number-requires
-verdict-number-requires c κs = search needs
-
-of-given-requires : tie.Need-of-given-requires
-of-given-requires c κs = search needs
-
 returns : tie.Need-returns
 returns c = c .of-stop .ensures ∙ ap (λ (w : BoardVerdict). coded (map verdictNumber (verdictAnswer w)) 0) (sym (c .before .before .verdict .given .1))
 
@@ -37,12 +22,4 @@ returns-2 c =
 
 pub of-verdict-spec : {M : Type 1} → statement M
 of-verdict-spec =
-    tie.close
-    (tie.spec
-    enum-known-verdict
-    of-stop-requires
-    enum-known-verdict-2
-    verdict-number-requires
-    of-given-requires
-    returns
-    returns-2)
+    tie.close (tie.spec (search needs) (search needs) (search needs) (search needs) (search needs) returns returns-2)

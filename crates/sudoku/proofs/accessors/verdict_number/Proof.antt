@@ -6,15 +6,6 @@ use borrow.Author.Needs.{needs}
 use Rattle.sudoku.proofs.accessors.verdict_number.Statement.{statement}
 use Rattle.sudoku.proofs.accessors.verdict_number.Tie as tie
 
-enum-told : tie.Need-enum-told
-enum-told c = search needs
-
-enum-told-2 : tie.Need-enum-told-2
-enum-told-2 c = search needs
-
-enum-told-3 : tie.Need-enum-told-3
-enum-told-3 c = search needs
-
 returns : tie.Need-returns
 returns c = ap verdictNumber (sym (c .enum-told .given .1))
 
@@ -26,4 +17,4 @@ returns-3 c = ap verdictNumber (sym (c .enum-told3 .given .1))
 
 pub verdict-number-spec : {M : Type 1} → statement M
 verdict-number-spec =
-    tie.close (tie.spec enum-told enum-told-2 enum-told-3 returns returns-2 returns-3)
+    tie.close (tie.spec (search needs) (search needs) (search needs) returns returns-2 returns-3)

@@ -9,9 +9,6 @@ use borrow.Author.Needs.{needs}
 use Rattle.sudoku.proofs.arrays.clue_number.Statement.{statement}
 use Rattle.sudoku.proofs.arrays.clue_number.Tie as tie
 
-count-clues-requires : tie.Need-count-clues-requires
-count-clues-requires c κs = search needs
-
 cast-result : tie.Need-cast-result
 cast-result c = place-fits (omega (arith, c .count-clues .ensures, few-clues (givensOf (c .before .args .clues .now))))
 
@@ -21,4 +18,5 @@ returns c =
     small (omega (arith, c .count-clues .ensures, few)) ∙ ap pos (c .count-clues .ensures)
 
 pub clue-number-spec : {M : Type 1} → statement M
-clue-number-spec = tie.close (tie.spec count-clues-requires cast-result returns)
+clue-number-spec =
+    tie.close (tie.spec (search needs) cast-result returns)

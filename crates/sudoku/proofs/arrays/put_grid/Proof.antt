@@ -8,15 +8,6 @@ use Rattle.sudoku.proofs.Cases.{coded-value}
 use Rattle.sudoku.proofs.arrays.put_grid.Statement.{statement}
 use Rattle.sudoku.proofs.arrays.put_grid.Tie as tie
 
-clue-number-requires : tie.Need-clue-number-requires
-clue-number-requires c κs = search needs
-
-of-check-requires : tie.Need-of-check-requires
-of-check-requires c κs = search needs
-
-put-clues-requires : tie.Need-put-clues-requires
-put-clues-requires c κs = search needs
-
 returns : tie.Need-returns
 returns c =
     let o = c .before .before in
@@ -28,4 +19,4 @@ returns c =
 
 pub put-grid-spec : {M : Type 1} → statement M
 put-grid-spec =
-    tie.close (tie.spec clue-number-requires of-check-requires put-clues-requires returns)
+    tie.close (tie.spec (search needs) (search needs) (search needs) returns)

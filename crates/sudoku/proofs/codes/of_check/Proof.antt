@@ -9,18 +9,6 @@ use borrow.Author.Needs.{needs}
 use Rattle.sudoku.proofs.codes.of_check.Statement.{statement}
 use Rattle.sudoku.proofs.codes.of_check.Tie as tie
 
-enum-known-check : tie.Need-enum-known-check
-enum-known-check c = search needs
-
-of-stop-requires : tie.Need-of-stop-requires
-of-stop-requires c κs = search needs
-
-enum-told : tie.Need-enum-told
-enum-told c = search needs
-
-of-given-requires : tie.Need-of-given-requires
-of-given-requires c κs = search needs
-
 returns : tie.Need-returns
 returns c =
     let s = c .before .before .before .before in
@@ -34,5 +22,4 @@ returns-2 c =
 
 pub of-check-spec : {M : Type 1} → statement M
 of-check-spec =
-    tie.close
-    (tie.spec enum-known-check of-stop-requires enum-told of-given-requires returns returns-2)
+    tie.close (tie.spec (search needs) (search needs) (search needs) (search needs) returns returns-2)

@@ -8,15 +8,6 @@ use Rattle.stops.proofs.Numbers.{small}
 use Rattle.sudoku.proofs.codes.of_digit.Statement.{statement}
 use Rattle.sudoku.proofs.codes.of_digit.Tie as tie
 
-cast-t4 : tie.Need-cast-t4
-cast-t4 c = search needs
-
-widened-requires : tie.Need-widened-requires
-widened-requires c κs = search needs
-
-cast-t6 : tie.Need-cast-t6
-cast-t6 c = search needs
-
 returns : tie.Need-returns
 returns c =
     let s = c .before in
@@ -24,4 +15,5 @@ returns c =
     four-same refl low (toZ-ofZ (record { sfits = c .widened .ok }) ∙ c .widened .ensures ∙ toZ-ofZ (s .fits .digit)) (small {n = s .args .mask} (omega (arith, s .fits .mask .fits)))
 
 pub of-digit-spec : {M : Type 1} → statement M
-of-digit-spec = tie.close (tie.spec cast-t4 widened-requires cast-t6 returns)
+of-digit-spec =
+    tie.close (tie.spec (search needs) (search needs) (search needs) returns)

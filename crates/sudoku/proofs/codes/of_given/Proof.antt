@@ -8,11 +8,9 @@ use Rattle.stops.proofs.Numbers.{small}
 use Rattle.sudoku.proofs.codes.of_given.Statement.{statement}
 use Rattle.sudoku.proofs.codes.of_given.Tie as tie
 
-cast-t3 : tie.Need-cast-t3
-cast-t3 c = search needs
-
 returns : tie.Need-returns
 returns c = four-same refl refl (toZ-ofZ (c .fits .value)) (small {n = c .args .mask} (omega (arith, c .fits .mask .fits)))
 
 pub of-given-spec : {M : Type 1} → statement M
-of-given-spec = tie.close (tie.spec cast-t3 returns)
+of-given-spec =
+    tie.close (tie.spec (search needs) returns)

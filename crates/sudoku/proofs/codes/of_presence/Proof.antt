@@ -8,24 +8,6 @@ use borrow.Author.Needs.{needs}
 use Rattle.sudoku.proofs.codes.of_presence.Statement.{statement}
 use Rattle.sudoku.proofs.codes.of_presence.Tie as tie
 
-enum-known-presence : tie.Need-enum-known-presence
-enum-known-presence c = search needs
-
-of-stop-requires : tie.Need-of-stop-requires
-of-stop-requires c κs = search needs
-
-enum-told : tie.Need-enum-told
-enum-told c = search needs
-
-of-given-requires : tie.Need-of-given-requires
-of-given-requires c κs = search needs
-
-enum-told-2 : tie.Need-enum-told-2
-enum-told-2 c = search needs
-
-of-given-requires-2 : tie.Need-of-given-requires-2
-of-given-requires-2 c κs = search needs
-
 returns : tie.Need-returns
 returns c =
     let m = c .before .before .before .before .args .mask in
@@ -45,12 +27,7 @@ pub of-presence-spec : {M : Type 1} → statement M
 of-presence-spec =
     tie.close
     (tie.spec
-    enum-known-presence
-    of-stop-requires
-    enum-told
-    of-given-requires
-    enum-told-2
-    of-given-requires-2
+    (search needs) (search needs) (search needs) (search needs) (search needs) (search needs)
     returns
     returns-2
     returns-3)

@@ -10,24 +10,6 @@ use Rattle.sudoku.specs.Sets.{singleCode}
 use Rattle.sudoku.proofs.codes.of_single.Statement.{statement}
 use Rattle.sudoku.proofs.codes.of_single.Tie as tie
 
-enum-known-single : tie.Need-enum-known-single
-enum-known-single c = search needs
-
-of-digit-requires : tie.Need-of-digit-requires
-of-digit-requires c κs = search needs
-
-enum-told : tie.Need-enum-told
-enum-told c = search needs
-
-of-digit-requires-2 : tie.Need-of-digit-requires-2
-of-digit-requires-2 c κs = search needs
-
-enum-told-2 : tie.Need-enum-told-2
-enum-told-2 c = search needs
-
-of-digit-requires-3 : tie.Need-of-digit-requires-3
-of-digit-requires-3 c κs = search needs
-
 returns : tie.Need-returns
 returns c =
     let found = c .before .before .single .given in
@@ -47,12 +29,7 @@ pub of-single-spec : {M : Type 1} → statement M
 of-single-spec =
     tie.close
     (tie.spec
-    enum-known-single
-    of-digit-requires
-    enum-told
-    of-digit-requires-2
-    enum-told-2
-    of-digit-requires-3
+    (search needs) (search needs) (search needs) (search needs) (search needs) (search needs)
     returns
     returns-2
     returns-3)

@@ -9,18 +9,6 @@ use borrow.Author.Needs.{needs}
 use Rattle.sudoku.proofs.codes.of_stop.Statement.{statement}
 use Rattle.sudoku.proofs.codes.of_stop.Tie as tie
 
-number-requires : tie.Need-number-requires
-number-requires c κs = search needs
-
-cast-t4 : tie.Need-cast-t4
-cast-t4 c = search needs
-
-detail-requires : tie.Need-detail-requires
-detail-requires c κs = search needs
-
-cast-t6 : tie.Need-cast-t6
-cast-t6 c = search needs
-
 returns : tie.Need-returns
 returns c =
     let n = c .before in
@@ -29,4 +17,5 @@ returns c =
     (small {n = s .args .mask} (omega (arith, s .fits .mask .fits)))
 
 pub of-stop-spec : {M : Type 1} → statement M
-of-stop-spec = tie.close (tie.spec number-requires cast-t4 detail-requires cast-t6 returns)
+of-stop-spec =
+    tie.close (tie.spec (search needs) (search needs) (search needs) (search needs) returns)

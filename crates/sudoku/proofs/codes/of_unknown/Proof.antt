@@ -7,11 +7,9 @@ use Rattle.stops.proofs.Numbers.{small}
 use Rattle.sudoku.proofs.codes.of_unknown.Statement.{statement}
 use Rattle.sudoku.proofs.codes.of_unknown.Tie as tie
 
-cast-t2 : tie.Need-cast-t2
-cast-t2 c = search needs
-
 returns : tie.Need-returns
 returns c = four-same refl (small {n = c .args .call} (omega (arith, c .fits .call .fits))) refl refl
 
 pub of-unknown-spec : {M : Type 1} → statement M
-of-unknown-spec = tie.close (tie.spec cast-t2 returns)
+of-unknown-spec =
+    tie.close (tie.spec (search needs) returns)

@@ -9,15 +9,6 @@ use borrow.Author.Needs.{needs}
 use Rattle.sudoku.proofs.codes.of_writing.Statement.{statement}
 use Rattle.sudoku.proofs.codes.of_writing.Tie as tie
 
-enum-known-writing : tie.Need-enum-known-writing
-enum-known-writing c = search needs
-
-of-stop-requires : tie.Need-of-stop-requires
-of-stop-requires c κs = search needs
-
-enum-known-writing-2 : tie.Need-enum-known-writing-2
-enum-known-writing-2 c = search needs
-
 of-count-requires : tie.Need-of-count-requires
 of-count-requires c κs = subst (λ (w : Writing). Fitting (map pos (writingAnswer w))) (c .before .writing2 .given .1) (c .before .before .before .pre)
 
@@ -29,11 +20,4 @@ returns-2 c = c .of-count .ensures ∙ ap (λ (w : Writing). coded (map pos (wri
 
 pub of-writing-spec : {M : Type 1} → statement M
 of-writing-spec =
-    tie.close
-    (tie.spec
-    enum-known-writing
-    of-stop-requires
-    enum-known-writing-2
-    of-count-requires
-    returns
-    returns-2)
+    tie.close (tie.spec (search needs) (search needs) (search needs) of-count-requires returns returns-2)

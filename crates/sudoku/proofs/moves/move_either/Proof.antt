@@ -8,12 +8,6 @@ use Rattle.sudoku.specs.Records.{movedFrom}
 use Rattle.sudoku.proofs.moves.move_either.Statement.{statement}
 use Rattle.sudoku.proofs.moves.move_either.Tie as tie
 
-move-back-requires : tie.Need-move-back-requires
-move-back-requires c κs = search needs
-
-same-length : tie.Need-same-length
-same-length c = search needs
-
 returns : tie.Need-returns
 returns c =
     let m = c .before .before in
@@ -23,12 +17,6 @@ returns c =
       m .move-back .ensures .0 ∙ ap (λ (b : Bool). moveOf (movedFrom b) (a .bytes .now) (length (a .moved .now))) is,
       m .move-back .ensures .1 ∙ ap (λ (b : Bool). moveWritten (movedFrom b) (a .bytes .now) (a .moved .now)) is,
     )
-
-move-record-requires : tie.Need-move-record-requires
-move-record-requires c κs = search needs
-
-same-length-2 : tie.Need-same-length-2
-same-length-2 c = search needs
 
 returns-2 : tie.Need-returns-2
 returns-2 c =
@@ -42,5 +30,4 @@ returns-2 c =
 
 pub move-either-spec : {M : Type 1} → statement M
 move-either-spec =
-    tie.close
-    (tie.spec move-back-requires same-length returns move-record-requires same-length-2 returns-2)
+    tie.close (tie.spec (search needs) (search needs) returns (search needs) (search needs) returns-2)

@@ -12,15 +12,6 @@ use Rattle.sudoku.proofs.Numbers.{four-same}
 use Rattle.sudoku.proofs.ratings.of_rating.Statement.{statement}
 use Rattle.sudoku.proofs.ratings.of_rating.Tie as tie
 
-enum-known-rating : tie.Need-enum-known-rating
-enum-known-rating c = search needs
-
-of-stop-requires : tie.Need-of-stop-requires
-of-stop-requires c κs = search needs
-
-enum-known-rating-2 : tie.Need-enum-known-rating-2
-enum-known-rating-2 c = search needs
-
 -- the three numbers of a figure fit
 fits : (c : tie.After-rating2) → FigureFits (gives (figureIn (c .rating2 .given .0 .0)))
 fits c = subst (λ (x : Rating). FigureFits (ratingAnswer x)) (c .rating2 .given .1) (c .before .before .pre)
@@ -46,13 +37,4 @@ returns-2 c =
 
 pub of-rating-spec : {M : Type 1} → statement M
 of-rating-spec =
-    tie.close
-    (tie.spec
-    enum-known-rating
-    of-stop-requires
-    enum-known-rating-2
-    cast-t5
-    cast-t6
-    cast-t7
-    returns
-    returns-2)
+    tie.close (tie.spec (search needs) (search needs) (search needs) cast-t5 cast-t6 cast-t7 returns returns-2)

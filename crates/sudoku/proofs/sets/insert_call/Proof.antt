@@ -10,12 +10,6 @@ use Rattle.stops.specs.Answer.{Answer, map}
 use Rattle.sudoku.proofs.sets.insert_call.Statement.{statement}
 use Rattle.sudoku.proofs.sets.insert_call.Tie as tie
 
-insert-requires : tie.Need-insert-requires
-insert-requires c κs = search needs
-
-of-check-requires : tie.Need-of-check-requires
-of-check-requires c κs = search needs
-
 returns : tie.Need-returns
 returns c =
     let s = c .before .before in
@@ -23,4 +17,5 @@ returns c =
     ∙ ap (λ (z : ℤ). coded (map noNumber (insertOf z)) (inserted (s .args .mask) z)) (toZ-ofZ (s .fits .digit))
 
 pub insert-call-spec : {M : Type 1} → statement M
-insert-call-spec = tie.close (tie.spec insert-requires of-check-requires returns)
+insert-call-spec =
+    tie.close (tie.spec (search needs) (search needs) returns)

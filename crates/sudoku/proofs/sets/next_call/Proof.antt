@@ -12,21 +12,6 @@ use Rattle.sudoku.proofs.Calls.{stepped}
 use Rattle.sudoku.proofs.sets.next_call.Statement.{statement}
 use Rattle.sudoku.proofs.sets.next_call.Tie as tie
 
-next-requires : tie.Need-next-requires
-next-requires c κs = search needs
-
-enum-known-found : tie.Need-enum-known-found
-enum-known-found c = search needs
-
-of-digit-requires : tie.Need-of-digit-requires
-of-digit-requires c κs = search needs
-
-enum-told : tie.Need-enum-told
-enum-told c = search needs
-
-of-digit-requires-2 : tie.Need-of-digit-requires-2
-of-digit-requires-2 c κs = search needs
-
 returns : tie.Need-returns
 returns c =
     let s = c .before .before .before .before .before in
@@ -44,4 +29,5 @@ returns-2 c =
     ∙ ap (nextCode (s .args .mask) (s .args .place)) (c .before .before .before .next .ensures) ∙ stepped (s .args .mask) (s .args .place)
 
 pub next-call-spec : {M : Type 1} → statement M
-next-call-spec = tie.close (tie.spec next-requires enum-known-found of-digit-requires enum-told of-digit-requires-2 returns returns-2)
+next-call-spec =
+    tie.close (tie.spec (search needs) (search needs) (search needs) (search needs) (search needs) returns returns-2)

@@ -11,12 +11,6 @@ use Rattle.stops.specs.Answer.{Answer, map}
 use Rattle.sudoku.proofs.sets.remove_call.Statement.{statement}
 use Rattle.sudoku.proofs.sets.remove_call.Tie as tie
 
-remove-requires : tie.Need-remove-requires
-remove-requires c κs = search needs
-
-of-presence-requires : tie.Need-of-presence-requires
-of-presence-requires c κs = search needs
-
 returns : tie.Need-returns
 returns c =
     let s = c .before .before in
@@ -24,4 +18,5 @@ returns c =
     ∙ ap (λ (z : ℤ). coded (map testNumber (containsOf (s .args .mask) z)) (removed (s .args .mask) z)) (toZ-ofZ (s .fits .digit))
 
 pub remove-call-spec : {M : Type 1} → statement M
-remove-call-spec = tie.close (tie.spec remove-requires of-presence-requires returns)
+remove-call-spec =
+    tie.close (tie.spec (search needs) (search needs) returns)

@@ -20,77 +20,11 @@ use Rattle.sudoku.proofs.Calls.{called, not-called}
 use Rattle.sudoku.proofs.sets.set_call.Statement.{statement}
 use Rattle.sudoku.proofs.sets.set_call.Tie as tie
 
-new-requires : tie.Need-new-requires
-new-requires c κs = search needs
-
-of-given-requires : tie.Need-of-given-requires
-of-given-requires c κs = search needs
-
-full-requires : tie.Need-full-requires
-full-requires c κs = search needs
-
-of-given-requires-2 : tie.Need-of-given-requires-2
-of-given-requires-2 c κs = search needs
-
-single-requires : tie.Need-single-requires
-single-requires c κs = search needs
-
-of-new-requires : tie.Need-of-new-requires
-of-new-requires c κs = search needs
-
-contains-requires : tie.Need-contains-requires
-contains-requires c κs = search needs
-
-of-presence-requires : tie.Need-of-presence-requires
-of-presence-requires c κs = search needs
-
-insert-call-requires : tie.Need-insert-call-requires
-insert-call-requires c κs = search needs
-
-remove-call-requires : tie.Need-remove-call-requires
-remove-call-requires c κs = search needs
-
-clear-requires : tie.Need-clear-requires
-clear-requires c κs = search needs
-
-of-given-requires-3 : tie.Need-of-given-requires-3
-of-given-requires-3 c κs = search needs
-
-len-requires : tie.Need-len-requires
-len-requires c κs = search needs
-
 small-count : (m : ℕ) → count (lowNine m) < 2 ^ 63
 small-count m = omega (arith, ones-le 9 (lowNine m) (omega arith))
 
 cast-of-given : tie.Need-cast-of-given
 cast-of-given c = record { sfits = omega (arith, c .len .ensures, small-count (c .before .before .args .mask)) }
-
-of-given-requires-4 : tie.Need-of-given-requires-4
-of-given-requires-4 c κs = search needs
-
-is-empty-requires : tie.Need-is-empty-requires
-is-empty-requires c κs = search needs
-
-of-test-requires : tie.Need-of-test-requires
-of-test-requires c κs = search needs
-
-of-given-requires-5 : tie.Need-of-given-requires-5
-of-given-requires-5 c κs = search needs
-
-single-candidate-requires : tie.Need-single-candidate-requires
-single-candidate-requires c κs = search needs
-
-of-single-requires : tie.Need-of-single-requires
-of-single-requires c κs = search needs
-
-iter-requires : tie.Need-iter-requires
-iter-requires c κs = search needs
-
-of-given-requires-6 : tie.Need-of-given-requires-6
-of-given-requires-6 c κs = search needs
-
-of-unknown-requires : tie.Need-of-unknown-requires
-of-unknown-requires c κs = search needs
 
 returns : tie.Need-returns
 returns c =
@@ -182,29 +116,11 @@ pub set-call-spec : {M : Type 1} → statement M
 set-call-spec =
     tie.close
     (tie.spec
-    new-requires
-    of-given-requires
-    full-requires
-    of-given-requires-2
-    single-requires
-    of-new-requires
-    contains-requires
-    of-presence-requires
-    insert-call-requires
-    remove-call-requires
-    clear-requires
-    of-given-requires-3
-    len-requires
+    (search needs) (search needs) (search needs) (search needs) (search needs) (search needs) (search needs)
+    (search needs) (search needs) (search needs) (search needs) (search needs) (search needs)
     cast-of-given
-    of-given-requires-4
-    is-empty-requires
-    of-test-requires
-    of-given-requires-5
-    single-candidate-requires
-    of-single-requires
-    iter-requires
-    of-given-requires-6
-    of-unknown-requires
+    (search needs) (search needs) (search needs) (search needs) (search needs) (search needs) (search needs)
+    (search needs) (search needs)
     returns
     returns-2
     returns-3

@@ -11,18 +11,6 @@ use Rattle.sudoku.proofs.Numbers.{four-same}
 use Rattle.sudoku.proofs.settlings.of_settling.Statement.{statement}
 use Rattle.sudoku.proofs.settlings.of_settling.Tie as tie
 
-enum-known-settling : tie.Need-enum-known-settling
-enum-known-settling c = search needs
-
-of-stop-requires : tie.Need-of-stop-requires
-of-stop-requires c κs = search needs
-
-enum-known-settling-2 : tie.Need-enum-known-settling-2
-enum-known-settling-2 c = search needs
-
-cast-t7 : tie.Need-cast-t7
-cast-t7 c = search needs
-
 cast-t8 : tie.Need-cast-t8
 cast-t8 c = subst (λ (x : Settling). CountsFit (settlingAnswer x)) (c .before .settling2 .given .1) (c .before .before .before .pre .0) .0
 
@@ -44,13 +32,4 @@ returns-2 c =
 
 pub of-settling-spec : {M : Type 1} → statement M
 of-settling-spec =
-    tie.close
-    (tie.spec
-    enum-known-settling
-    of-stop-requires
-    enum-known-settling-2
-    cast-t7
-    cast-t8
-    cast-t9
-    returns
-    returns-2)
+    tie.close (tie.spec (search needs) (search needs) (search needs) (search needs) cast-t8 cast-t9 returns returns-2)

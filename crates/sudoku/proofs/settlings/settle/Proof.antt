@@ -15,9 +15,6 @@ use Rattle.sudoku.proofs.SettledParts.{counts-fit, steps-fit, settle-co
 use Rattle.sudoku.proofs.settlings.settle.Statement.{statement}
 use Rattle.sudoku.proofs.settlings.settle.Tie as tie
 
-apply-settling-requires : tie.Need-apply-settling-requires
-apply-settling-requires c κs = search needs
-
 of-settling-requires : tie.Need-of-settling-requires
 of-settling-requires c κs =
     let d = c .before .before .before in
@@ -27,12 +24,6 @@ of-settling-requires c κs =
       subst (λ (k : Answer Counts). CountsFit k) (sym (hands .counts)) (counts-fit b (omega arith) (omega arith) (omega arith)),
       subst (λ (n : ℕ). SFits w64 (pos n)) (sym (hands .stepCount)) (steps-fit b (omega arith) (omega arith) (omega arith)),
     )
-
-put-steps-requires : tie.Need-put-steps-requires
-put-steps-requires c κs = search needs
-
-put-counts-requires : tie.Need-put-counts-requires
-put-counts-requires c κs = search needs
 
 returns : tie.Need-returns
 returns c =
@@ -52,4 +43,4 @@ returns c =
 
 pub settle-spec : {M : Type 1} → statement M
 settle-spec =
-    tie.close (tie.spec apply-settling-requires of-settling-requires put-steps-requires put-counts-requires returns)
+    tie.close (tie.spec (search needs) of-settling-requires (search needs) (search needs) returns)

@@ -19,21 +19,6 @@ fits c =
     let s = c .before .before .before in
     subst (λ (x : Replaying). RunFits (replayingAnswer x (boardOf (s .args .board)))) (c .before .replaying2 .given .1) (s .pre)
 
-enum-known-replaying : tie.Need-enum-known-replaying
-enum-known-replaying c = search needs
-
-of-stop-requires : tie.Need-of-stop-requires
-of-stop-requires c κs = search needs
-
-enum-told : tie.Need-enum-told
-enum-told c = search needs
-
-of-given-requires : tie.Need-of-given-requires
-of-given-requires c κs = search needs
-
-enum-known-replaying-2 : tie.Need-enum-known-replaying-2
-enum-known-replaying-2 c = search needs
-
 cast-t6 : tie.Need-cast-t6
 cast-t6 c = fits c
 
@@ -56,11 +41,7 @@ pub of-replaying-spec : {M : Type 1} → statement M
 of-replaying-spec =
     tie.close
     (tie.spec
-    enum-known-replaying
-    of-stop-requires
-    enum-told
-    of-given-requires
-    enum-known-replaying-2
+    (search needs) (search needs) (search needs) (search needs) (search needs)
     cast-t6
     returns
     returns-2

@@ -7,24 +7,6 @@ use Rattle.sudoku.specs.code.Parts.{partsCode}
 use Rattle.sudoku.proofs.step_calls.of_stepping.Statement.{statement}
 use Rattle.sudoku.proofs.step_calls.of_stepping.Tie as tie
 
-enum-known-stepping : tie.Need-enum-known-stepping
-enum-known-stepping c = search needs
-
-of-stop-requires : tie.Need-of-stop-requires
-of-stop-requires c κs = search needs
-
-enum-known-stepping-2 : tie.Need-enum-known-stepping-2
-enum-known-stepping-2 c = search needs
-
-of-values-requires : tie.Need-of-values-requires
-of-values-requires c κs = search needs
-
-enum-told : tie.Need-enum-told
-enum-told c = search needs
-
-of-unknown-requires : tie.Need-of-unknown-requires
-of-unknown-requires c κs = search needs
-
 returns : tie.Need-returns
 returns c =
     let a = c .before .before .before .before .args in
@@ -44,12 +26,7 @@ pub of-stepping-spec : {M : Type 1} → statement M
 of-stepping-spec =
     tie.close
     (tie.spec
-    enum-known-stepping
-    of-stop-requires
-    enum-known-stepping-2
-    of-values-requires
-    enum-told
-    of-unknown-requires
+    (search needs) (search needs) (search needs) (search needs) (search needs) (search needs)
     returns
     returns-2
     returns-3)

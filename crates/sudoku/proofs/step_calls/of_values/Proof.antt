@@ -9,20 +9,11 @@ use Rattle.sudoku.proofs.Numbers.{four-same}
 use Rattle.sudoku.proofs.step_calls.of_values.Statement.{statement}
 use Rattle.sudoku.proofs.step_calls.of_values.Tie as tie
 
-cast-t6 : tie.Need-cast-t6
-cast-t6 c = search needs
-
-cast-t7 : tie.Need-cast-t7
-cast-t7 c = search needs
-
 returns : tie.Need-returns
 returns c =
     let s = c .before in
     four-same refl refl (toZ-pos w64 (s .pre .0 .sfits)) (toZ-pos w64 (s .pre .1 .sfits))
     ∙ sym (cond-true _ _ _ (eq-eqb (s .args .number) 12 (c .if1 .taken)))
-
-of-test-requires : tie.Need-of-test-requires
-of-test-requires c κs = search needs
 
 returns-2 : tie.Need-returns-2
 returns-2 c =
@@ -32,4 +23,5 @@ returns-2 c =
     ∙ sym (cond-false _ _ _ (ne-eqb (s .args .number) 12 (f .if1 .left)))
 
 pub of-values-spec : {M : Type 1} → statement M
-of-values-spec = tie.close (tie.spec cast-t6 cast-t7 returns of-test-requires returns-2)
+of-values-spec =
+    tie.close (tie.spec (search needs) (search needs) returns (search needs) returns-2)

@@ -28,9 +28,6 @@ room n = go (ltb n 324) refl
     go true e = omega (arith, ltb-true n 324 e)
     go false e = omega arith
 
-used-requires : tie.Need-used-requires Inv-loop μ-loop
-used-requires c κs = search needs
-
 loop-holds : tie.Need-loop-holds Inv-loop μ-loop
 loop-holds c =
     let u = c .before in
@@ -41,33 +38,6 @@ loop-holds c =
       omega (arith, u .used .ensures, room (a .reports)),
       ap (λ (k : ℕ). each (putReport (a .cells .now) (a .digits .now)) (range k 0) (replicate 648 0)) all,
     )
-
-element-copy-out-bytes : tie.Need-element-copy-out-bytes Inv-loop μ-loop
-element-copy-out-bytes c = omega arith
-
-mul-bytes : tie.Need-mul-bytes Inv-loop μ-loop
-mul-bytes c = omega arith
-
-element-write-bytes : tie.Need-element-write-bytes Inv-loop μ-loop
-element-write-bytes c = omega arith
-
-element-copy-out-bytes-2 : tie.Need-element-copy-out-bytes-2 Inv-loop μ-loop
-element-copy-out-bytes-2 c = omega arith
-
-mul-bytes-2 : tie.Need-mul-bytes-2 Inv-loop μ-loop
-mul-bytes-2 c = omega arith
-
-add-bytes : tie.Need-add-bytes Inv-loop μ-loop
-add-bytes c = omega arith
-
-element-write-bytes-2 : tie.Need-element-write-bytes-2 Inv-loop μ-loop
-element-write-bytes-2 c = omega arith
-
-add-report : tie.Need-add-report Inv-loop μ-loop
-add-report c = omega arith
-
-loop-less : tie.Need-loop-less Inv-loop μ-loop
-loop-less c = omega arith
 
 loop-again : tie.Need-loop-again Inv-loop μ-loop
 loop-again c =
@@ -94,16 +64,9 @@ put-bytes-spec =
     (tie.spec
     Inv-loop
     μ-loop
-    used-requires
+    (search needs)
     loop-holds
-    element-copy-out-bytes
-    mul-bytes
-    element-write-bytes
-    element-copy-out-bytes-2
-    mul-bytes-2
-    add-bytes
-    element-write-bytes-2
-    add-report
-    loop-less
+    (λ c. omega arith) (λ c. omega arith) (λ c. omega arith) (λ c. omega arith) (λ c. omega arith) (λ c. omega arith)
+    (λ c. omega arith) (λ c. omega arith) (λ c. omega arith)
     loop-again
     returns)

@@ -47,12 +47,6 @@ module _ (n : ℕ) (b : S.Board) (r : Quiet) (tells : TellsBack r (quietAnswer n
       ap₂ (λ (x : List ℕ) (f : Option (Answer Bool)). partsKept f x lent) (no-bytes ∙ ap (λ (rs : List Report). reportBytes (reportsOf rs)) (quiet-reports n b)) (tells .flag)
       ∙ parts-bytes (quietAnswer n b) lent
 
-whole-requires : tie.Need-whole-requires
-whole-requires c κs = search needs
-
-quiet-step-requires : tie.Need-quiet-step-requires
-quiet-step-requires c κs = search needs
-
 of-stepping-requires : tie.Need-of-stepping-requires
 of-stepping-requires c κs =
     let w = c .before .before in
@@ -61,9 +55,6 @@ of-stepping-requires c κs =
     let tells = c .quiet-step .ensures .0 in
     let fits = quiet-fits (handed (a .clues .now) (a .entries .now) (a .masks .now)) (full .0) (full .1) (full .2) (a .number) in
     (subst (λ (k : ℕ). SFits w64 (pos k)) (sym (tells .sweeps)) (fits .0), subst (λ (k : ℕ). SFits w64 (pos k)) (sym (tells .removed)) (fits .1))
-
-clear-reports-requires : tie.Need-clear-reports-requires
-clear-reports-requires c κs = search needs
 
 returns : tie.Need-returns
 returns c =
@@ -80,5 +71,4 @@ returns c =
 
 pub quiet-spec : {M : Type 1} → statement M
 quiet-spec =
-    tie.close
-    (tie.spec whole-requires quiet-step-requires of-stepping-requires clear-reports-requires returns)
+    tie.close (tie.spec (search needs) (search needs) of-stepping-requires (search needs) returns)

@@ -66,29 +66,11 @@ module _ (s : Search) (b : S.Board) where
       bytes : (lent : List ℕ) → partsKept (some f) (reportBytes (stored xs ys n)) lent ≡ valueOr lent (map outcomeBytes said)
       bytes lent = ap₂ (λ (q : Reports) (f : Answer Bool). partsKept (some f) (reportBytes q) lent) list flag ∙ parts-bytes (some said) lent
 
-report-handed-requires : tie.Need-report-handed-requires
-report-handed-requires c κs = search needs
-
-enum-known-progress : tie.Need-enum-known-progress
-enum-known-progress c = search needs
-
-of-stop-requires : tie.Need-of-stop-requires
-of-stop-requires c κs = search needs
-
-enum-known-progress-2 : tie.Need-enum-known-progress-2
-enum-known-progress-2 c = search needs
-
-of-test-requires : tie.Need-of-test-requires
-of-test-requires c κs = search needs
-
 cast-t19 : tie.Need-cast-t19
 cast-t19 c =
     let r = c .before .before .before .before in
     let a = r .before .before .before .before .args in
     fits (a .search) (handed (a .clues .now) (a .entries .now) (a .masks .now)) (r .report-handed .ensures .1 .0)
-
-put-bytes-requires : tie.Need-put-bytes-requires
-put-bytes-requires c κs = search needs
 
 returns : tie.Need-returns
 returns c =
@@ -119,12 +101,8 @@ pub reporting-spec : {M : Type 1} → statement M
 reporting-spec =
     tie.close
     (tie.spec
-    report-handed-requires
-    enum-known-progress
-    of-stop-requires
-    enum-known-progress-2
-    of-test-requires
+    (search needs) (search needs) (search needs) (search needs) (search needs)
     cast-t19
-    put-bytes-requires
+    (search needs)
     returns
     returns-2)

@@ -36,18 +36,6 @@ by-report : (k : Call) (n : ℕ) (b : S.Board) {code : List ℤ} {masks bytes : 
     → (code ≡ answerCode n (stepAnswer n b)) × (masks ≡ stepLeft b (stepAnswer n b) .masks) × (bytes ≡ outcomeOr lent outcomeBytes (stepAnswer n b))
 by-report k n b lent other is e = told n b lent is (e .0 ∙ reported n other (answer k b), e .1, e .2)
 
-reporting-requires : tie.Need-reporting-requires
-reporting-requires c κs = search needs
-
-reporting-requires-2 : tie.Need-reporting-requires-2
-reporting-requires-2 c κs = search needs
-
-reporting-requires-3 : tie.Need-reporting-requires-3
-reporting-requires-3 c κs = search needs
-
-quiet-requires : tie.Need-quiet-requires
-quiet-requires c κs = search needs
-
 returns : tie.Need-returns
 returns c =
     let m = c .before .before .before .before in
@@ -81,10 +69,7 @@ pub step-spec : {M : Type 1} → statement M
 step-spec =
     tie.close
     (tie.spec
-    reporting-requires
-    reporting-requires-2
-    reporting-requires-3
-    quiet-requires
+    (search needs) (search needs) (search needs) (search needs)
     returns
     returns-2
     returns-3

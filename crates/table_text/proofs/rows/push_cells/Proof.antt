@@ -23,18 +23,6 @@ abbrev μ-loop : tie.MeasureT-loop
 loop-holds : tie.Need-loop-holds Inv-loop μ-loop
 loop-holds c = (omega arith, whole (c .args .scope) (tape (c .args .text .now) (c .args .at)))
 
-in-scope-requires : tie.Need-in-scope-requires Inv-loop μ-loop
-in-scope-requires c κs = search needs
-
-push-entry-requires : tie.Need-push-entry-requires Inv-loop μ-loop
-push-entry-requires c κs = omega arith
-
-add-cell : tie.Need-add-cell Inv-loop μ-loop
-add-cell c = omega arith
-
-loop-less : tie.Need-loop-less Inv-loop μ-loop
-loop-less c = omega arith
-
 loop-again : tie.Need-loop-again Inv-loop μ-loop
 loop-again c =
     let l = c .before .before .before in
@@ -60,9 +48,6 @@ push-cells-spec =
     Inv-loop
     μ-loop
     loop-holds
-    in-scope-requires
-    push-entry-requires
-    add-cell
-    loop-less
+    (search needs) (λ c. omega arith) (λ c. omega arith) (λ c. omega arith)
     loop-again
     returns)

@@ -10,24 +10,12 @@ use Rattle.output.proofs.Tapes.{joined}
 use Rattle.table_text.proofs.rows.push_entry.Statement.{statement}
 use Rattle.table_text.proofs.rows.push_entry.Tie as tie
 
-push-number-requires : tie.Need-push-number-requires
-push-number-requires c κs = search needs
-
 returns : tie.Need-returns
 unfolding entry
 returns c =
     let then = c .before .before in
     let a = then .before .args in
     c .push-number .ensures ∙ ap (λ (first : Bool). append 7515 (entry first (a .n)) (tape (a .text .now) (a .at))) (sym (then .if1 .taken))
-
-slice-aggregate-push-word : tie.Need-slice-aggregate-push-word
-slice-aggregate-push-word c = search needs
-
-push-word-requires : tie.Need-push-word-requires
-push-word-requires c κs = search needs
-
-push-number-requires-2 : tie.Need-push-number-requires-2
-push-number-requires-2 c κs = search needs
 
 returns-2 : tie.Need-returns-2
 unfolding entry
@@ -40,11 +28,4 @@ returns-2 c =
 
 pub push-entry-spec : {M : Type 1} → statement M
 push-entry-spec =
-    tie.close
-    (tie.spec
-    push-number-requires
-    returns
-    slice-aggregate-push-word
-    push-word-requires
-    push-number-requires-2
-    returns-2)
+    tie.close (tie.spec (search needs) returns (search needs) (search needs) (search needs) returns-2)

@@ -8,18 +8,6 @@ use Rattle.table_text.proofs.Texts.{row-joined}
 use Rattle.table_text.proofs.rows.push_row.Statement.{statement}
 use Rattle.table_text.proofs.rows.push_row.Tie as tie
 
-push-requires : tie.Need-push-requires
-push-requires c κs = search needs
-
-push-cells-requires : tie.Need-push-cells-requires
-push-cells-requires c κs = search needs
-
-slice-aggregate-push-word : tie.Need-slice-aggregate-push-word
-slice-aggregate-push-word c = search needs
-
-push-word-requires : tie.Need-push-word-requires
-push-word-requires c κs = search needs
-
 returns : tie.Need-returns
 returns c =
     let cells = c .before .before .before in
@@ -30,10 +18,4 @@ returns c =
 
 pub push-row-spec : {M : Type 1} → statement M
 push-row-spec =
-    tie.close
-    (tie.spec
-    push-requires
-    push-cells-requires
-    slice-aggregate-push-word
-    push-word-requires
-    returns)
+    tie.close (tie.spec (search needs) (search needs) (search needs) (search needs) returns)

@@ -10,12 +10,6 @@ use Rattle.output.specs.code.Tapes.{tape, pushed}
 use Rattle.table_text.proofs.words.push.Statement.{statement}
 use Rattle.table_text.proofs.words.push.Tie as tie
 
-element-write-text : tie.Need-element-write-text
-element-write-text c = search needs
-
-add-result : tie.Need-add-result
-add-result c = search needs
-
 returns : tie.Need-returns
 unfolding pushed
 returns c =
@@ -29,4 +23,5 @@ returns-2 c =
     sym (cond-false (ltb (a .at) 7515) (tape (set (a .text .now) (a .at) (a .byte)) (a .at + 1)) (tape (a .text .now) (a .at)) (le-ltb (a .at) 7515 (c .if1 .left)))
 
 pub push-spec : {M : Type 1} → statement M
-push-spec = tie.close (tie.spec element-write-text add-result returns returns-2)
+push-spec =
+    tie.close (tie.spec (search needs) (search needs) returns returns-2)

@@ -11,29 +11,11 @@ use Rattle.table_text.proofs.Numbers.{two-digits}
 use Rattle.table_text.proofs.words.push_number.Statement.{statement}
 use Rattle.table_text.proofs.words.push_number.Tie as tie
 
-add-push : tie.Need-add-push
-add-push c = search needs
-
-push-requires : tie.Need-push-requires
-push-requires c κs = search needs
-
 returns : tie.Need-returns
 returns c =
     let small = c .before .before in
     let a = small .before .args in
     c .push .ensures ∙ append-one 7515 (digitByte (a .n)) (tape (a .text .now) (a .at)) ∙ ap (λ (bs : List ℕ). append 7515 bs (tape (a .text .now) (a .at))) (sym (decimal-one (a .n) (small .if1 .taken)))
-
-add-push-2 : tie.Need-add-push-2
-add-push-2 c = search needs
-
-push-requires-2 : tie.Need-push-requires-2
-push-requires-2 c κs = search needs
-
-add-push-3 : tie.Need-add-push-3
-add-push-3 c = search needs
-
-push-requires-3 : tie.Need-push-requires-3
-push-requires-3 c κs = search needs
 
 returns-2 : tie.Need-returns-2
 returns-2 c =
@@ -49,11 +31,7 @@ pub push-number-spec : {M : Type 1} → statement M
 push-number-spec =
     tie.close
     (tie.spec
-    add-push
-    push-requires
+    (search needs) (search needs)
     returns
-    add-push-2
-    push-requires-2
-    add-push-3
-    push-requires-3
+    (search needs) (search needs) (search needs) (search needs)
     returns-2)

@@ -21,27 +21,9 @@ Inv-loop givens masks₀ unit nine both nth₀ masks nth = (nth ≤ 6) × (each 
 abbrev μ-loop : tie.MeasureT-loop
 μ-loop givens masks₀ unit nine both nth₀ masks nth = 6 - nth
 
-shared-requires : tie.Need-shared-requires Inv-loop μ-loop
-shared-requires c κs = search needs
-
-meet-requires : tie.Need-meet-requires Inv-loop μ-loop
-meet-requires c κs = search needs
-
 loop-holds : tie.Need-loop-holds Inv-loop μ-loop
 unfolding blockLines
 loop-holds c = (omega arith, refl)
-
-on-line-requires : tie.Need-on-line-requires Inv-loop μ-loop
-on-line-requires c κs = search needs
-
-lose-line-requires : tie.Need-lose-line-requires Inv-loop μ-loop
-lose-line-requires c κs = search needs
-
-add-nth : tie.Need-add-nth Inv-loop μ-loop
-add-nth c = omega arith
-
-loop-less : tie.Need-loop-less Inv-loop μ-loop
-loop-less c = omega arith
 
 loop-again : tie.Need-loop-again Inv-loop μ-loop
 unfolding lineTurn onLine
@@ -71,12 +53,8 @@ block-lines-spec =
     (tie.spec
     Inv-loop
     μ-loop
-    shared-requires
-    meet-requires
+    (search needs) (search needs)
     loop-holds
-    on-line-requires
-    lose-line-requires
-    add-nth
-    loop-less
+    (search needs) (search needs) (λ c. omega arith) (λ c. omega arith)
     loop-again
     returns)

@@ -21,24 +21,6 @@ abbrev μ-loop : tie.MeasureT-loop
 loop-holds : tie.Need-loop-holds Inv-loop μ-loop
 loop-holds c = (omega arith, boxes-are (c .args .givens .now) (c .args .masks .now))
 
-add-unit-masks : tie.Need-add-unit-masks Inv-loop μ-loop
-add-unit-masks c = omega arith
-
-unit-masks-requires : tie.Need-unit-masks-requires Inv-loop μ-loop
-unit-masks-requires c κs = search needs
-
-add-block-lines : tie.Need-add-block-lines Inv-loop μ-loop
-add-block-lines c = omega arith
-
-block-lines-requires : tie.Need-block-lines-requires Inv-loop μ-loop
-block-lines-requires c κs = search needs
-
-add-block : tie.Need-add-block Inv-loop μ-loop
-add-block c = omega arith
-
-loop-less : tie.Need-loop-less Inv-loop μ-loop
-loop-less c = omega arith
-
 loop-again : tie.Need-loop-again Inv-loop μ-loop
 unfolding blockTurn
 loop-again c =
@@ -61,11 +43,6 @@ box-lines-spec =
     Inv-loop
     μ-loop
     loop-holds
-    add-unit-masks
-    unit-masks-requires
-    add-block-lines
-    block-lines-requires
-    add-block
-    loop-less
+    (λ c. omega arith) (search needs) (λ c. omega arith) (search needs) (λ c. omega arith) (λ c. omega arith)
     loop-again
     returns)

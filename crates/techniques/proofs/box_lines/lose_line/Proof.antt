@@ -11,24 +11,12 @@ use Rattle.techniques.proofs.BoxLines.{lose-nothing}
 use Rattle.techniques.proofs.box_lines.lose_line.Statement.{statement}
 use Rattle.techniques.proofs.box_lines.lose_line.Tie as tie
 
-is-none-requires : tie.Need-is-none-requires
-is-none-requires c κs = search needs
-
 returns : tie.Need-returns
 returns c =
     let a = c .before .before .args in
     let none : a .lost ≡ 0 = eqb-true (a .lost) 0 (test-none (a .lost) ∙ sym (c .before .is-none .ensures) ∙ c .if1 .taken) in
     sym (ap (λ (x : ℕ). losePlaces (isOpen (a .givens .now)) (metUnit (a .unit) (a .nth)) (outside (a .unit) (a .nth)) x (a .masks .now)) none
     ∙ lose-nothing (isOpen (a .givens .now)) (metUnit (a .unit) (a .nth)) (outside (a .unit) (a .nth)) (a .masks .now))
-
-met-unit-requires : tie.Need-met-unit-requires
-met-unit-requires c κs = search needs
-
-outside-requires : tie.Need-outside-requires
-outside-requires c κs = search needs
-
-lose-places-requires : tie.Need-lose-places-requires
-lose-places-requires c κs = search needs
 
 returns-2 : tie.Need-returns-2
 returns-2 c =
@@ -41,5 +29,4 @@ returns-2 c =
 
 pub lose-line-spec : {M : Type 1} → statement M
 lose-line-spec =
-    tie.close
-    (tie.spec is-none-requires returns met-unit-requires outside-requires lose-places-requires returns-2)
+    tie.close (tie.spec (search needs) returns (search needs) (search needs) (search needs) returns-2)

@@ -7,9 +7,6 @@ use Rattle.candidates.proofs.Tests.{cond-true, cond-false}
 use Rattle.techniques.proofs.naked_pairs.if_two.Statement.{statement}
 use Rattle.techniques.proofs.naked_pairs.if_two.Tie as tie
 
-is-two-requires : tie.Need-is-two-requires
-is-two-requires c κs = search needs
-
 returns : tie.Need-returns
 returns c =
     let x = c .before .before .args .mask in
@@ -21,4 +18,5 @@ returns-2 c =
     sym (cond-false (eqb (count x) 2) x 0 (sym (c .before .is-two .ensures) ∙ c .if1 .left))
 
 pub if-two-spec : {M : Type 1} → statement M
-if-two-spec = tie.close (tie.spec is-two-requires returns returns-2)
+if-two-spec =
+    tie.close (tie.spec (search needs) returns returns-2)

@@ -19,31 +19,10 @@ Inv-loop givens masks₀ pairs₀ unit₀ masks pairs unit = (unit ≤ 27) × (p
 abbrev μ-loop : tie.MeasureT-loop
 μ-loop givens masks₀ pairs₀ unit₀ masks pairs unit = 27 - unit
 
-pair-masks-requires : tie.Need-pair-masks-requires Inv-loop μ-loop
-pair-masks-requires c κs = search needs
-
 loop-holds : tie.Need-loop-holds Inv-loop μ-loop
 loop-holds c =
     let a = c .before .before .args in
     (omega arith, c .pair-masks .ensures, pairs-are (a .givens .now) (a .masks .now))
-
-all-masks-requires : tie.Need-all-masks-requires Inv-loop μ-loop
-all-masks-requires c κs = search needs
-
-no-twins-requires : tie.Need-no-twins-requires Inv-loop μ-loop
-no-twins-requires c κs = search needs
-
-unit-pairs-requires : tie.Need-unit-pairs-requires Inv-loop μ-loop
-unit-pairs-requires c κs = search needs
-
-pair-masks-requires-2 : tie.Need-pair-masks-requires-2 Inv-loop μ-loop
-pair-masks-requires-2 c κs = search needs
-
-add-unit : tie.Need-add-unit Inv-loop μ-loop
-add-unit c = omega arith
-
-loop-less : tie.Need-loop-less Inv-loop μ-loop
-loop-less c = omega arith
 
 loop-again : tie.Need-loop-again Inv-loop μ-loop
 loop-again c =
@@ -73,13 +52,8 @@ naked-pairs-spec =
     (tie.spec
     Inv-loop
     μ-loop
-    pair-masks-requires
+    (search needs)
     loop-holds
-    all-masks-requires
-    no-twins-requires
-    unit-pairs-requires
-    pair-masks-requires-2
-    add-unit
-    loop-less
+    (search needs) (search needs) (search needs) (search needs) (λ c. omega arith) (λ c. omega arith)
     loop-again
     returns)

@@ -29,15 +29,6 @@ loop-holds : tie.Need-loop-holds Inv-loop μ-loop
 unfolding noTwins
 loop-holds c = (omega arith, refl)
 
-mul-if1 : tie.Need-mul-if1 Inv-loop μ-loop
-mul-if1 c = omega arith
-
-element-copy-out-if1 : tie.Need-element-copy-out-if1 Inv-loop μ-loop
-element-copy-out-if1 c = omega arith
-
-twin-of-requires : tie.Need-twin-of-requires Inv-loop μ-loop
-twin-of-requires c κs = search needs
-
 returns : tie.Need-returns Inv-loop μ-loop
 returns c =
     let twin = c .before in
@@ -47,12 +38,6 @@ returns c =
     sym (all-stop (lone nine) 9 i (omega arith)
     (ap (λ (t : Bool). t || leb 9 (twinOf nine i)) (ne-eqb (at nine i) 0 (twin .before .if1 .taken)) ∙ ap (leb 9) (sym (twin .twin-of .ensures)) ∙ lt-leb 9 (twin .twin-of .result) (c .if2 .taken)))
     ∙ l .loop .inv .1
-
-add-first : tie.Need-add-first Inv-loop μ-loop
-add-first c = omega arith
-
-loop-less : tie.Need-loop-less Inv-loop μ-loop
-loop-less c = omega arith
 
 loop-again : tie.Need-loop-again Inv-loop μ-loop
 loop-again c =
@@ -79,11 +64,8 @@ no-twins-spec =
     Inv-loop
     μ-loop
     loop-holds
-    mul-if1
-    element-copy-out-if1
-    twin-of-requires
+    (λ c. omega arith) (λ c. omega arith) (search needs)
     returns
-    add-first
-    loop-less
+    (λ c. omega arith) (λ c. omega arith)
     loop-again
     returns-2)

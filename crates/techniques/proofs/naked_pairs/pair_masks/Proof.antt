@@ -21,33 +21,6 @@ loop-holds : tie.Need-loop-holds Inv-loop μ-loop
 unfolding pairMasks
 loop-holds c = fill-start _ 81 (replicate 81 0) refl
 
-element-copy-out-if-open : tie.Need-element-copy-out-if-open Inv-loop μ-loop
-element-copy-out-if-open c = omega arith
-
-mul-if-two : tie.Need-mul-if-two Inv-loop μ-loop
-mul-if-two c = omega arith
-
-element-copy-out-if-two : tie.Need-element-copy-out-if-two Inv-loop μ-loop
-element-copy-out-if-two c = omega arith
-
-if-two-requires : tie.Need-if-two-requires Inv-loop μ-loop
-if-two-requires c κs = search needs
-
-if-open-requires : tie.Need-if-open-requires Inv-loop μ-loop
-if-open-requires c κs = search needs
-
-mul-pairs : tie.Need-mul-pairs Inv-loop μ-loop
-mul-pairs c = omega arith
-
-array-write-pairs : tie.Need-array-write-pairs Inv-loop μ-loop
-array-write-pairs c = omega arith
-
-add-cell : tie.Need-add-cell Inv-loop μ-loop
-add-cell c = omega arith
-
-loop-less : tie.Need-loop-less Inv-loop μ-loop
-loop-less c = omega arith
-
 loop-again : tie.Need-loop-again Inv-loop μ-loop
 loop-again c =
     let two = c .before in
@@ -66,14 +39,7 @@ pair-masks-spec =
     Inv-loop
     μ-loop
     loop-holds
-    element-copy-out-if-open
-    mul-if-two
-    element-copy-out-if-two
-    if-two-requires
-    if-open-requires
-    mul-pairs
-    array-write-pairs
-    add-cell
-    loop-less
+    (λ c. omega arith) (λ c. omega arith) (λ c. omega arith) (search needs) (search needs) (λ c. omega arith)
+    (λ c. omega arith) (λ c. omega arith) (λ c. omega arith)
     loop-again
     returns)

@@ -18,18 +18,6 @@ returns c =
     let a = c .before .args in
     by-test (λ (y : ℕ). 9 ≡ y) (eqb (count (at (a .nine .now) (a .first))) 2) (twinOf (a .nine .now) (a .first)) 9 (λ t. twin-past (a .nine .now) (a .first) (c .if1 .taken)) (λ t. refl)
 
-mul-is-two : tie.Need-mul-is-two
-mul-is-two c = omega arith
-
-element-copy-out-is-two : tie.Need-element-copy-out-is-two
-element-copy-out-is-two c = omega arith
-
-is-two-requires : tie.Need-is-two-requires
-is-two-requires c κs = search needs
-
-twin-of-requires : tie.Need-twin-of-requires
-twin-of-requires c κs = search needs
-
 returns-2 : tie.Need-returns-2
 unfolding pairOf
 returns-2 c =
@@ -50,9 +38,6 @@ pair-of-spec =
     tie.close
     (tie.spec
     returns
-    mul-is-two
-    element-copy-out-is-two
-    is-two-requires
-    twin-of-requires
+    (λ c. omega arith) (λ c. omega arith) (search needs) (search needs)
     returns-2
     returns-3)

@@ -18,36 +18,15 @@ abbrev μ-loop : tie.MeasureT-loop
 returns : tie.Need-returns Inv-loop μ-loop
 returns c = twin-past (c .before .args .nine .now) (c .before .args .first) (c .if1 .taken)
 
-mul-mask : tie.Need-mul-mask Inv-loop μ-loop
-mul-mask c = omega arith
-
-element-copy-out-mask : tie.Need-element-copy-out-mask Inv-loop μ-loop
-element-copy-out-mask c = omega arith
-
-add-second : tie.Need-add-second Inv-loop μ-loop
-add-second c = omega arith
-
 loop-holds : tie.Need-loop-holds Inv-loop μ-loop
 unfolding twinOf
 loop-holds c = (omega arith, refl)
-
-mul-if2 : tie.Need-mul-if2 Inv-loop μ-loop
-mul-if2 c = omega arith
-
-element-copy-out-if2 : tie.Need-element-copy-out-if2 Inv-loop μ-loop
-element-copy-out-if2 c = omega arith
 
 returns-2 : tie.Need-returns-2 Inv-loop μ-loop
 returns-2 c =
     let l = c .before .before .before in
     let a = l .before .before .before .args in
     twin-here (a .nine .now) (at (a .nine .now) (a .first)) (l .loop .second) (omega arith) (c .if2 .taken) ∙ l .loop .inv .1
-
-add-second-2 : tie.Need-add-second-2 Inv-loop μ-loop
-add-second-2 c = omega arith
-
-loop-less : tie.Need-loop-less Inv-loop μ-loop
-loop-less c = omega arith
 
 loop-again : tie.Need-loop-again Inv-loop μ-loop
 loop-again c =
@@ -68,14 +47,10 @@ twin-of-spec =
     Inv-loop
     μ-loop
     returns
-    mul-mask
-    element-copy-out-mask
-    add-second
+    (λ c. omega arith) (λ c. omega arith) (λ c. omega arith)
     loop-holds
-    mul-if2
-    element-copy-out-if2
+    (λ c. omega arith) (λ c. omega arith)
     returns-2
-    add-second-2
-    loop-less
+    (λ c. omega arith) (λ c. omega arith)
     loop-again
     returns-3)

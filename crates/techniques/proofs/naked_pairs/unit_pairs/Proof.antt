@@ -23,36 +23,9 @@ Inv-loop givens masks₀ unit nine₀ first₀ masks nine first = (first ≤ 9) 
 abbrev μ-loop : tie.MeasureT-loop
 μ-loop givens masks₀ unit nine₀ first₀ masks nine first = 9 - first
 
-unit-masks-requires : tie.Need-unit-masks-requires Inv-loop μ-loop
-unit-masks-requires c κs = search needs
-
 loop-holds : tie.Need-loop-holds Inv-loop μ-loop
 unfolding unitPairs
 loop-holds c = (omega arith, c .unit-masks .ensures, refl)
-
-pair-of-requires : tie.Need-pair-of-requires Inv-loop μ-loop
-pair-of-requires c κs = search needs
-
-all-but-requires : tie.Need-all-but-requires Inv-loop μ-loop
-all-but-requires c κs = search needs
-
-mul-lose-places : tie.Need-mul-lose-places Inv-loop μ-loop
-mul-lose-places c = omega arith
-
-array-read-lose-places : tie.Need-array-read-lose-places Inv-loop μ-loop
-array-read-lose-places c = omega arith
-
-lose-places-requires : tie.Need-lose-places-requires Inv-loop μ-loop
-lose-places-requires c κs = search needs
-
-unit-masks-requires-2 : tie.Need-unit-masks-requires-2 Inv-loop μ-loop
-unit-masks-requires-2 c κs = search needs
-
-add-first : tie.Need-add-first Inv-loop μ-loop
-add-first c = omega arith
-
-loop-less : tie.Need-loop-less Inv-loop μ-loop
-loop-less c = omega arith
 
 loop-again : tie.Need-loop-again Inv-loop μ-loop
 loop-again c =
@@ -84,15 +57,9 @@ unit-pairs-spec =
     (tie.spec
     Inv-loop
     μ-loop
-    unit-masks-requires
+    (search needs)
     loop-holds
-    pair-of-requires
-    all-but-requires
-    mul-lose-places
-    array-read-lose-places
-    lose-places-requires
-    unit-masks-requires-2
-    add-first
-    loop-less
+    (search needs) (search needs) (λ c. omega arith) (λ c. omega arith) (search needs) (search needs)
+    (λ c. omega arith) (λ c. omega arith)
     loop-again
     returns)

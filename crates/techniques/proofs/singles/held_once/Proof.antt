@@ -5,17 +5,9 @@ use Rattle.candidates.specs.Masks.{minus}
 use Rattle.techniques.proofs.singles.held_once.Statement.{statement}
 use Rattle.techniques.proofs.singles.held_once.Tie as tie
 
-join-all-requires : tie.Need-join-all-requires
-join-all-requires c κs = search needs
-
-shared-requires : tie.Need-shared-requires
-shared-requires c κs = search needs
-
-lose-requires : tie.Need-lose-requires
-lose-requires c κs = search needs
-
 returns : tie.Need-returns
 returns c = c .lose .ensures ∙ ap₂ minus (c .before .before .join-all .ensures) (c .before .shared .ensures)
 
 pub held-once-spec : {M : Type 1} → statement M
-held-once-spec = tie.close (tie.spec join-all-requires shared-requires lose-requires returns)
+held-once-spec =
+    tie.close (tie.spec (search needs) (search needs) (search needs) returns)

@@ -33,30 +33,12 @@ Inv-loop givens masks unit cells₀ digits₀ held nine once count₀ digit₀ c
 abbrev μ-loop : tie.MeasureT-loop
 μ-loop givens masks unit cells₀ digits₀ held nine once count₀ digit₀ cells digits count digit = 9 - digit
 
-unit-masks-requires : tie.Need-unit-masks-requires Inv-loop μ-loop
-unit-masks-requires c κs = search needs
-
-held-once-requires : tie.Need-held-once-requires Inv-loop μ-loop
-held-once-requires c κs = search needs
-
 loop-holds : tie.Need-loop-holds Inv-loop μ-loop
 loop-holds c =
     let n = c .before .before in
     let a = n .before .args in
     let q = stored (a .cells .now) (a .digits .now) (a .held) in
     (omega arith, omega arith, ap (λ (nine : List ℕ). each (turn (a .unit) nine) (upTo 9) q) (n .unit-masks .ensures) ∙ hidden-loop (a .givens .now) (a .masks .now) (a .unit) q)
-
-has-digit-requires : tie.Need-has-digit-requires Inv-loop μ-loop
-has-digit-requires c κs = search needs
-
-places-of-requires : tie.Need-places-of-requires Inv-loop μ-loop
-places-of-requires c κs = search needs
-
-lowest-digit-requires : tie.Need-lowest-digit-requires Inv-loop μ-loop
-lowest-digit-requires c κs = search needs
-
-unit-cell-requires : tie.Need-unit-cell-requires Inv-loop μ-loop
-unit-cell-requires c κs = search needs
 
 cast-push : tie.Need-cast-push Inv-loop μ-loop
 cast-push c =
@@ -65,22 +47,10 @@ cast-push c =
     let once = place .before .before .before .before .before .before .before in
     omega (arith, cell .unit-cell .ensures, cell-small (once .before .before .before .args .unit) (place .lowest-digit .result))
 
-add-push : tie.Need-add-push Inv-loop μ-loop
-add-push c = omega arith
-
-cast-push-2 : tie.Need-cast-push-2 Inv-loop μ-loop
-cast-push-2 c = omega arith
-
 push-requires : tie.Need-push-requires Inv-loop μ-loop
 push-requires c κs =
     let l = c .before .before .before .before .before .before .before .before .before in
     omega (arith, l .before .before .before .before .pre, l .loop .inv .1)
-
-add-digit : tie.Need-add-digit Inv-loop μ-loop
-add-digit c = omega arith
-
-loop-less : tie.Need-loop-less Inv-loop μ-loop
-loop-less c = omega arith
 
 loop-again : tie.Need-loop-again Inv-loop μ-loop
 loop-again c =
@@ -114,18 +84,12 @@ hidden-in-spec =
     (tie.spec
     Inv-loop
     μ-loop
-    unit-masks-requires
-    held-once-requires
+    (search needs) (search needs)
     loop-holds
-    has-digit-requires
-    places-of-requires
-    lowest-digit-requires
-    unit-cell-requires
+    (search needs) (search needs) (search needs) (search needs)
     cast-push
-    add-push
-    cast-push-2
+    (λ c. omega arith) (λ c. omega arith)
     push-requires
-    add-digit
-    loop-less
+    (λ c. omega arith) (λ c. omega arith)
     loop-again
     returns)

@@ -33,12 +33,6 @@ hidden-in-requires c κs =
     let l = c .before .before .before in
     omega (arith, l .before .pre, l .loop .inv .1)
 
-add-unit : tie.Need-add-unit Inv-loop μ-loop
-add-unit c = omega arith
-
-loop-less : tie.Need-loop-less Inv-loop μ-loop
-loop-less c = omega arith
-
 loop-again : tie.Need-loop-again Inv-loop μ-loop
 loop-again c =
     let at = c .before .before .before .before in
@@ -54,4 +48,11 @@ returns c =
 pub hidden-singles-spec : {M : Type 1} → statement M
 hidden-singles-spec =
     tie.close
-    (tie.spec Inv-loop μ-loop loop-holds hidden-in-requires add-unit loop-less loop-again returns)
+    (tie.spec
+    Inv-loop
+    μ-loop
+    loop-holds
+    hidden-in-requires
+    (λ c. omega arith) (λ c. omega arith)
+    loop-again
+    returns)

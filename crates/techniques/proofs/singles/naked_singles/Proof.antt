@@ -31,25 +31,10 @@ abbrev μ-loop : tie.MeasureT-loop
 loop-holds : tie.Need-loop-holds Inv-loop μ-loop
 loop-holds c = (omega arith, omega arith, naked-loop (c .args .givens .now) (c .args .masks .now) (stored (c .args .cells .now) (c .args .digits .now) (c .args .held)))
 
-open-mask-requires : tie.Need-open-mask-requires Inv-loop μ-loop
-open-mask-requires c κs = search needs
-
-only-digit-requires : tie.Need-only-digit-requires Inv-loop μ-loop
-only-digit-requires c κs = search needs
-
-cast-push : tie.Need-cast-push Inv-loop μ-loop
-cast-push c = omega arith
-
 push-requires : tie.Need-push-requires Inv-loop μ-loop
 push-requires c κs =
     let l = c .before .before .before .before .before .before in
     omega (arith, l .before .pre, l .loop .inv .1)
-
-add-cell : tie.Need-add-cell Inv-loop μ-loop
-add-cell c = omega arith
-
-loop-less : tie.Need-loop-less Inv-loop μ-loop
-loop-less c = omega arith
 
 loop-again : tie.Need-loop-again Inv-loop μ-loop
 loop-again c =
@@ -77,11 +62,8 @@ naked-singles-spec =
     Inv-loop
     μ-loop
     loop-holds
-    open-mask-requires
-    only-digit-requires
-    cast-push
+    (search needs) (search needs) (λ c. omega arith)
     push-requires
-    add-cell
-    loop-less
+    (λ c. omega arith) (λ c. omega arith)
     loop-again
     returns)

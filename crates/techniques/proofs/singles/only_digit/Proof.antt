@@ -12,12 +12,6 @@ use Rattle.techniques.proofs.singles.only_digit.Tie as tie
 abbrev digitOf : SingleCandidate → ℤ
 digitOf r = digitOr0 (onlyAnswer r)
 
-single-candidate-requires : tie.Need-single-candidate-requires
-single-candidate-requires c κs = search needs
-
-enum-known-digit : tie.Need-enum-known-digit
-enum-known-digit c = search needs
-
 -- the digit that the call answered
 abbrev digit : tie.After-known-told → ℤ
 digit c = c .before .digit .given .0 .0
@@ -30,12 +24,6 @@ says c = single-tells (c .before .before .before .before .args .mask) (answered 
 
 cast-result : tie.Need-cast-result
 cast-result c = digit-fits (says c) (digit-read (says c))
-
-enum-told : tie.Need-enum-told
-enum-told c = search needs
-
-enum-told-2 : tie.Need-enum-told-2
-enum-told-2 c = search needs
 
 returns : tie.Need-returns
 returns c =
@@ -51,4 +39,10 @@ returns-3 c = ap digitOf (sym (c .enum-told2 .given .1) ∙ c .before .before .s
 pub only-digit-spec : {M : Type 1} → statement M
 only-digit-spec =
     tie.close
-    (tie.spec single-candidate-requires enum-known-digit cast-result enum-told enum-told-2 returns returns-2 returns-3)
+    (tie.spec
+    (search needs) (search needs)
+    cast-result
+    (search needs) (search needs)
+    returns
+    returns-2
+    returns-3)

@@ -7,9 +7,6 @@ use Rattle.techniques.proofs.ReportLists.{stands, singles-few}
 use Rattle.techniques.proofs.singles.singles.Statement.{statement}
 use Rattle.techniques.proofs.singles.singles.Tie as tie
 
-singles-into-requires : tie.Need-singles-into-requires
-singles-into-requires c κs = search needs
-
 returns : tie.Need-returns
 returns c =
     let a = c .before .before .before .args in
@@ -18,4 +15,5 @@ returns c =
     c .singles-into .ensures ∙ stands (nakedSingles g m ++ hiddenSingles g m) (singles-few g m)
 
 pub singles-spec : {M : Type 1} → statement M
-singles-spec = tie.close (tie.spec singles-into-requires returns)
+singles-spec =
+    tie.close (tie.spec (search needs) returns)

@@ -7,9 +7,6 @@ use Rattle.techniques.specs.code.Pushes.{pushed, append, stored}
 use Rattle.techniques.proofs.singles.singles_into.Statement.{statement}
 use Rattle.techniques.proofs.singles.singles_into.Tie as tie
 
-naked-singles-requires : tie.Need-naked-singles-requires
-naked-singles-requires c κs = omega arith
-
 hidden-singles-requires : tie.Need-hidden-singles-requires
 hidden-singles-requires c κs = omega (arith, c .before .before .naked-singles .ensures .1)
 
@@ -24,4 +21,5 @@ returns c =
     ∙ sym (each-append (λ r q. pushed q (r .cell) (r .digit)) (nakedSingles g m) (hiddenSingles g m) (stored (a .cells .now) (a .digits .now) 0))
 
 pub singles-into-spec : {M : Type 1} → statement M
-singles-into-spec = tie.close (tie.spec naked-singles-requires hidden-singles-requires returns)
+singles-into-spec =
+    tie.close (tie.spec (λ c. omega arith) hidden-singles-requires returns)

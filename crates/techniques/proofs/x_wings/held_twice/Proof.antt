@@ -20,45 +20,6 @@ loop-holds : tie.Need-loop-holds Inv-loop μ-loop
 unfolding twiceOf
 loop-holds c = (omega arith, refl)
 
-mul-meet : tie.Need-mul-meet Inv-loop μ-loop
-mul-meet c = omega arith
-
-element-copy-out-meet : tie.Need-element-copy-out-meet Inv-loop μ-loop
-element-copy-out-meet c = omega arith
-
-meet-requires : tie.Need-meet-requires Inv-loop μ-loop
-meet-requires c κs = search needs
-
-join-requires : tie.Need-join-requires Inv-loop μ-loop
-join-requires c κs = search needs
-
-mul-meet-2 : tie.Need-mul-meet-2 Inv-loop μ-loop
-mul-meet-2 c = omega arith
-
-element-copy-out-meet-2 : tie.Need-element-copy-out-meet-2 Inv-loop μ-loop
-element-copy-out-meet-2 c = omega arith
-
-meet-requires-2 : tie.Need-meet-requires-2 Inv-loop μ-loop
-meet-requires-2 c κs = search needs
-
-join-requires-2 : tie.Need-join-requires-2 Inv-loop μ-loop
-join-requires-2 c κs = search needs
-
-mul-join : tie.Need-mul-join Inv-loop μ-loop
-mul-join c = omega arith
-
-element-copy-out-join : tie.Need-element-copy-out-join Inv-loop μ-loop
-element-copy-out-join c = omega arith
-
-join-requires-3 : tie.Need-join-requires-3 Inv-loop μ-loop
-join-requires-3 c κs = search needs
-
-add-place : tie.Need-add-place Inv-loop μ-loop
-add-place c = omega arith
-
-loop-less : tie.Need-loop-less Inv-loop μ-loop
-loop-less c = omega arith
-
 loop-again : tie.Need-loop-again Inv-loop μ-loop
 loop-again c =
     let twice = c .before .before in
@@ -71,9 +32,6 @@ loop-again c =
           (more .join .ensures ∙ ap (union (s .more)) (more .before .meet .ensures))
           ∙ s .inv .1,
     )
-
-lose-requires : tie.Need-lose-requires Inv-loop μ-loop
-lose-requires c κs = search needs
 
 returns : tie.Need-returns Inv-loop μ-loop
 returns c =
@@ -88,19 +46,9 @@ held-twice-spec =
     Inv-loop
     μ-loop
     loop-holds
-    mul-meet
-    element-copy-out-meet
-    meet-requires
-    join-requires
-    mul-meet-2
-    element-copy-out-meet-2
-    meet-requires-2
-    join-requires-2
-    mul-join
-    element-copy-out-join
-    join-requires-3
-    add-place
-    loop-less
+    (λ c. omega arith) (λ c. omega arith) (search needs) (search needs) (λ c. omega arith) (λ c. omega arith)
+    (search needs) (search needs) (λ c. omega arith) (λ c. omega arith) (search needs) (λ c. omega arith)
+    (λ c. omega arith)
     loop-again
-    lose-requires
+    (search needs)
     returns)

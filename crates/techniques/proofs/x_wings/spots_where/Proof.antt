@@ -9,15 +9,6 @@ use Rattle.cells.specs.code.Places.{unitMasks, spotsIn}
 use Rattle.techniques.proofs.x_wings.spots_where.Statement.{statement}
 use Rattle.techniques.proofs.x_wings.spots_where.Tie as tie
 
-has-digit-requires : tie.Need-has-digit-requires
-has-digit-requires c κs = search needs
-
-unit-masks-requires : tie.Need-unit-masks-requires
-unit-masks-requires c κs = search needs
-
-places-of-requires : tie.Need-places-of-requires
-places-of-requires c κs = search needs
-
 returns : tie.Need-returns
 returns c =
     let then = c .before .before .before in
@@ -34,5 +25,4 @@ returns-2 c =
 
 pub spots-where-spec : {M : Type 1} → statement M
 spots-where-spec =
-    tie.close
-    (tie.spec has-digit-requires unit-masks-requires places-of-requires returns returns-2)
+    tie.close (tie.spec (search needs) (search needs) (search needs) returns returns-2)

@@ -17,33 +17,12 @@ Inv-loop givens masks columns first sets₀ line₀ sets line = filled (λ i. tw
 abbrev μ-loop : tie.MeasureT-loop
 μ-loop givens masks columns first sets₀ line₀ sets line = 9 - line
 
-lines-from-requires : tie.Need-lines-from-requires Inv-loop μ-loop
-lines-from-requires c κs = search needs
-
 loop-holds : tie.Need-loop-holds Inv-loop μ-loop
 unfolding twiceSets
 loop-holds c = fill-start _ 9 (replicate 9 0) refl
 
 add-unit-masks : tie.Need-add-unit-masks Inv-loop μ-loop
 add-unit-masks c = omega (arith, c .before .before .lines-from .ensures, lines-le (c .before .before .before .args .columns))
-
-unit-masks-requires : tie.Need-unit-masks-requires Inv-loop μ-loop
-unit-masks-requires c κs = search needs
-
-held-twice-requires : tie.Need-held-twice-requires Inv-loop μ-loop
-held-twice-requires c κs = search needs
-
-mul-sets : tie.Need-mul-sets Inv-loop μ-loop
-mul-sets c = omega arith
-
-array-write-sets : tie.Need-array-write-sets Inv-loop μ-loop
-array-write-sets c = omega arith
-
-add-line : tie.Need-add-line Inv-loop μ-loop
-add-line c = omega arith
-
-loop-less : tie.Need-loop-less Inv-loop μ-loop
-loop-less c = omega arith
 
 loop-again : tie.Need-loop-again Inv-loop μ-loop
 loop-again c =
@@ -62,14 +41,9 @@ twice-sets-spec =
     (tie.spec
     Inv-loop
     μ-loop
-    lines-from-requires
+    (search needs)
     loop-holds
     add-unit-masks
-    unit-masks-requires
-    held-twice-requires
-    mul-sets
-    array-write-sets
-    add-line
-    loop-less
+    (search needs) (search needs) (λ c. omega arith) (λ c. omega arith) (λ c. omega arith) (λ c. omega arith)
     loop-again
     returns)

@@ -17,36 +17,12 @@ Inv-loop givens masks columns digit sets first list₀ line₀ list line = fille
 abbrev μ-loop : tie.MeasureT-loop
 μ-loop givens masks columns digit sets first list₀ line₀ list line = 9 - line
 
-lines-from-requires : tie.Need-lines-from-requires Inv-loop μ-loop
-lines-from-requires c κs = search needs
-
 loop-holds : tie.Need-loop-holds Inv-loop μ-loop
 unfolding twoSpots
 loop-holds c = fill-start _ 9 (replicate 9 0) refl
 
 add-spots-where : tie.Need-add-spots-where Inv-loop μ-loop
 add-spots-where c = omega (arith, c .before .before .lines-from .ensures, lines-le (c .before .before .before .args .columns))
-
-mul-spots-where : tie.Need-mul-spots-where Inv-loop μ-loop
-mul-spots-where c = omega arith
-
-element-copy-out-spots-where : tie.Need-element-copy-out-spots-where Inv-loop μ-loop
-element-copy-out-spots-where c = omega arith
-
-spots-where-requires : tie.Need-spots-where-requires Inv-loop μ-loop
-spots-where-requires c κs = search needs
-
-mul-list : tie.Need-mul-list Inv-loop μ-loop
-mul-list c = omega arith
-
-array-write-list : tie.Need-array-write-list Inv-loop μ-loop
-array-write-list c = omega arith
-
-add-line : tie.Need-add-line Inv-loop μ-loop
-add-line c = omega arith
-
-loop-less : tie.Need-loop-less Inv-loop μ-loop
-loop-less c = omega arith
 
 loop-again : tie.Need-loop-again Inv-loop μ-loop
 loop-again c =
@@ -65,15 +41,10 @@ two-spots-spec =
     (tie.spec
     Inv-loop
     μ-loop
-    lines-from-requires
+    (search needs)
     loop-holds
     add-spots-where
-    mul-spots-where
-    element-copy-out-spots-where
-    spots-where-requires
-    mul-list
-    array-write-list
-    add-line
-    loop-less
+    (λ c. omega arith) (λ c. omega arith) (search needs) (λ c. omega arith) (λ c. omega arith) (λ c. omega arith)
+    (λ c. omega arith)
     loop-again
     returns)

@@ -10,39 +10,15 @@ use Rattle.techniques.proofs.XWings.{across-le, wing-lost, wing-kept}
 use Rattle.techniques.proofs.x_wings.wing_at.Statement.{statement}
 use Rattle.techniques.proofs.x_wings.wing_at.Tie as tie
 
-across-from-requires : tie.Need-across-from-requires
-across-from-requires c κs = search needs
-
-all-but-requires : tie.Need-all-but-requires
-all-but-requires c κs = search needs
-
-digit-mask-requires : tie.Need-digit-mask-requires
-digit-mask-requires c κs = search needs
-
-lowest-digit-requires : tie.Need-lowest-digit-requires
-lowest-digit-requires c κs = search needs
-
 add-lose-places : tie.Need-add-lose-places
 add-lose-places c =
     let a = c .before .before .before .before .before .before .args in
     omega (arith, c .before .before .before .before .across-from .ensures, across-le (a .columns), c .lowest-digit .ensures, lowest-le (a .spots))
 
-lose-places-requires : tie.Need-lose-places-requires
-lose-places-requires c κs = search needs
-
-lose-lowest-requires : tie.Need-lose-lowest-requires
-lose-lowest-requires c κs = search needs
-
-lowest-digit-requires-2 : tie.Need-lowest-digit-requires-2
-lowest-digit-requires-2 c κs = search needs
-
 add-lose-places-2 : tie.Need-add-lose-places-2
 add-lose-places-2 c =
     let f = c .before .before .before .before .before .before .before .before in
     omega (arith, f .across-from .ensures, across-le (f .before .before .args .columns), c .lowest-digit2 .ensures, lowest-le (c .before .lose-lowest .result))
-
-lose-places-requires-2 : tie.Need-lose-places-requires-2
-lose-places-requires-2 c κs = search needs
 
 returns : tie.Need-returns
 returns c =
@@ -63,15 +39,10 @@ pub wing-at-spec : {M : Type 1} → statement M
 wing-at-spec =
     tie.close
     (tie.spec
-    across-from-requires
-    all-but-requires
-    digit-mask-requires
-    lowest-digit-requires
+    (search needs) (search needs) (search needs) (search needs)
     add-lose-places
-    lose-places-requires
-    lose-lowest-requires
-    lowest-digit-requires-2
+    (search needs) (search needs) (search needs)
     add-lose-places-2
-    lose-places-requires-2
+    (search needs)
     returns
     returns-2)

@@ -17,23 +17,11 @@ Inv-loop givens masks₀ columns digit sets list first₀ masks first =
 abbrev μ-loop : tie.MeasureT-loop
 μ-loop givens masks₀ columns digit sets list first₀ masks first = 9 - first
 
-two-spots-requires : tie.Need-two-spots-requires Inv-loop μ-loop
-two-spots-requires c κs = search needs
-
 loop-holds : tie.Need-loop-holds Inv-loop μ-loop
 unfolding wingsIn
 loop-holds c =
     let a = c .before .before .args in
     (omega arith, ap (λ (list : List ℕ). wingsIn (a .givens .now) (a .columns) (a .digit) list (a .masks .now)) (c .two-spots .ensures))
-
-wings-from-requires : tie.Need-wings-from-requires Inv-loop μ-loop
-wings-from-requires c κs = search needs
-
-add-first : tie.Need-add-first Inv-loop μ-loop
-add-first c = omega arith
-
-loop-less : tie.Need-loop-less Inv-loop μ-loop
-loop-less c = omega arith
 
 loop-again : tie.Need-loop-again Inv-loop μ-loop
 loop-again c =
@@ -55,10 +43,8 @@ wing-digit-spec =
     (tie.spec
     Inv-loop
     μ-loop
-    two-spots-requires
+    (search needs)
     loop-holds
-    wings-from-requires
-    add-first
-    loop-less
+    (search needs) (λ c. omega arith) (λ c. omega arith)
     loop-again
     returns)

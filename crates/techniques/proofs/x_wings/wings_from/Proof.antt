@@ -30,42 +30,15 @@ returns c =
     let a = c .before .args in
     from-past (a .givens .now) (a .columns) (a .digit) (a .list .now) (a .first) (a .masks .now) (c .if1 .taken)
 
-mul-spots : tie.Need-mul-spots Inv-loop μ-loop
-mul-spots c = omega arith
-
-element-copy-out-spots : tie.Need-element-copy-out-spots Inv-loop μ-loop
-element-copy-out-spots c = omega arith
-
-is-two-requires : tie.Need-is-two-requires Inv-loop μ-loop
-is-two-requires c κs = search needs
-
 returns-2 : tie.Need-returns-2 Inv-loop μ-loop
 returns-2 c =
     let a = c .before .before .before .before .args in
     from-none (a .givens .now) (a .columns) (a .digit) (a .list .now) (a .first) (a .masks .now) (sym (c .before .is-two .ensures) ∙ not-true (c .before .is-two .result) (c .if2 .taken))
 
-add-second : tie.Need-add-second Inv-loop μ-loop
-add-second c = omega arith
-
 loop-holds : tie.Need-loop-holds Inv-loop μ-loop
 loop-holds c =
     let a = c .before .before .before .before .args in
     (omega arith, from-two (a .givens .now) (a .columns) (a .digit) (a .list .now) (a .first) (a .masks .now) (sym (c .before .is-two .ensures) ∙ not-false (c .before .is-two .result) (c .if2 .left)))
-
-mul-wing-at : tie.Need-mul-wing-at Inv-loop μ-loop
-mul-wing-at c = omega arith
-
-element-copy-out-wing-at : tie.Need-element-copy-out-wing-at Inv-loop μ-loop
-element-copy-out-wing-at c = omega arith
-
-wing-at-requires : tie.Need-wing-at-requires Inv-loop μ-loop
-wing-at-requires c κs = search needs
-
-add-second-2 : tie.Need-add-second-2 Inv-loop μ-loop
-add-second-2 c = omega arith
-
-loop-less : tie.Need-loop-less Inv-loop μ-loop
-loop-less c = omega arith
 
 loop-again : tie.Need-loop-again Inv-loop μ-loop
 loop-again c =
@@ -87,16 +60,10 @@ wings-from-spec =
     Inv-loop
     μ-loop
     returns
-    mul-spots
-    element-copy-out-spots
-    is-two-requires
+    (λ c. omega arith) (λ c. omega arith) (search needs)
     returns-2
-    add-second
+    (λ c. omega arith)
     loop-holds
-    mul-wing-at
-    element-copy-out-wing-at
-    wing-at-requires
-    add-second-2
-    loop-less
+    (λ c. omega arith) (λ c. omega arith) (search needs) (λ c. omega arith) (λ c. omega arith)
     loop-again
     returns-3)

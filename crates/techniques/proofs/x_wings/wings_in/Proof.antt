@@ -22,26 +22,8 @@ Inv-loop givens masks₀ columns sets due digit₀ masks digit =
 abbrev μ-loop : tie.MeasureT-loop
 μ-loop givens masks₀ columns sets due digit₀ masks digit = 9 - digit
 
-twice-sets-requires : tie.Need-twice-sets-requires Inv-loop μ-loop
-twice-sets-requires c κs = search needs
-
-shared-requires : tie.Need-shared-requires Inv-loop μ-loop
-shared-requires c κs = search needs
-
 loop-holds : tie.Need-loop-holds Inv-loop μ-loop
 loop-holds c = (omega arith, refl, λ e h c. refl)
-
-has-digit-requires : tie.Need-has-digit-requires Inv-loop μ-loop
-has-digit-requires c κs = search needs
-
-wing-digit-requires : tie.Need-wing-digit-requires Inv-loop μ-loop
-wing-digit-requires c κs = search needs
-
-add-digit : tie.Need-add-digit Inv-loop μ-loop
-add-digit c = omega arith
-
-loop-less : tie.Need-loop-less Inv-loop μ-loop
-loop-less c = omega arith
 
 -- either way the masks are those after the digit's turn
 turned : (c : tie.Joined1 Inv-loop μ-loop) → c .if1 .masks ≡ wingDigit (c .before .before .before .before .before .before .before .before .args .givens .now) (c .before .before .before .before .before .before .before .before .args .columns) (c .before .before .before .loop .digit) (c .before .before .before .loop .masks)
@@ -80,12 +62,8 @@ wings-in-spec =
     (tie.spec
     Inv-loop
     μ-loop
-    twice-sets-requires
-    shared-requires
+    (search needs) (search needs)
     loop-holds
-    has-digit-requires
-    wing-digit-requires
-    add-digit
-    loop-less
+    (search needs) (search needs) (λ c. omega arith) (λ c. omega arith)
     loop-again
     returns)

@@ -8,16 +8,11 @@ use Rattle.techniques.proofs.XWings.{wings-are}
 use Rattle.techniques.proofs.x_wings.x_wings.Statement.{statement}
 use Rattle.techniques.proofs.x_wings.x_wings.Tie as tie
 
-wings-in-requires : tie.Need-wings-in-requires
-wings-in-requires c κs = search needs
-
-wings-in-requires-2 : tie.Need-wings-in-requires-2
-wings-in-requires-2 c κs = search needs
-
 returns : tie.Need-returns
 returns c =
     let a = c .before .before .before .before .args in
     c .wings-in2 .ensures ∙ ap (each (wingDigit (a .givens .now) true) (upTo 9)) (c .before .before .wings-in .ensures) ∙ wings-are (a .givens .now) (a .masks .now)
 
 pub x-wings-spec : {M : Type 1} → statement M
-x-wings-spec = tie.close (tie.spec wings-in-requires wings-in-requires-2 returns)
+x-wings-spec =
+    tie.close (tie.spec (search needs) (search needs) returns)

@@ -11,20 +11,11 @@ use Rattle.text.proofs.SheetAnswers.{too-long, within, stop-beside}
 use Rattle.text.proofs.sheets.parse_sheet.Statement.{statement}
 use Rattle.text.proofs.sheets.parse_sheet.Tie as tie
 
-cast-t5 : tie.Need-cast-t5
-cast-t5 c = search needs
-
-refused-requires : tie.Need-refused-requires
-refused-requires c κs = search needs
-
 returns : tie.Need-returns
 returns c =
     let t = c .before in
     stop-beside (c .refused .ensures .0) (c .refused .ensures .1)
     (ap (λ (z : ℤ). stop (SheetLength z)) (small (omega arith)) ∙ too-long (t .before .before .args .sheet .now) (t .if1 .taken))
-
-read-cells-requires : tie.Need-read-cells-requires
-read-cells-requires c κs = search needs
 
 returns-2 : tie.Need-returns-2
 returns-2 c =
@@ -32,4 +23,5 @@ returns-2 c =
     (c .read-cells .ensures .0 ∙ e, c .read-cells .ensures .1 ∙ ap (valueOr noClues) e)
 
 pub parse-sheet-spec : {M : Type 1} → statement M
-parse-sheet-spec = tie.close (tie.spec cast-t5 refused-requires returns read-cells-requires returns-2)
+parse-sheet-spec =
+    tie.close (tie.spec (search needs) (search needs) returns (search needs) returns-2)

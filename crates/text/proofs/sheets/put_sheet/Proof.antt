@@ -43,29 +43,11 @@ loop-holds c =
 slice-write-out : tie.Need-slice-write-out Inv-loop μ-loop
 slice-write-out c = omega (arith, c .before .before .loop .inv .0, c .before .before .before .before .pre)
 
-mul-clue-byte : tie.Need-mul-clue-byte Inv-loop μ-loop
-mul-clue-byte c = omega arith
-
-add-clue-byte : tie.Need-add-clue-byte Inv-loop μ-loop
-add-clue-byte c = omega arith
-
-mul-clue-byte-2 : tie.Need-mul-clue-byte-2 Inv-loop μ-loop
-mul-clue-byte-2 c = omega arith
-
 element-copy-out-clue-byte : tie.Need-element-copy-out-clue-byte Inv-loop μ-loop
 element-copy-out-clue-byte c = omega (arith, c .if1 .left)
 
-clue-byte-requires : tie.Need-clue-byte-requires Inv-loop μ-loop
-clue-byte-requires c κs = search needs
-
 slice-write-out-2 : tie.Need-slice-write-out-2 Inv-loop μ-loop
 slice-write-out-2 c = omega (arith, c .before .before .before .before .loop .inv .0, c .before .before .before .before .before .before .pre)
-
-add-index : tie.Need-add-index Inv-loop μ-loop
-add-index c = omega arith
-
-loop-less : tie.Need-loop-less Inv-loop μ-loop
-loop-less c = omega arith
 
 loop-again : tie.Need-loop-again Inv-loop μ-loop
 loop-again c =
@@ -101,14 +83,11 @@ put-sheet-spec =
     μ-loop
     loop-holds
     slice-write-out
-    mul-clue-byte
-    add-clue-byte
-    mul-clue-byte-2
+    (λ c. omega arith) (λ c. omega arith) (λ c. omega arith)
     element-copy-out-clue-byte
-    clue-byte-requires
+    (search needs)
     slice-write-out-2
-    add-index
-    loop-less
+    (λ c. omega arith) (λ c. omega arith)
     loop-again
     same-length
     returns)

@@ -40,22 +40,10 @@ loop-holds c =
     let e : length s - 0 ≡ length s = omega arith in
     (refl, refl, omega arith, ap (λ (n : ℕ). first (λ i. isStranger (getD s i 0)) (range n 0)) e)
 
-shared-slice-read-byte : tie.Need-shared-slice-read-byte Inv-loop μ-loop
-shared-slice-read-byte c = search needs
-
-is-passed-over-requires : tie.Need-is-passed-over-requires Inv-loop μ-loop
-is-passed-over-requires c κs = search needs
-
-is-other-requires : tie.Need-is-other-requires Inv-loop μ-loop
-is-other-requires c κs = search needs
-
 cast-t12 : tie.Need-cast-t12 Inv-loop μ-loop
 cast-t12 c =
     let l = c .before .before .before .before .before .before in
     record { sfits = omega (arith, l .loop .inv .1, l .loop .inv .2, met-few (l .before .before .args .sheet .now) (l .loop .index) (l .loop .inv .2)) }
-
-refused-requires : tie.Need-refused-requires Inv-loop μ-loop
-refused-requires c κs = search needs
 
 returns : tie.Need-returns Inv-loop μ-loop
 returns c =
@@ -69,25 +57,10 @@ returns c =
     (ap (λ (z : ℤ). stop (OtherByte z)) (small (omega arith))
     ∙ cells-told s (found _ (length s) i (l .loop .inv .3) (p .before .before .loop-test .taken) at (c .before .if2 .taken)))
 
-byte-clue-requires : tie.Need-byte-clue-requires Inv-loop μ-loop
-byte-clue-requires c κs = search needs
-
-mul-clues : tie.Need-mul-clues Inv-loop μ-loop
-mul-clues c = omega arith
-
-array-set-from-clues : tie.Need-array-set-from-clues Inv-loop μ-loop
-array-set-from-clues c = omega arith
-
 add-count : tie.Need-add-count Inv-loop μ-loop
 add-count c =
     let l = c .before .before .before .before .before .before .before in
     omega (arith, l .loop .inv .1, l .loop .inv .2, met-few (l .before .before .args .sheet .now) (l .loop .index) (l .loop .inv .2))
-
-add-index : tie.Need-add-index Inv-loop μ-loop
-add-index c = omega arith
-
-loop-less : tie.Need-loop-less Inv-loop μ-loop
-loop-less c = omega arith
 
 loop-again : tie.Need-loop-again Inv-loop μ-loop
 loop-again c =
@@ -143,9 +116,6 @@ few c =
 cast-t20 : tie.Need-cast-t20 Inv-loop μ-loop
 cast-t20 c = record { sfits = few (c .before) }
 
-refused-requires-2 : tie.Need-refused-requires-2 Inv-loop μ-loop
-refused-requires-2 c κs = search needs
-
 returns-2 : tie.Need-returns-2 Inv-loop μ-loop
 returns-2 c =
     let a = c .before .before in
@@ -171,20 +141,15 @@ read-cells-spec =
     Inv-loop
     μ-loop
     loop-holds
-    shared-slice-read-byte
-    is-passed-over-requires
-    is-other-requires
+    (search needs) (search needs) (search needs)
     cast-t12
-    refused-requires
+    (search needs)
     returns
-    byte-clue-requires
-    mul-clues
-    array-set-from-clues
+    (search needs) (λ c. omega arith) (λ c. omega arith)
     add-count
-    add-index
-    loop-less
+    (λ c. omega arith) (λ c. omega arith)
     loop-again
     cast-t20
-    refused-requires-2
+    (search needs)
     returns-2
     returns-3)

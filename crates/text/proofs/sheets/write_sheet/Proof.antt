@@ -8,15 +8,6 @@ use Rattle.text.proofs.Texts.{wrote-all, refusal-keeps, bytes-written}
 use Rattle.text.proofs.sheets.write_sheet.Statement.{statement}
 use Rattle.text.proofs.sheets.write_sheet.Tie as tie
 
-writing-requires : tie.Need-writing-requires
-writing-requires c κs = search needs
-
-enum-told : tie.Need-enum-told
-enum-told c = search needs
-
-enum-told-2 : tie.Need-enum-told-2
-enum-told-2 c = search needs
-
 returns : tie.Need-returns
 returns c =
     let w = c .before .before in
@@ -30,9 +21,6 @@ put-sheet-requires c κs =
     let a = w .before .before .args in
     wrote-all 90 (a .grid .now) (length (a .out .now)) (ap writingAnswer (sym (c .before .enum-told .given .1)) ∙ w .writing .ensures) .1
 
-same-length : tie.Need-same-length
-same-length c = search needs
-
 returns-2 : tie.Need-returns-2
 returns-2 c =
     let p = c .before .before in
@@ -45,10 +33,8 @@ pub write-sheet-spec : {M : Type 1} → statement M
 write-sheet-spec =
     tie.close
     (tie.spec
-    writing-requires
-    enum-told
-    enum-told-2
+    (search needs) (search needs) (search needs)
     returns
     put-sheet-requires
-    same-length
+    (search needs)
     returns-2)
