@@ -1,6 +1,6 @@
 -- The check of a handed board as the code makes it: a mask beside the fresh one, and the first cells of stops 3, 8 and 9. Assumes nothing.
 use mathlib.Core.Path.{_≡_, refl, sym, ap, ap₂, _∙_}
-use mathlib.Core.Bool.{true, false, not, _&&_, and-true, and-false, or-true}
+use mathlib.Core.Bool.{not, _&&_, and-true, and-false}
 use mathlib.Core.List.{List}
 use mathlib.Core.Option.{Option}
 use Prim.Native.Nat.{ℕ}

@@ -7,7 +7,7 @@ ghost use lib.IntN.{pos};
 ghost use lib.ListN.{getD, set};
 ghost use Rattle.stops.specs.Answer.{checkAnswer, passing, stopAt, valueOr};
 ghost use Rattle.stops.specs.declared.Stop.the-variants.{BadEntry};
-ghost use Rattle.steps.specs.Boards.{digitOf, givensOf, jointOf, noDigit, together};
+ghost use Rattle.steps.specs.Boards.{givensOf, jointOf, noDigit, together};
 ghost use Rattle.steps.specs.Calls.{badEntry, firstBadEntry, openedWith};
 ghost use Rattle.steps.specs.Entries.{enter, entriesAfter, rubOut};
 ghost use Rattle.board.specs.Boards.{boardOf};

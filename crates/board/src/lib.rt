@@ -163,15 +163,13 @@ pub fn check(clues: &[i32; 81], entries: &[i32; 81], masks: &[u16; 81]) -> Check
 pub fn count_clues(clues: &[i32; 81]) -> usize
     ensures { λ r. ⌜ r ≡ clueCount (givensOf (now (clues .entry))) cells ⌝ }
 {
-    let mut count: usize = 0;
+    let mut count: u32 = 0;
     let mut cell: usize = 0;
     while cell < 81 {
-        if clues::given_digit(clues[cell]) != 0 {
-            count += 1;
-        }
+        count += (clues::given_digit(clues[cell]) != 0) as u32;
         cell += 1;
     }
-    count
+    count as usize
 }
 
 // The board worked out afresh where the check passed; zeros beside a refusal.

@@ -198,9 +198,6 @@ cleared (suc k) x p h = go (x % 2) refl (λ q l. cleared k (x / 2) q l)
 lowest-cleared : (x : ℕ) → 0 < x → x < 2 ^ 16 → Cleared 16 x (lowest x)
 lowest-cleared x p h = subst (λ (t : ℕ). Cleared 16 x t) (lowest-zeros x) (cleared 16 x p h)
 
-pub lowest-lt : (x : ℕ) → 0 < x → x < 2 ^ 16 → lowest x < 16
-lowest-lt x p h = lowest-cleared x p h .within
-
 lowest-held : (x : ℕ) → 0 < x → x < 2 ^ 16 → bitAnd x (single (lowest x)) ≡ single (lowest x)
 lowest-held x p h = lowest-cleared x p h .held
 

@@ -13,7 +13,7 @@ use Rattle.steps.specs.Boards.{givensOf, fresh, taken, total, sameMasks}
 use Rattle.steps.specs.Calls.{Outcome, wide, settlingCall, eliminationOutcome, outcome}
 use Rattle.steps.specs.Instances.{stepOf, lones, places, pointings, claimings}
 use Rattle.steps.specs.Loops.{for}
-use Rattle.steps.specs.Passes.{Kind, Lone, Place, Pair, Pointing, Claiming, Cross, instances, pass, sweep, settle, removedBy}
+use Rattle.steps.specs.Passes.{Kind, Lone, Place, Pair, Pointing, Claiming, Cross, instances, pass, settle, removedBy}
 use Rattle.steps.specs.Ported.{spots}
 use Rattle.steps.specs.Steps.{stepTaken}
 use Rattle.cases.specs.Cases.{CaseClaiming, freshMasks}

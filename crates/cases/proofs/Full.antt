@@ -18,7 +18,7 @@ use Rattle.grid.specs.Cells.{cells, peers}
 use Rattle.grid.specs.Fillings.{verified}
 use Rattle.grid.specs.Units.{units, unit}
 use Rattle.steps.specs.Boards.{at, givensOf, isOpen, fresh, taken, total}
-use Rattle.steps.specs.Calls.{settlingCall, outcome}
+use Rattle.steps.specs.Calls.{outcome}
 use Rattle.steps.specs.Loops.{each, for, first}
 use Rattle.steps.specs.Passes.{Kind, instances, instanceTaken, pass, settle, removedBy}
 use Rattle.steps.specs.Instances.{stepOf}
@@ -30,7 +30,6 @@ use Rattle.board.specs.Boards.{clueCount, onlyDigits, verdictOf}
 use Rattle.board.specs.declared.Verdict.{Verdict}
 use Rattle.board.specs.declared.Verdict.the-variants.{Dead, Finished}
 use Rattle.text.specs.Texts.{parseOf}
-use Rattle.card.specs.declared.layout.Card.{Card}
 use Rattle.card.specs.Cards.{cardOf, cardFor, cardBytes, printed}
 use Rattle.output.specs.Decimals.{digitsIn, decimal}
 use Rattle.card.specs.Layout.{lineOf, cellByte}

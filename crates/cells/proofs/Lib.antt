@@ -1,4 +1,5 @@
 pub mod Places
+pub mod Losses
 pub mod Whole
 pub mod NineBits
 pub mod Rising

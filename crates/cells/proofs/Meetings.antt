@@ -9,7 +9,7 @@ use borrow.Author.Tests.{lt-ltb, le-ltb}
 use lib.Dec.{T, eqb, ltb}
 use Rattle.candidates.specs.Masks.{has, minus, count, single, placeMask}
 use Rattle.candidates.proofs.Counts.{test-none}
-use Rattle.candidates.proofs.Tests.{allBelow, below, below-both, implies, implied, by-test, cond-true, cond-false}
+use Rattle.candidates.proofs.Tests.{allBelow, below, below-both, implies, implied, cond-true, cond-false}
 use Rattle.grid.specs.Units.{units, unit, unitCell, inUnit}
 use Rattle.steps.specs.Boards.{isOpen}
 use Rattle.steps.specs.Instances.{lineOf, boxOf}

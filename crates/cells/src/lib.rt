@@ -31,28 +31,43 @@ pub fn mask_at(masks: &[u16; 81], cell: usize) -> u16
     0
 }
 
-// The cell loses the digits of `lost`, if it is open.
-pub fn lose_at(givens: &[u8; 81], masks: &mut [u16; 81], cell: usize, lost: u16)
+// The cell loses the digits of `lost`, if it is open; whether it held any of them. Most cells hold none, so that is asked first.
+pub fn lose_at(givens: &[u8; 81], masks: &mut [u16; 81], cell: usize, lost: u16) -> bool
     ensures { λ _. ⌜ now (masks .exit) ≡ loseIn (isOpen (now (givens .entry))) cell lost (now (masks .entry)) ⌝ }
+    ensures { λ r. ⌜ r ≡ changed (now (masks .entry)) (now (masks .exit)) ⌝ }
 {
     if cell < 81 {
-        if givens[cell] == 0 {
-            masks[cell] = masks::lose(masks[cell], lost);
+        let held = masks[cell];
+        if masks::meet(held, lost) != 0 {
+            if givens[cell] == 0 {
+                masks[cell] = masks::lose(held, lost);
+                return true;
+            }
         }
     }
+    false
 }
 
-// The open cells at these places of the unit lose the digits of `lost`.
-pub fn lose_places(givens: &[u8; 81], masks: &mut [u16; 81], unit: usize, places: u16, lost: u16)
+// The open cells at these places of the unit lose the digits of `lost`; whether they held any of them.
+pub fn lose_places(
+    givens: &[u8; 81],
+    masks: &mut [u16; 81],
+    unit: usize,
+    places: u16,
+    lost: u16,
+) -> bool
     ensures { λ _. ⌜ now (masks .exit) ≡ losePlaces (isOpen (now (givens .entry))) unit places lost (now (masks .entry)) ⌝ }
+    ensures { λ r. ⌜ r ≡ changed (now (masks .entry)) (now (masks .exit)) ⌝ }
 {
+    let mut any = false;
     let mut place: usize = 0;
     while place < 9 {
         if masks::has_digit(places, place) {
-            lose_at(givens, masks, unit_cell(unit, place), lost);
+            any = any | lose_at(givens, masks, unit_cell(unit, place), lost);
         }
         place += 1;
     }
+    any
 }
 
 // The mask of a cell, 0 for a cell that is not open.

@@ -1,6 +1,7 @@
 // The units that meet a unit: the six lines of a box, three rows and then three columns, and the three boxes of a line. A digit that the unit holds in one of them alone is lost by that one's other cells.
 // A box is called `block` here, since `box` is a word of the language.
 ghost use mathlib.Core.Path.{_≡_};
+ghost use Rattle.steps.specs.Passes.{changed};
 ghost use Rattle.cells.specs.code.Meets.{meetings, metPlaces, metBack, outside, boxUnit, lineUnit, metUnit, meetTurn};
 use crate::lose_places;
 use candidates::masks;
@@ -89,7 +90,7 @@ pub fn met_unit(unit: usize, nth: usize) -> usize
     line_unit(unit - 18, nth)
 }
 
-// `held` are the places of the unit that hold the digit: where all are in the nth of them, its open cells outside the unit lose the digit.
+// `held` are the places of the unit that hold the digit: where all are in the nth of them, its open cells outside the unit lose the digit; whether they held it.
 pub fn lose_met(
     givens: &[u8; 81],
     masks: &mut [u16; 81],
@@ -97,11 +98,12 @@ pub fn lose_met(
     digit: usize,
     held: u16,
     nth: usize,
-)
+) -> bool
     ensures { λ _. ⌜ now (masks .exit) ≡ meetTurn (now (givens .entry)) unit digit held nth (now (masks .entry)) ⌝ }
+    ensures { λ r. ⌜ r ≡ changed (now (masks .entry)) (now (masks .exit)) ⌝ }
 {
     if masks::is_none(masks::lose(held, met_places(nth))) {
-        lose_places(
+        return lose_places(
             givens,
             masks,
             met_unit(unit, nth),
@@ -109,4 +111,5 @@ pub fn lose_met(
             masks::digit_mask(digit),
         );
     }
+    false
 }

@@ -13,7 +13,7 @@ use Rattle.grid.specs.Units.{unitCell}
 use Rattle.grid.proofs.Lists.{at-upTo, map-same}
 use Rattle.grid.proofs.Units.{cell-below}
 use Rattle.steps.specs.Boards.{at, isOpen}
-use Rattle.steps.specs.Loops.{each, upTo}
+use Rattle.steps.specs.Loops.{upTo}
 use Rattle.steps.proofs.Loops.{in-upTo}
 use Rattle.cells.specs.code.Places.{allMasks}
 use Rattle.cells.proofs.NineBits.{nine-small}

@@ -12,9 +12,8 @@ use lib.Dec.{T, eqb, ltb, eqb→eq, ltb→lt}
 use lib.ListN.{length, getD, set, replicate, length-set, length-map}
 use lib.Seq.{getD-set-same, getD-set-other, ext-getD}
 use Rattle.candidates.proofs.Tests.{below, implies, implied, T-true, and-left, and-right, either, cond-false}
-use Rattle.grid.specs.Units.{units, unit, unitCell}
+use Rattle.grid.specs.Units.{units, unit}
 use Rattle.grid.proofs.Lists.{at-upTo, range-length, map-same}
-use Rattle.grid.proofs.Units.{cell-below}
 use Rattle.steps.specs.Boards.{at}
 use Rattle.steps.specs.Loops.{upTo}
 use Rattle.cells.specs.code.Places.{maskAt}

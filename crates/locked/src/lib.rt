@@ -3,13 +3,12 @@
 ghost use mathlib.Core.Path.{_≡_};
 ghost use mathlib.Core.List.{[], _∷_};
 ghost use Prim.Native.Nat.{_-_, _<_};
-ghost use Rattle.steps.specs.Boards.{isOpen};
 ghost use Rattle.steps.specs.Loops.{each, for, range};
-ghost use Rattle.steps.specs.Passes.{changed, pass, instances, Pointing, Claiming};
+ghost use Rattle.steps.specs.Passes.{pass, instances, Pointing, Claiming};
 ghost use Rattle.steps.specs.StepLists.{stepBytes};
 ghost use Rattle.steps.specs.code.Logs.{noted, logAfter};
 ghost use Rattle.cells.specs.code.Meets.{meetings, meetTurn};
-ghost use Rattle.cells.specs.code.Places.{loseIn, losePlaces, allMasks, heldPlaces};
+ghost use Rattle.cells.specs.code.Places.{allMasks, heldPlaces};
 ghost use Rattle.lanes.specs.code.Lanes.{InLanes, laid};
 ghost use Rattle.locked.specs.code.Locked.{metInstance, digitInstances, unitInstances, lockedDigit, lockedUnit, DigitSkips, BoxesOrLines};
 
@@ -17,74 +16,14 @@ mod rests;
 
 use candidates::masks;
 use cells::all_masks;
-use cells::lose_at;
-use cells::mask_at;
+use cells::meets::lose_met;
 use cells::meets::meetings;
-use cells::meets::met_places;
 use cells::meets::met_unit;
-use cells::meets::outside;
 use cells::notes::note;
 use cells::places_of;
-use grid::unit_cell;
 use lanes::doors;
 use lanes::lanes_of;
 use lanes::lay;
-
-// The cell loses the digits of `lost`, if it is open; whether it held any of them.
-fn take_at(givens: &[u8; 81], masks: &mut [u16; 81], cell: usize, lost: u16) -> bool
-    ensures { λ _. ⌜ now (masks .exit) ≡ loseIn (isOpen (now (givens .entry))) cell lost (now (masks .entry)) ⌝ }
-    ensures { λ r. ⌜ r ≡ changed (now (masks .entry)) (now (masks .exit)) ⌝ }
-{
-    let before = mask_at(masks, cell);
-    lose_at(givens, masks, cell, lost);
-    before != mask_at(masks, cell)
-}
-
-// The open cells at these places of the unit lose the digits of `lost`; whether they held any of them.
-fn take_places(
-    givens: &[u8; 81],
-    masks: &mut [u16; 81],
-    unit: usize,
-    places: u16,
-    lost: u16,
-) -> bool
-    ensures { λ _. ⌜ now (masks .exit) ≡ losePlaces (isOpen (now (givens .entry))) unit places lost (now (masks .entry)) ⌝ }
-    ensures { λ r. ⌜ r ≡ changed (now (masks .entry)) (now (masks .exit)) ⌝ }
-{
-    let mut any = false;
-    let mut place: usize = 0;
-    while place < 9 {
-        if masks::has_digit(places, place) {
-            any = any | take_at(givens, masks, unit_cell(unit, place), lost);
-        }
-        place += 1;
-    }
-    any
-}
-
-// As `cells::meets::lose_met`; whether anything was lost.
-fn take_met(
-    givens: &[u8; 81],
-    masks: &mut [u16; 81],
-    unit: usize,
-    digit: usize,
-    held: u16,
-    nth: usize,
-) -> bool
-    ensures { λ _. ⌜ now (masks .exit) ≡ meetTurn (now (givens .entry)) unit digit held nth (now (masks .entry)) ⌝ }
-    ensures { λ r. ⌜ r ≡ changed (now (masks .entry)) (now (masks .exit)) ⌝ }
-{
-    if masks::is_none(masks::lose(held, met_places(nth))) {
-        return take_places(
-            givens,
-            masks,
-            met_unit(unit, nth),
-            outside(unit, nth),
-            masks::digit_mask(digit),
-        );
-    }
-    false
-}
 
 // Claiming is noted of a line, Pointing of a box.
 fn note_met(log: &mut [u8], unit: usize, digit: usize, nth: usize)
@@ -112,7 +51,7 @@ fn locked_at(
     ensures { λ _. ⌜ now (masks .exit) ≡ meetTurn (now (givens .entry)) unit digit held nth (now (masks .entry)) ⌝ }
     ensures { λ _. ⌜ now (log .exit) ≡ logAfter (now (givens .entry)) (metInstance unit digit nth ∷ []) (now (masks .entry)) (now (log .entry)) ⌝ }
 {
-    if take_met(givens, masks, unit, digit, held, nth) {
+    if lose_met(givens, masks, unit, digit, held, nth) {
         note_met(log, unit, digit, nth);
     }
 }

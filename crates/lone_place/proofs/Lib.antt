@@ -1,4 +1,3 @@
-pub mod Gone
 pub mod Blocks
 pub mod Taking
 pub mod Peers

@@ -1,33 +1,34 @@
 -- The peers of a cell are the other cells of its row, its column and its box: where these lose digits while the cell holds nothing, and it gets back what it held, the peers have lost them. Assumes nothing.
 use mathlib.Core.Path.{_≡_, sym, ap, _∙_, subst}
 use mathlib.Core.Logic.{_≢_, _↔_, ⊎-elim}
-use mathlib.Core.Bool.{true, true≢false}
+use mathlib.Core.Bool.{Bool, true, not, _||_, true≢false}
 use mathlib.Core.List.{List, _++_, List·Memᴰ, List·Memᴰ·append-cases, Memᴰ·append-left, Memᴰ·append-right}
 use Prim.Native.Nat.{ℕ, _+_, _≤_, _<_}
 use native.Mathlib.Decide.{ℕ-discrete, decLt}
 use native.Mathlib.Omega.{arith}
-use lib.Dec.{eqb}
 use lib.ListN.{length, set, length-set, List·getD-eq-default}
-use lib.Seq.{getD-set-same, getD-set-other, set-out}
+use lib.Seq.{getD-set-same, getD-set-other, set-out, set-getD, set-set}
 use Rattle.candidates.specs.Masks.{has, union, Sub}
 use Rattle.candidates.proofs.Held.{held-all}
-use Rattle.candidates.proofs.Order.{sub-trans, union-left, union-right}
-use Rattle.candidates.proofs.Tests.{cond-true}
+use Rattle.candidates.proofs.Order.{sub-antisym, sub-none, sub-trans, union-left, union-right}
+use Rattle.candidates.proofs.Tests.{bool-iff, cond-true}
 use Rattle.grid.specs.Cells.{row, col, box, peers}
 use Rattle.grid.specs.Units.{unit, inUnit}
 use Rattle.grid.proofs.Cells.{row-below, col-below, box-below, row-in, col-in, box-in, share-sees, sees-irrefl, sees-shared, peer-sees, sees-peer}
 use Rattle.grid.proofs.Units.{kind, by-unit, member-below, member-in, member-mem, mem-member}
-use Rattle.steps.specs.Boards.{at, isOpen, Under, sameMasks}
+use Rattle.steps.specs.Boards.{at, isOpen, sameMasks}
+use Rattle.steps.specs.Passes.{changed}
 use Rattle.steps.specs.Published.{Candidate, Without}
 use Rattle.steps.specs.Steps.{loseAt, loseAll}
 use Rattle.steps.proofs.Loops.{each-append}
 use Rattle.steps.proofs.Losses.{Lost, lost-digits, without-same}
-use Rattle.steps.proofs.Steps.{all-under, all-length}
+use Rattle.steps.proofs.Masks.{same-eq, same-refl}
+use Rattle.steps.proofs.Steps.{all-length}
 use Rattle.cells.specs.code.Places.{losePlaces}
+use Rattle.cells.proofs.Losses.{Went, went-on, went-places}
 use Rattle.cells.proofs.Places.{places-lose}
 use Rattle.lone_place.specs.code.Turns.{peersLose}
 use Rattle.lone_place.specs.code.Due.{around}
-use Rattle.lone_place.proofs.Gone.{Went, went-on, went-apart}
 
 pub not-own : (c : ℕ) → List·Memᴰ c (peers c) → ⊥
 not-own c k = true≢false (sym (peer-sees c c k .1) ∙ sees-irrefl c)
@@ -42,6 +43,28 @@ put-back m n c e = go (decLt c (length n))
         let out : length n ≤ c = omega arith in
         let past : length m ≤ c = omega arith in
         ap (λ (l : List ℕ). at l c) (set-out n c (at m c) out) ∙ List·getD-eq-default n 0 out ∙ sym (List·getD-eq-default m 0 past)
+
+-- a cell that holds nothing while the others lose, and gets back what it held
+module _ (m : List ℕ) (c : ℕ) where
+  emptied : at (set m c 0) c ≡ 0
+  emptied = go (decLt c (length m))
+    where
+      go : Dec (c < length m) → at (set m c 0) c ≡ 0
+      go (yes h) = getD-set-same m c 0 0 h
+      go (no h) =
+          let out : length m ≤ c = omega arith in
+          ap (λ (l : List ℕ). at l c) (set-out m c 0 out) ∙ List·getD-eq-default m 0 out
+
+  told-apart : {x : Bool} {n : List ℕ} → Went x (set m c 0) n → x ≡ changed m (set n c (at m c))
+  told-apart {x} {n} w =
+      w .told
+      ∙ ap not
+      (bool-iff (sameMasks (set m c 0) n) (sameMasks m (set n c (at m c)))
+      (λ e. ap (sameMasks m) (ap (λ (o : List ℕ). set o c (at m c)) (sym (same-eq (set m c 0) n e)) ∙ set-set m c 0 (at m c) ∙ set-getD m c 0) ∙ same-refl m)
+      (λ e. ap (λ (o : List ℕ). sameMasks o n) (ap (λ (o : List ℕ). set o c 0) (same-eq m (set n c (at m c)) e) ∙ set-set n c (at m c) 0 ∙ ap (set n c) (sym none) ∙ set-getD n c 0) ∙ same-refl n))
+    where
+      none : at n c ≡ 0
+      none = sub-antisym (subst (Sub (at n c)) emptied (w .under .at c)) (sub-none (at n c))
 
 -- a unit of the cell is its row, its column or its box
 pub in-around : (f : ℕ → ℕ) (c u : ℕ) → u < 27 → inUnit u c ≡ true → Sub (f u) (around f c)
@@ -137,10 +160,5 @@ module _ (g : List ℕ) (c k : ℕ) (h : c < 81) (m : List ℕ) where
         ∙ without-same back (record { size = all-length (isOpen g) (peers c) (λ _. k) m; left = lost-digits (isOpen g) (λ _. k) (peers c) m })
 
     -- what the three tell
-    pub units-tell : (x y z : ℕ) → eqb x 0 ≡ sameMasks (set m c 0) first → eqb y 0 ≡ sameMasks first second → eqb z 0 ≡ sameMasks second third → eqb (union (union x y) z) 0 ≡ sameMasks m (set third c (at m c))
-    units-tell x y z t₁ t₂ t₃ = went-apart m c (went-on (went-on (went r in-row x e₁ t₁) (went (9 + p) in-col y e₂ t₂)) (went (18 + b) in-box z e₃ t₃))
-      where
-        went : (u : ℕ) → u < 27 → (x : ℕ) {n o : List ℕ} → o ≡ losePlaces (isOpen g) u 511 k n → eqb x 0 ≡ sameMasks n o → Went x n o
-        went u l x {n} {o} e t =
-            let q = e ∙ whole u l n in
-            record { under = subst (λ (v : List ℕ). Under v n) (sym q) (all-under (isOpen g) (unit u) (λ _. k) n); size = ap length q ∙ all-length (isOpen g) (unit u) (λ _. k) n; told = t }
+    pub units-tell : {x y z : Bool} → x ≡ changed (set m c 0) first → y ≡ changed first second → z ≡ changed second third → ((x || y) || z) ≡ changed m (set third c (at m c))
+    units-tell t₁ t₂ t₃ = told-apart m c (went-on (went-on (went-places (isOpen g) r 511 k e₁ t₁) (went-places (isOpen g) (9 + p) 511 k e₂ t₂)) (went-places (isOpen g) (18 + b) 511 k e₃ t₃))

@@ -30,7 +30,7 @@ fn lone_at(givens: &[u8; 81], masks: &mut [u16; 81], log: &mut [u8], cell: usize
 {
     let one = masks::digit_mask(digit);
     if masks::is_none(masks::meet(mask_at(masks, cell), masks::lose(511, one))) {
-        if lose_peers(givens, masks, cell, one) != 0 {
+        if lose_peers(givens, masks, cell, one) {
             note(log, 0, cell, digit + 1, 0, 0, 0);
         }
     }

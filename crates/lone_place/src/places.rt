@@ -12,8 +12,8 @@ ghost use Rattle.cells.specs.code.Places.{spotsIn, heldPlaces};
 ghost use Rattle.lone_place.specs.code.Turns.{placeDigit, placeUnit, digitPlaces, unitPlaces, familyPlaces};
 ghost use Rattle.lanes.specs.code.Lanes.{InLanes, laid, laneMasks, laneOf};
 ghost use Rattle.lone_place.specs.code.Due.{turnsOf, dueOf, placeDue, placeSets, placeFamily, Spares, PlaceSpares};
-use crate::losses::lose_cell;
 use candidates::masks;
+use cells::lose_at;
 use cells::notes::note;
 use cells::places_of;
 use cells::unions::join_all;
@@ -42,7 +42,7 @@ fn place_at(
 {
     let others = masks::lose(511, masks::digit_mask(digit));
     let cell = unit_cell(unit, place);
-    if lose_cell(givens, masks, cell, others) != 0 {
+    if lose_at(givens, masks, cell, others) {
         lay_cell(masks, lanes, cell);
         note(log, 1, unit, digit + 1, cell, 0, 0);
     }

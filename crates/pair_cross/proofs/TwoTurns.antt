@@ -14,7 +14,7 @@ use Rattle.candidates.proofs.FewDigits.{count-one, count-pair, tail-count, tail
 use Rattle.candidates.proofs.Held.{Held, none-held, held-union, held-power, held-below, sub-held}
 use Rattle.candidates.proofs.Order.{sub-refl}
 use Rattle.candidates.proofs.Tests.{cond-true, cond-false}
-use Rattle.steps.specs.Boards.{at, isOpen}
+use Rattle.steps.specs.Boards.{isOpen}
 use Rattle.steps.specs.Instances.{both}
 use Rattle.steps.specs.Loops.{each}
 use Rattle.steps.specs.Published.{Candidate}

@@ -4,12 +4,12 @@ ghost use mathlib.Core.Bool.{false};
 ghost use mathlib.Core.List.{[], _∷_};
 ghost use Prim.Native.Nat.{_<_};
 ghost use Rattle.steps.specs.Boards.{at, sameMasks};
+ghost use Rattle.steps.specs.Passes.{changed};
 ghost use Rattle.steps.specs.StepLists.{stepBytes};
 ghost use Rattle.steps.specs.code.Logs.{noted, logAfter};
 ghost use Rattle.pair_cross.specs.code.Twos.{Framed, frameInstance, twoHeld, reachOf, twoLose, twoTurn, linesTurned, linesInstances};
 use candidates::masks;
 use cells::all_but;
-use cells::changed;
 use cells::lose_places;
 use cells::notes::note;
 use grid::unit_cell;
@@ -129,7 +129,7 @@ pub fn reach(held: u16) -> u16
     0
 }
 
-// The other lines lose the places a and b.
+// The other lines lose the places a and b; whether they held any of them.
 fn lose_two(
     givens: &[u8; 81],
     masks: &mut [u16; 81],
@@ -138,29 +138,34 @@ fn lose_two(
     j: usize,
     a: usize,
     b: usize,
-)
+) -> bool
     requires { ⌜ Framed frame × (i < 9) × (j < 9) × (a < 9) × (b < 9) ⌝ }
     ensures { λ _. ⌜ now (masks .exit) ≡ twoLose (now (givens .entry)) frame i j a b (now (masks .entry)) ⌝ }
+    ensures { λ r. ⌜ r ≡ changed (now (masks .entry)) (now (masks .exit)) ⌝ }
 {
     let others = all_but(i, j);
     match frame {
         Frame::Unit(unit) => {
             let lost = masks::join(masks::digit_mask(a), masks::digit_mask(b));
-            lose_places(givens, masks, unit, others, lost);
+            lose_places(givens, masks, unit, others, lost)
         }
         Frame::Lines(first, digit) => {
             let lost = masks::digit_mask(digit);
-            lose_places(givens, masks, 9 - first + a, others, lost);
-            lose_places(givens, masks, 9 - first + b, others, lost);
+            let one = lose_places(givens, masks, 9 - first + a, others, lost);
+            let other = lose_places(givens, masks, 9 - first + b, others, lost);
+            one | other
         }
     }
 }
 
-// The step of lines i and j and places a and b: Pair, Cross, or Cross exchanged, whose lines are columns.
+// The step of lines i and j and places a and b: Pair, Cross, or Cross exchanged, whose lines are columns. Where nobody asks for steps, its cells are not worked out.
 fn note_two(log: &mut [u8], frame: Frame, i: usize, j: usize, a: usize, b: usize)
     requires { ⌜ Framed frame × (i < 9) × (j < 9) × (a < 9) × (b < 9) ⌝ }
     ensures { λ _. ⌜ now (log .exit) ≡ noted (stepBytes (frameInstance frame i j a b)) (now (log .entry)) ⌝ }
 {
+    if log.len() == 0 {
+        return;
+    }
     match frame {
         Frame::Unit(unit) => {
             let cell = unit_cell(unit, i);
@@ -197,10 +202,7 @@ fn two_at(
         held,
         masks::join(masks::digit_mask(a), masks::digit_mask(b)),
     )) {
-        let before = *masks;
-        lose_two(givens, masks, frame, i, j, a, b);
-        let after = *masks;
-        if changed(before, after) {
+        if lose_two(givens, masks, frame, i, j, a, b) {
             note_two(log, frame, i, j, a, b);
         }
     }

@@ -19,7 +19,6 @@ use Rattle.grid.proofs.Cells.{row-below, row-in}
 use Rattle.grid.proofs.Pigeonhole.{Injects, onto}
 use Rattle.grid.proofs.Units.{at-place, cell-below, in-member, member-below}
 use Rattle.steps.specs.Boards.{at, isOpen}
-use Rattle.steps.specs.Loops.{each}
 use Rattle.steps.specs.Passes.{Settled}
 use Rattle.steps.proofs.Fillings.{Filling, Holds, filling-settled}
 use Rattle.steps.proofs.Wide.{module8}

@@ -1,23 +1,19 @@
 -- A sweep that is left once six passes in a row have removed nothing: none of the six removes anything then, and what was swept is a whole sweep. Assumes nothing.
 use mathlib.Core.Path.{_≡_, refl, sym, ap, _∙_}
-use mathlib.Core.Bool.{cond}
 use mathlib.Core.Logic.{_≢_, _⊎_, inl, inr, ⊎-elim}
 use mathlib.Core.List.{List}
 use Prim.Native.Nat.{ℕ, _+_, _-_, _≤_, _<_}
 use native.Mathlib.Decide.{ℕ-discrete, decLt}
 use native.Mathlib.Omega.{arith}
-use borrow.Author.Tests.{not-true, not-false}
 use lib.ListN.{getD, List·getD-eq-default}
-use Rattle.candidates.proofs.Tests.{by-test}
 use Rattle.grid.proofs.Lists.{turn-done, turns-over}
-use Rattle.steps.specs.Boards.{sameMasks}
 use Rattle.steps.specs.Instances.{Instance}
 use Rattle.steps.specs.Loops.{each, for, range, upTo}
-use Rattle.steps.specs.Passes.{Cross, kinds, instances, instanceTaken, pass, changed, sweep, Settled}
+use Rattle.steps.specs.Passes.{Cross, kinds, instances, instanceTaken, pass, sweep, Settled}
 use Rattle.steps.specs.StepLists.{sweepInstances}
 use Rattle.steps.specs.code.Logs.{logAfter}
 use Rattle.steps.proofs.Loops.{each-idle, in-upTo}
-use Rattle.steps.proofs.Masks.{under-antisym, same-eq, differ}
+use Rattle.steps.proofs.Masks.{under-antisym}
 use Rattle.steps.proofs.Reach.{Reach, start, reach-trans, reach-under, reach-length, pass-reach}
 use Rattle.steps.proofs.StepLogs.{log-idle}
 use Rattle.steps.proofs.Turns.{each-in}
@@ -107,10 +103,6 @@ module _ (g : List ℕ) where
           idle = record { still = λ j a b. absurd (omega arith) };
           either = inr ((λ x. d (x ∙ sym (stays (so .reach) (rw did (pass-reach g (nthKind w) n)) x))), omega arith);
         }
-
-    -- either
-    pub going-on : {r : ℕ} → r ≡ cond (changed n o) 0 (i + 1) → Going m q (w + 1) r o
-    going-on {r} e = rw e (by-test (λ (x : ℕ). Going m q (w + 1) x o) (changed n o) 0 (i + 1) (λ t. going-changed (λ x. differ n o (not-true (sameMasks n o) t) (sym x))) (λ t. going-idle (sym (same-eq n o (not-false (sameMasks n o) t)))))
 
   module _ {m n : List ℕ} {q w i : ℕ} (w6 : w ≤ 6) (so : Going m q w i n) where
     -- six passes in a row have removed nothing

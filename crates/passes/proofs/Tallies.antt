@@ -1,7 +1,7 @@
 -- The tally of settling, pass by pass and sweep by sweep. Assumes nothing.
 use mathlib.Core.Path.{_≡_, refl, sym, ap, ap₂, _∙_}
 use mathlib.Core.Logic.{_≢_, _⊎_, ⊎-elim}
-use mathlib.Core.Bool.{cond}
+use mathlib.Core.Bool.{Bool, true, false}
 use mathlib.Core.List.{List, [], _∷_, _++_, map, List·Memᴰ}
 use Prim.Native.Nat.{ℕ, zero, suc, _+_, _-_, _≤_, _<_}
 use native.Mathlib.Nat.{zero-add, add-zero}
@@ -10,18 +10,16 @@ use native.Mathlib.Decide.{decLt}
 use native.Mathlib.Omega.{arith}
 use mir.Syntax.{w64}
 use mir.Val.{Fits}
-use borrow.Author.Tests.{not-false}
 use lib.ListN.{length, length-map, length-set, set, take, replicate, List·getD-eq-default}
 use lib.Seq.{take-all, take-suc, ext-getD, getD-at, getD-set-same, getD-set-other, set-getD}
-use Rattle.candidates.proofs.Tests.{by-test}
 use Rattle.grid.proofs.Lists.{at-upTo, range-length}
 use Rattle.steps.specs.Boards.{at, sameMasks, total}
 use Rattle.steps.specs.Difficulty.{summed, added, removedEach, removedIn}
 use Rattle.steps.specs.Loops.{each, upTo}
-use Rattle.steps.specs.Passes.{kinds, pass, changed, sweep}
+use Rattle.steps.specs.Passes.{kinds, pass, sweep}
 use Rattle.steps.proofs.Difficulty.{six-counts}
 use Rattle.steps.proofs.Loops.{each-idle}
-use Rattle.steps.proofs.Masks.{total-under, same-eq}
+use Rattle.steps.proofs.Masks.{total-under, total-less, same-eq, differ}
 use Rattle.steps.proofs.Reach.{reach-under, reach-length, pass-reach}
 use Rattle.steps.proofs.Settling.{each-still}
 use Rattle.passes.specs.code.Rounds.{nthKind}
@@ -117,6 +115,16 @@ module _ (g : List ℕ) where
   pub pass-fewer : (w : ℕ) (m : List ℕ) → total (pass g (nthKind w) m) ≤ total m
   pass-fewer w m = let r = pass-reach g (nthKind w) m in total-under (pass g (nthKind w) m) m (reach-length g r) (reach-under g r)
 
+  -- one that leaves as many candidates removed nothing
+  pub pass-same : (w : ℕ) (m : List ℕ) {o : List ℕ} → o ≡ pass g (nthKind w) m → total o ≡ total m → o ≡ m
+  pass-same w m {o} e t = go (sameMasks m o) refl
+    where
+      go : (b : Bool) → sameMasks m o ≡ b → o ≡ m
+      go true s = sym (same-eq m o s)
+      go false s =
+          let r = pass-reach g (nthKind w) m in
+          absurd (omega (arith, total-less o m (ap length e ∙ reach-length g r) (rw e (reach-under g r)) (λ q. differ m o s (sym q)), t))
+
   -- ---- a sweep
 
   six-turns : (m : List ℕ) (a b c d e f : ℕ) → each tallyTurn (upTo 6) (m, a ∷ b ∷ c ∷ d ∷ e ∷ f ∷ total m ∷ []) ≡ (sweep g m, tallyWith (removedEach g kinds m) (sweep g m) (a ∷ b ∷ c ∷ d ∷ e ∷ f ∷ total m ∷ []))
@@ -199,8 +207,3 @@ module _ (p n : List ℕ) {t : List ℕ} (x : ℕ) (six : length p ≡ 6) (e : t
 
   pub tally-left : at t 6 ≡ total n
   tally-left = ap (λ (l : List ℕ). at l 6) counted-from-zeros ∙ getD-at p (total n) [] 0 6 six
-
--- where the idle passes in a row are not counted anew, the pass removed nothing
-pub unchanged : (m n : List ℕ) (i : ℕ) {r : ℕ} → r ≡ cond (changed m n) 0 (i + 1) → r ≢ 0 → n ≡ m
-unchanged m n i e d =
-    by-test (λ (x : ℕ). x ≢ 0 → n ≡ m) (changed m n) 0 (i + 1) (λ _ h. absurd (h refl)) (λ t _. sym (same-eq m n (not-false (sameMasks m n) t))) (λ z. d (e ∙ z))

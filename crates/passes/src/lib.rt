@@ -1,6 +1,5 @@
 // A sweep of the six wide passes, and settling (module 9): over lent givens and masks, of which nothing is asked, and as a call on a board.
 ghost use mathlib.Core.Path.{_≡_};
-ghost use mathlib.Core.Bool.{cond};
 ghost use Prim.Native.Nat.{_+_, _≤_, _<_};
 ghost use mir.Syntax.{w64};
 ghost use mir.Val.{Fits};
@@ -8,7 +7,7 @@ ghost use Rattle.stops.specs.Answer.{map};
 ghost use Rattle.steps.specs.Boards.{at, total};
 ghost use Rattle.steps.specs.Calls.{answer, settlingCall};
 ghost use Rattle.steps.specs.Difficulty.{removedEach, summed, passCounts};
-ghost use Rattle.steps.specs.Passes.{kinds, pass, instances, changed, settle, removedBy};
+ghost use Rattle.steps.specs.Passes.{kinds, pass, instances, settle, removedBy};
 ghost use Rattle.steps.specs.StepLists.{sweepInstances, settlingInstances};
 ghost use Rattle.steps.specs.code.Logs.{logAfter};
 ghost use Rattle.board.specs.Boards.{boardOf, handed};
@@ -23,7 +22,6 @@ mod over;
 use board::Board;
 use board::check_given;
 use board::entries::givens_of;
-use cells::changed;
 use cells::notes::Steps;
 use cells::notes::steps_of;
 use cells::total;
@@ -63,29 +61,17 @@ fn nth_pass(
     }
 }
 
-// How many passes in a row have removed nothing, with the one that made `after` of `before`.
-fn idle_after(idle: usize, before: [u16; 81], after: [u16; 81]) -> usize
-    requires { ⌜ idle < 6 ⌝ }
-    ensures { λ r. ⌜ r ≡ cond (changed before after) 0 (idle + 1) ⌝ }
-{
-    if changed(before, after) {
-        return 0;
-    }
-    idle + 1
-}
-
 // A pass is counted at its number: what was left before it, which stands at place 6, less what it leaves.
-fn tally_pass(tally: &mut [usize; 7], nth: usize, after: [u16; 81])
-    requires { ⌜ (nth < 6) × (total after ≤ at (now tally) 6) × Fits w64 (summed (now tally)) ⌝ }
-    ensures { λ _. ⌜ now (tally .exit) ≡ tallied nth (total after) (now (tally .entry)) ⌝ }
+fn tally_pass(tally: &mut [usize; 7], nth: usize, left: usize)
+    requires { ⌜ (nth < 6) × (left ≤ at (now tally) 6) × Fits w64 (summed (now tally)) ⌝ }
+    ensures { λ _. ⌜ now (tally .exit) ≡ tallied nth left (now (tally .entry)) ⌝ }
 {
-    let left = total(after);
     tally[nth] += tally[6] - left;
     tally[6] = left;
 }
 
 // A sweep, the six passes in order, left as soon as six passes in a row, some of them of the sweep before, have removed nothing: then none of the six can.
-// `idle` is how many in a row had before it, and what is handed back how many have after it. Only a pass that removed something is tallied. Where settling is over with it,
+// `idle` is how many in a row had before it, and what is handed back how many have after it. A pass only removes, so that as many candidates are left exactly where it removed nothing; only the others are tallied. Where settling is over with it,
 // the passes that are left need not be tried: the sweep is left with five idle ones, and the next one ends at its first.
 fn sweep(
     givens: &[u8; 81],
@@ -109,13 +95,14 @@ fn sweep(
         if still == 6 {
             return 6;
         }
-        let before = *masks;
         nth_pass(givens, masks, log, doors, lanes, nth);
-        let after = *masks;
-        still = idle_after(still, before, after);
-        if still == 0 {
-            tally_pass(tally, nth, after);
-            if is_over(tally[6], givens, masks, lanes) {
+        let left = total(*masks);
+        if left == tally[6] {
+            still += 1;
+        } else {
+            still = 0;
+            tally_pass(tally, nth, left);
+            if is_over(left, givens, masks, lanes) {
                 return 5;
             }
         }

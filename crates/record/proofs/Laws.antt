@@ -9,7 +9,7 @@ use lib.Dec.{leb}
 use lib.IntN.{ℤ}
 use lib.ListN.{length, drop, length-append, drop-of-length-le}
 use lib.Seq.{drop-at, drop-drop}
-use Rattle.stops.specs.Answer.{Answer, gives}
+use Rattle.stops.specs.Answer.{gives}
 use Rattle.stops.proofs.Answers.{gives-same}
 use Rattle.grid.specs.Cells.{cells}
 use Rattle.steps.specs.Boards.{Board, together, givensOf, givens, fresh, noEntries, Givens, Admissible}

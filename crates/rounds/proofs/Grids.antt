@@ -1,6 +1,6 @@
 -- The grid of a line, and what a final carriage return has to do with it. Assumes nothing.
 use mathlib.Core.Path.{_≡_, refl, sym, ap, subst, _∙_}
-use mathlib.Core.Bool.{Bool, true, false, cond, _||_, true≢false, false≢true}
+use mathlib.Core.Bool.{Bool, true, false, cond, _||_, false≢true}
 use mathlib.Core.List.{List, [], _∷_}
 use Prim.Native.Nat.{ℕ, zero, suc, _-_, _≤_}
 use native.Mathlib.Omega.{arith}
@@ -8,7 +8,7 @@ use borrow.Author.Tests.{eqb-true}
 use lib.Dec.{eqb}
 use lib.ListN.{length, getD, take}
 use lib.Seq.{take-length, length-take-le}
-use Rattle.candidates.proofs.Tests.{by-test, cond-true, cond-false, neither}
+use Rattle.candidates.proofs.Tests.{by-test, cond-false, neither}
 use Rattle.steps.specs.Loops.{any}
 use Rattle.card.proofs.Newlines.{text-most}
 use Rattle.rounds.specs.Lines.{bareLength, bare, isSeparator, gridIn}

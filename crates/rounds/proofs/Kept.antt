@@ -12,7 +12,6 @@ use lib.IntN.{ℤ, pos}
 use lib.ListN.{length, take}
 use lib.Seq.{take-all}
 use Rattle.stops.specs.Answer.{Answer, gives, stop}
-use Rattle.stops.specs.Stops.{rowOf}
 use Rattle.stops.specs.declared.Stop.the-variants.{TextLength}
 use Rattle.candidates.proofs.Tests.{cond-true, cond-false}
 use Rattle.text.specs.Texts.{parseOf}

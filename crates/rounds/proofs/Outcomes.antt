@@ -1,6 +1,6 @@
 -- A line's first 256 bytes and the length of its grid say what comes of it. Assumes nothing.
 use mathlib.Core.Path.{_≡_, refl, sym, ap, ap₂, _∙_}
-use mathlib.Core.Bool.{Bool, true, false, cond, _||_, _&&_}
+use mathlib.Core.Bool.{Bool, true, false, cond, _||_}
 use mathlib.Core.List.{List, [], _∷_}
 use mathlib.Core.Option.{Option, none, some}
 use mathlib.Core.Logic.{_≢_}
@@ -29,7 +29,7 @@ use Rattle.difficulty.proofs.Figures.{rated}
 use Rattle.card.specs.Cards.{cardFor}
 use Rattle.rounds.specs.declared.answers.Checked.{Checked}
 use Rattle.rounds.specs.declared.answers.Checked.the-variants.{Wrong}
-use Rattle.rounds.specs.Lines.{bareLength, bare, isHandedOn, isSeparator, gridIn, answerIn}
+use Rattle.rounds.specs.Lines.{bareLength, bare, isSeparator, gridIn, answerIn}
 use Rattle.rounds.specs.Answers.{isFull, firstBroken, judged, checkOf}
 use Rattle.rounds.specs.Rounds.{Outcome, handedOn, refused, scored, gridOutcome, textOutcome, outcomeOf, outcomeBytes}
 use Rattle.rounds.specs.code.Kept.{answerAfter, readOutcome, scoredFrom, outcomeFrom}

@@ -1,6 +1,6 @@
 -- An answer that is right keeps the clues and is a correct filling: so it is the one of a finished card, and there is none of a dead one. Assumes nothing.
 use mathlib.Core.Path.{_≡_, refl, sym, ap, _∙_}
-use mathlib.Core.Bool.{Bool, true, false, cond, not, _||_, _&&_, true≢false}
+use mathlib.Core.Bool.{Bool, true, false, cond, _||_, true≢false}
 use mathlib.Core.List.{List}
 use mathlib.Core.Option.{Option, none, some}
 use mathlib.Core.Logic.{_≢_, ⊎-elim}
@@ -8,9 +8,8 @@ use Prim.Native.Nat.{ℕ, _<_}
 use native.Mathlib.Decide.{ℕ-discrete}
 use native.Mathlib.Omega.{arith}
 use borrow.Author.Tests.{ne-eqb}
-use lib.Dec.{eqb}
 use lib.IntN.{ℤ, pos}
-use lib.ListN.{length, getD}
+use lib.ListN.{getD}
 use Rattle.stops.specs.Answer.{gives}
 use Rattle.candidates.proofs.Tests.{T-true, either}
 use Rattle.grid.specs.Cells.{cells}
@@ -22,10 +21,8 @@ use Rattle.steps.specs.Fillings.{KeepsClues}
 use Rattle.steps.proofs.Searches.{none-cells}
 use Rattle.text.specs.Texts.{byteClue, cluesOf, parseOf}
 use Rattle.text.proofs.Readings.{accepted, plain-test, read-clues}
-use Rattle.card.specs.Cards.{cardFor}
 use Rattle.card.proofs.Verdicts.{card-says}
-use Rattle.rounds.specs.declared.answers.Checked.{Checked}
-use Rattle.rounds.specs.declared.answers.Checked.the-variants.{Wrong, Clue, Right}
+use Rattle.rounds.specs.declared.answers.Checked.the-variants.{Wrong, Right}
 use Rattle.rounds.specs.Answers.{isNumeral, isFull, isBroken, firstBroken, judged, answerCheck}
 use Rattle.rounds.specs.Promises.{RightAnswer, AnswersSay}
 

@@ -10,7 +10,7 @@ ghost use Rattle.rounds.specs.Lines.{isSeparator};
 ghost use Rattle.rounds.specs.Rounds.{outcomeBytes};
 ghost use Rattle.rounds.specs.Summaries.{tallied};
 ghost use Rattle.rounds.specs.code.Kept.{outcomeFrom};
-ghost use Rattle.rounds.specs.code.Cuts.{freshLine, freshState, held, grown, keptOne, bareGrid, doneBytes, doneState, lineEnd, isPassed, passOn, fed, fedBytes, isBegun, lastBytes, lastState};
+ghost use Rattle.rounds.specs.code.Cuts.{freshLine, freshState, held, grown, keptOne, bareGrid, doneBytes, doneState, lineEnd, isPassed, passOn, fed, fedBytes, lastBytes, lastState};
 use crate::lines::least;
 use crate::lines::write_line;
 use crate::tallies::Tally;

@@ -1,6 +1,7 @@
-// A step by its kind: the instance that its numbers name is taken; where they name none, nothing is.
+// A step by its kind: the instance that its numbers name is taken; where they name none, nothing is. Whether anything was lost is told.
 ghost use mathlib.Core.Path.{_≡_};
 ghost use Prim.Native.Nat.{_+_, _<_};
+ghost use Rattle.steps.specs.Passes.{changed};
 ghost use Rattle.steps.specs.StepLists.{afterStep};
 ghost use Rattle.steps.specs.code.Decoding.{claimingBy, crossBy, exchangedBy, loneBy, namedAt, namedBy, pairBy, placeBy, pointingBy};
 use crate::naming;
@@ -14,12 +15,14 @@ fn lone_step(
     x: usize,
     y: usize,
     z: usize,
-)
+) -> bool
     ensures { λ _. ⌜ now (masks .exit) ≡ afterStep (now (givens .entry)) (loneBy cell digit x y z) (now (masks .entry)) ⌝ }
+    ensures { λ r. ⌜ r ≡ changed (now (masks .entry)) (now (masks .exit)) ⌝ }
 {
     if naming::is_lone(cell, digit, x, y, z) {
-        taking::take_lone(givens, masks, cell, digit - 1);
+        return taking::take_lone(givens, masks, cell, digit - 1);
     }
+    false
 }
 
 fn place_step(
@@ -30,12 +33,14 @@ fn place_step(
     cell: usize,
     y: usize,
     z: usize,
-)
+) -> bool
     ensures { λ _. ⌜ now (masks .exit) ≡ afterStep (now (givens .entry)) (placeBy unit digit cell y z) (now (masks .entry)) ⌝ }
+    ensures { λ r. ⌜ r ≡ changed (now (masks .entry)) (now (masks .exit)) ⌝ }
 {
     if naming::is_place(unit, digit, cell, y, z) {
-        taking::take_place(givens, masks, unit, digit - 1, naming::place_in(unit, cell));
+        return taking::take_place(givens, masks, unit, digit - 1, naming::place_in(unit, cell));
     }
+    false
 }
 
 fn pair_step(
@@ -46,14 +51,16 @@ fn pair_step(
     second: usize,
     a: usize,
     b: usize,
-)
+) -> bool
     ensures { λ _. ⌜ now (masks .exit) ≡ afterStep (now (givens .entry)) (pairBy unit first second a b) (now (masks .entry)) ⌝ }
+    ensures { λ r. ⌜ r ≡ changed (now (masks .entry)) (now (masks .exit)) ⌝ }
 {
     if naming::is_pair(unit, first, second, a, b) {
         let i = naming::place_in(unit, first);
         let j = naming::place_in(unit, second);
-        taking::take_pair(givens, masks, unit, i, j, a - 1, b - 1);
+        return taking::take_pair(givens, masks, unit, i, j, a - 1, b - 1);
     }
+    false
 }
 
 fn pointing_step(
@@ -64,12 +71,14 @@ fn pointing_step(
     line: usize,
     y: usize,
     z: usize,
-)
+) -> bool
     ensures { λ _. ⌜ now (masks .exit) ≡ afterStep (now (givens .entry)) (pointingBy block digit line y z) (now (masks .entry)) ⌝ }
+    ensures { λ r. ⌜ r ≡ changed (now (masks .entry)) (now (masks .exit)) ⌝ }
 {
     if naming::is_pointing(block, digit, line, y, z) {
-        taking::take_locked(givens, masks, block, digit - 1, naming::line_in(line));
+        return taking::take_locked(givens, masks, block, digit - 1, naming::line_in(line));
     }
+    false
 }
 
 fn claiming_step(
@@ -80,12 +89,14 @@ fn claiming_step(
     block: usize,
     y: usize,
     z: usize,
-)
+) -> bool
     ensures { λ _. ⌜ now (masks .exit) ≡ afterStep (now (givens .entry)) (claimingBy line digit block y z) (now (masks .entry)) ⌝ }
+    ensures { λ r. ⌜ r ≡ changed (now (masks .entry)) (now (masks .exit)) ⌝ }
 {
     if naming::is_claiming(line, digit, block, y, z) {
-        taking::take_locked(givens, masks, line, digit - 1, naming::box_in(line, block));
+        return taking::take_locked(givens, masks, line, digit - 1, naming::box_in(line, block));
     }
+    false
 }
 
 fn cross_step(
@@ -96,12 +107,14 @@ fn cross_step(
     v: usize,
     x: usize,
     y: usize,
-)
+) -> bool
     ensures { λ _. ⌜ now (masks .exit) ≡ afterStep (now (givens .entry)) (crossBy digit u v x y) (now (masks .entry)) ⌝ }
+    ensures { λ r. ⌜ r ≡ changed (now (masks .entry)) (now (masks .exit)) ⌝ }
 {
     if naming::is_cross(0, 9, digit, u, v, x, y) {
-        taking::take_cross(givens, masks, 0, 9, digit - 1, u, v, x - 9, y - 9);
+        return taking::take_cross(givens, masks, 0, 9, digit - 1, u, v, x - 9, y - 9);
     }
+    false
 }
 
 fn exchanged_step(
@@ -112,12 +125,14 @@ fn exchanged_step(
     v: usize,
     x: usize,
     y: usize,
-)
+) -> bool
     ensures { λ _. ⌜ now (masks .exit) ≡ afterStep (now (givens .entry)) (exchangedBy digit u v x y) (now (masks .entry)) ⌝ }
+    ensures { λ r. ⌜ r ≡ changed (now (masks .entry)) (now (masks .exit)) ⌝ }
 {
     if naming::is_cross(9, 0, digit, u, v, x, y) {
-        taking::take_cross(givens, masks, 9, 0, digit - 1, u - 9, v - 9, x, y);
+        return taking::take_cross(givens, masks, 9, 0, digit - 1, u - 9, v - 9, x, y);
     }
+    false
 }
 
 // By the kind, the first of the six bytes.
@@ -130,8 +145,9 @@ fn take_step(
     r: usize,
     s: usize,
     t: usize,
-)
+) -> bool
     ensures { λ _. ⌜ now (masks .exit) ≡ afterStep (now (givens .entry)) (namedBy kind p q r s t) (now (masks .entry)) ⌝ }
+    ensures { λ r. ⌜ r ≡ changed (now (masks .entry)) (now (masks .exit)) ⌝ }
 {
     match kind {
         0 => lone_step(givens, masks, p, q, r, s, t),
@@ -141,7 +157,7 @@ fn take_step(
         4 => claiming_step(givens, masks, p, q, r, s, t),
         5 => cross_step(givens, masks, p, q, r, s, t),
         6 => exchanged_step(givens, masks, p, q, r, s, t),
-        _ => {}
+        _ => false,
     }
 }
 
@@ -152,12 +168,13 @@ fn wide(byte: u8) -> usize
 }
 
 // The step of the six bytes from a place on; a shorter piece names none.
-pub fn take_at(givens: &[u8; 81], masks: &mut [u16; 81], steps: &[u8], at: usize)
+pub fn take_at(givens: &[u8; 81], masks: &mut [u16; 81], steps: &[u8], at: usize) -> bool
     requires { ⌜ at < 4374 ⌝ }
     ensures { λ _. ⌜ now (masks .exit) ≡ afterStep (now (givens .entry)) (namedAt (now (steps .entry)) at) (now (masks .entry)) ⌝ }
+    ensures { λ r. ⌜ r ≡ changed (now (masks .entry)) (now (masks .exit)) ⌝ }
 {
     if at + 6 <= steps.len() {
-        take_step(
+        return take_step(
             givens,
             masks,
             wide(steps[at]),
@@ -168,4 +185,5 @@ pub fn take_at(givens: &[u8; 81], masks: &mut [u16; 81], steps: &[u8], at: usize
             wide(steps[at + 5]),
         );
     }
+    false
 }

@@ -10,7 +10,6 @@ use board::Board;
 use board::check;
 use board::entries::givens_of;
 use board::fresh::fresh_masks;
-use cells::changed;
 use stops::Check;
 use stops::Stop;
 
@@ -55,10 +54,7 @@ fn follow_steps(givens: &[u8; 81], start: [u16; 81], steps: &[u8]) -> Followed
     let mut masks = start;
     let mut index: usize = 0;
     while index < count {
-        let before = masks;
-        kinds::take_at(givens, &mut masks, steps, 6 * index);
-        let after = masks;
-        if !changed(before, after) {
+        if !kinds::take_at(givens, &mut masks, steps, 6 * index) {
             return Followed {
                 answer: Check::Refused(Stop::BadStep(index as i64)),
                 masks: start,

@@ -8,8 +8,8 @@ use native.Mathlib.Nat.{mod-lt, div-add-mod'}
 use native.Mathlib.Omega.{arith}
 use borrow.Author.Tests.{eqb-false}
 use lib.Dec.{eqb}
-use lib.ListN.{length, getD, replicate}
-use Rattle.candidates.proofs.Tests.{by-test, cond-true, cond-false}
+use lib.ListN.{length, getD}
+use Rattle.candidates.proofs.Tests.{by-test}
 use Rattle.stops.specs.Answer.{Answer, gives, stop, then}
 use Rattle.stops.specs.declared.Stop.the-variants.{NoOpenCell}
 use Rattle.stops.proofs.Answers.{gives-same, stop-gives}
@@ -17,7 +17,7 @@ use Rattle.steps.specs.Boards.{Board, givens, isOpen, sameMasks, total, 
 use Rattle.steps.specs.Calls.{checkOf}
 use Rattle.steps.specs.Difficulty.{summed, added, removedEach, removedIn, passCounts, kindOf, number, removedBySteps, pointsOf, openCells, Figure, figureOf, difficultyOf}
 use Rattle.steps.specs.DifficultyPromises.{Difficulties}
-use Rattle.steps.specs.Instances.{Instance, lone, place, pair, pointing, claiming, cross, exchanged, stepOf, lones, places, pairs, pointings, claimings, crosses}
+use Rattle.steps.specs.Instances.{Instance, pair, cross, exchanged, stepOf, lones, places, pairs, pointings, claimings, crosses}
 use Rattle.steps.specs.Loops.{each, for, upTo, above}
 use Rattle.steps.specs.Passes.{Kind, Lone, Place, Pair, Pointing, Claiming, Cross, kinds, instances, instanceTaken, pass, sweep, swept, settle, removedBy}
 use Rattle.steps.specs.StepLists.{sweepInstances, effective, settlingInstances, settlingSteps}

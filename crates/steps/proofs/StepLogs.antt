@@ -11,7 +11,7 @@ use Rattle.candidates.proofs.Tests.{by-test, cond-true, cond-false}
 use Rattle.steps.specs.Boards.{isOpen, sameMasks, total}
 use Rattle.steps.specs.Instances.{Instance, stepOf}
 use Rattle.steps.specs.Loops.{each, for, range, upTo}
-use Rattle.steps.specs.Passes.{Kind, kinds, instances, instanceTaken, pass, sweep, swept, Sweeps, settleIn, settle}
+use Rattle.steps.specs.Passes.{kinds, instances, instanceTaken, pass, sweep, swept, Sweeps, settleIn, settle}
 use Rattle.grid.proofs.Lists.{range-on, range-end}
 use Rattle.steps.specs.StepLists.{stepBytes, sweepInstances, effective, settlingInstances}
 use Rattle.steps.specs.code.Logs.{noted, logAfter}

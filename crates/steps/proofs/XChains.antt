@@ -1,5 +1,5 @@
 -- The X-chain search finds exactly the chains in words: `x-chain-laws`. It takes an admissible board to an admissible one. Assumes nothing.
-use mathlib.Core.Path.{_≡_, refl, sym, ap, _∙_, subst}
+use mathlib.Core.Path.{_≡_, refl, sym, _∙_, subst}
 use mathlib.Core.Logic.{_≢_, _⊎_, _↔_, inl, inr, ⊎-elim}
 use mathlib.Core.Bool.{Bool, true, false, cond, not, _&&_, true≢false}
 use mathlib.Core.List.{List, [], _∷_, _++_, List·Memᴰ, List·Memᴰ·head, List·Memᴰ·not-nil, List·Memᴰ·append-cases, List·Memᴰ·eq-of-singleton, Memᴰ·append-left, Memᴰ·append-right}
@@ -17,7 +17,7 @@ use Rattle.grid.proofs.Cells.{sees-shared, shared-sees}
 use Rattle.grid.proofs.Lists.{mem-select, select-mem, mem-range, range-mem}
 use Rattle.grid.proofs.Units.{member-below}
 use Rattle.steps.specs.Boards.{at, isOpen, Admissible}
-use Rattle.steps.specs.Chains.{onPath, links, weakLinks, strongLinks}
+use Rattle.steps.specs.Chains.{onPath, links}
 use Rattle.steps.specs.Loops.{for, select, any, upTo}
 use Rattle.steps.specs.Ported.{holds}
 use Rattle.steps.specs.Published.{Holder, Without}

@@ -1,5 +1,5 @@
 -- The difficulty figure (document 02, F-14): what each wide pass removed, points for it, and a quotient with its remainder.
-use mathlib.Core.Bool.{Bool, true, false, cond}
+use mathlib.Core.Bool.{cond}
 use mathlib.Core.List.{List, [], _∷_, map}
 use Prim.Native.Nat.{ℕ, zero, suc, _+_, _*_, _/_, _%_}
 use lib.Dec.{eqb}

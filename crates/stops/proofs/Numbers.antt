@@ -1,7 +1,6 @@
 -- Numbers in an `i64`: a signed number that fits is kept by a cast, and so is an unsigned one below 2 ^ 63.
 use mathlib.Core.Path.{_≡_, sym, ap, subst, _∙_}
 use Prim.Native.Nat.{ℕ, _<_, _^_}
-use native.Mathlib.Omega.{arith}
 use lib.IntN.{ℤ, pos}
 use mir.Syntax.{w32, w64}
 use mir.Val.{SFits, toZ, ofZ}

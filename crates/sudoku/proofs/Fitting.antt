@@ -1,9 +1,8 @@
 -- Counts of clues and of bytes, and the index of a byte, fit an `i64`.
-use mathlib.Core.Path.{_≡_, refl, sym, subst}
 use mathlib.Core.Bool.{Bool, true, false, cond}
 use mathlib.Core.List.{List}
 use mathlib.Core.Option.{Option, none, some}
-use Prim.Native.Nat.{ℕ, _+_, _<_, _≤_, _^_}
+use Prim.Native.Nat.{ℕ, _<_, _^_}
 use native.Mathlib.Omega.{arith}
 use lib.Dec.{leb}
 use lib.IntN.{ℤ, pos}
@@ -16,7 +15,6 @@ use Rattle.grid.specs.Cells.{cells}
 use Rattle.grid.proofs.Lists.{mem-range}
 use Rattle.steps.specs.Boards.{Board}
 use Rattle.steps.specs.Calls.{checkOf, firstBadClue}
-use Rattle.steps.specs.Loops.{first}
 use Rattle.steps.proofs.Loops.{first-by}
 use Rattle.board.specs.Boards.{clueCount, openWithOf}
 use Rattle.board.proofs.Answered.{clues-few}
@@ -30,7 +28,7 @@ use Rattle.record.specs.Records.{bytesIn, recordOf, writeIn}
 use Rattle.record.proofs.Rooms.{record-few}
 use Rattle.card.specs.Cards.{cardBytes, cardFor, cardOf, textIn}
 use Rattle.card.proofs.Cards.{read-short}
-use Rattle.calls.specs.Replays.{Run, callsOf, firstNoStep, replayOf, runOr}
+use Rattle.calls.specs.Replays.{callsOf, firstNoStep, replayOf, runOr}
 use Rattle.sudoku.specs.code.Fitting.{Fitting}
 use Rattle.sudoku.specs.code.Parts.{RunFits}
 

@@ -3,8 +3,6 @@ use mathlib.Core.Bool.{Bool, cond}
 use mathlib.Core.List.{List, [], _∷_}
 use Prim.Native.Nat.{ℕ}
 use lib.IntN.{ℤ, pos, negsuc}
-use mir.Syntax.{w64}
-use mir.Val.{SFits}
 use Rattle.stops.specs.Answer.{Answer, gives, stop}
 use Rattle.stops.specs.Stops.{rowOf}
 use Rattle.stops.specs.declared.Stop.{Stop}

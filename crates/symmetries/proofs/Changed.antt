@@ -1,6 +1,5 @@
 -- Masks in other clothes: what they hold, their order, and the change undone. Assumes nothing.
 use mathlib.Core.Path.{_≡_, sym, ap, _∙_, subst}
-use mathlib.Core.Bool.{Bool, true}
 use mathlib.Core.List.{List}
 use Prim.Native.Nat.{ℕ, _≤_, _<_}
 use native.Mathlib.Decide.{decLt}
@@ -12,7 +11,7 @@ use Rattle.candidates.proofs.Held.{Held, none-held, held-ext, held-below, held-
 use Rattle.candidates.proofs.Membership.{gather-lt}
 use Rattle.grid.proofs.Cells.{at-cells, past-cells, cells-size}
 use Rattle.steps.specs.Boards.{at, isOpen, Under}
-use Rattle.symmetries.specs.Changes.{Moves, OneToOne, Change, Symmetry, chained, relabelledMask, changedMasks}
+use Rattle.symmetries.specs.Changes.{Change, Symmetry, chained, relabelledMask, changedMasks}
 use Rattle.symmetries.proofs.Moves.{undoneChange, symmetry-undone}
 
 -- 81 masks of nine digits

@@ -3,28 +3,27 @@ use mathlib.Core.Path.{_≡_, refl, sym, ap, _∙_, subst}
 use mathlib.Core.Logic.{_≢_, _↔_}
 use mathlib.Core.Bool.{Bool, true, false, cond, not, _||_}
 use mathlib.Core.List.{List}
-use Prim.Native.Nat.{ℕ, suc, _+_, _-_, _≤_, _<_}
+use Prim.Native.Nat.{ℕ, suc, _-_, _≤_, _<_}
 use native.Mathlib.Decide.{decLt}
 use native.Mathlib.Omega.{arith}
-use borrow.Author.Tests.{eqb-true, eqb-false, eq-eqb, ne-eqb, le-leb}
+use borrow.Author.Tests.{eqb-true, eqb-false, ne-eqb, le-leb}
 use lib.Dec.{eqb, leb}
 use lib.IntN.{ℤ, pos}
 use lib.ListN.{length, getD}
-use Rattle.stops.specs.Answer.{gives}
-use Rattle.candidates.proofs.Tests.{by-test, cond-true, cond-false, eqb-iff, neither}
+use Rattle.candidates.proofs.Tests.{by-test, cond-true, cond-false, neither}
 use Rattle.grid.specs.Cells.{sees}
 use Rattle.grid.proofs.Cells.{at-cells, cells-size, map-cells}
-use Rattle.steps.specs.Boards.{Board, at, digitOf, noDigit, givensOf, jointOf, together, givens, given, isOpen, fresh, Givens, Under, Admissible}
-use Rattle.steps.specs.Calls.{badClue, badEntry, Clues, Entries, Admitted, checkOf, openedWith}
+use Rattle.steps.specs.Boards.{Board, at, digitOf, noDigit, givensOf, jointOf, together, given, isOpen, fresh, Givens, Under, Admissible}
+use Rattle.steps.specs.Calls.{badClue, badEntry, Clues, Entries, Admitted, openedWith}
 use Rattle.steps.specs.Published.{Candidate, FreshCandidate, FreshMasks}
 use Rattle.steps.proofs.Check.{digit-small, given-clue, clues-givens, admitted, admits}
 use Rattle.steps.proofs.Entries.{together-at}
-use Rattle.steps.proofs.Fresh.{fresh-small, fresh-length, mask-small}
+use Rattle.steps.proofs.Fresh.{mask-small}
 use Rattle.steps.proofs.FreshDigits.{fresh-clue, fresh-open, fresh-masks}
 use Rattle.symmetries.specs.Changes.{Moves, OneToOne, Change, Symmetry, andThen, chained, relabelledClue, relabelledMask, changedMasks, changedClues, changedBoard}
 use Rattle.symmetries.proofs.Changed.{Nine, nine-in, changed-at, changed-out, changed-has, changed-nine, changed-under}
 use Rattle.symmetries.proofs.Incidence.{sees-to}
-use Rattle.symmetries.proofs.Moves.{undoneChange, symmetry-undone}
+use Rattle.symmetries.proofs.Moves.{symmetry-undone}
 
 -- ---- one cell
 

@@ -13,7 +13,7 @@ use Rattle.steps.specs.Published.{Rows, Columns, Crossing}
 use Rattle.steps.specs.Wide.{Meets}
 use Rattle.steps.proofs.Members.{member-row, member-col, member-box, row-meets}
 use Rattle.symmetries.specs.Changes.{Change, Symmetry}
-use Rattle.symmetries.proofs.Moves.{undoneChange, symmetry-undone, same-to}
+use Rattle.symmetries.proofs.Moves.{symmetry-undone, same-to}
 
 -- ---- cells of one unit
 

@@ -2,7 +2,7 @@
 use mathlib.Core.Path.{_≡_, refl, sym, ap, _∙_, subst}
 use mathlib.Core.Logic.{_≢_, _⊎_, _↔_, inl, inr, ⊎-elim}
 use mathlib.Core.Bool.{Bool, true, false, true≢false}
-use mathlib.Core.List.{List, List·Memᴰ}
+use mathlib.Core.List.{List}
 use Prim.Native.Nat.{ℕ, _<_}
 use native.Mathlib.Omega.{arith}
 use Rattle.candidates.specs.Masks.{has}
@@ -12,7 +12,7 @@ use Rattle.candidates.proofs.Tests.{bool-iff, by-test}
 use Rattle.grid.specs.Units.{unit, unitCell, Member}
 use Rattle.grid.proofs.Units.{at-place, cells-differ}
 use Rattle.steps.specs.Boards.{at, isOpen}
-use Rattle.steps.specs.Loops.{each, upTo, above}
+use Rattle.steps.specs.Loops.{upTo, above}
 use Rattle.steps.specs.Ported.{isNakedPair, nakedPairLoss, nakedPairAt, nakedPairs}
 use Rattle.steps.specs.Published.{Candidate, NakedPair, NakedPairLoss, Without}
 use Rattle.steps.specs.Steps.{loseAll}

@@ -1,17 +1,12 @@
 -- Grids in other clothes: `other-clothes`, whose statement is specs/OtherClothes.antt. Assumes nothing.
 use mathlib.Core.Path.{_≡_, refl, sym, ap, _∙_, subst}
-use mathlib.Core.Bool.{Bool, true}
+use mathlib.Core.Bool.{true}
 use mathlib.Core.List.{List, [], _∷_}
-use Prim.Native.Nat.{ℕ, suc, _-_, _<_}
-use lib.IntN.{ℤ, pos}
-use lib.ListN.{getD}
-use Rattle.stops.specs.Answer.{gives}
-use Rattle.candidates.proofs.Tests.{cond-true, cond-false}
-use Rattle.grid.proofs.Cells.{map-cells}
+use Prim.Native.Nat.{_-_}
+use lib.IntN.{ℤ}
 use Rattle.steps.specs.Boards.{Board, givens, Admissible}
-use Rattle.steps.specs.Calls.{Clues, Entries, Call, settlingCall, withoutChain, outcome, answer, left, run, openedWith}
+use Rattle.steps.specs.Calls.{Clues, Entries, Call, settlingCall, withoutChain, outcome, left, run, openedWith}
 use Rattle.steps.proofs.Fresh.{fresh-admissible}
-use Rattle.steps.proofs.ListTheorem.{ListTheorem}
 use Rattle.steps.proofs.Lists.{Good, admitted-good, opened-good, board-givens, settles, list-theorem}
 use Rattle.symmetries.specs.Changes.{Change, Symmetry, chained, changedMasks, changedClues, changedBoard}
 use Rattle.symmetries.specs.OtherClothes.{settledBoard, IsSettled, OtherClothes}

@@ -7,16 +7,16 @@ use Prim.Native.Nat.{ℕ, _<_}
 use native.Mathlib.Omega.{arith}
 use Rattle.grid.specs.Units.{Member}
 use Rattle.grid.proofs.Units.{member-below}
-use Rattle.steps.specs.Boards.{at, isOpen, Under}
+use Rattle.steps.specs.Boards.{isOpen, Under}
 use Rattle.steps.specs.Passes.{Settled, settle}
 use Rattle.steps.specs.Published.{Candidate, NakedPairLoss, LockedLoss, Crossing, XWingLoss}
-use Rattle.steps.specs.Wide.{LoneCell, LoneLoss, OnlyPlace, PlaceLoss, PairCells, Locked, Meets, CrossCells, Removes, NoneRemoves}
+use Rattle.steps.specs.Wide.{LoneCell, LoneLoss, OnlyPlace, PlaceLoss, PairCells, Locked, CrossCells, Removes, NoneRemoves}
 use Rattle.steps.proofs.ListTheorem.{SettlingEnds}
 use Rattle.steps.proofs.Masks.{under-trans, under-eq, under-antisym}
 use Rattle.steps.proofs.Wide.{module8}
 use Rattle.symmetries.specs.Changes.{Change, Symmetry, changedMasks}
 use Rattle.symmetries.proofs.Changed.{Nine, changed-nine, changed-under, changed-back, changed-forth, Worn, worn-by, worn-off}
-use Rattle.symmetries.proofs.Incidence.{member-to, member-from, share-to, meets-to, crossing-to}
+use Rattle.symmetries.proofs.Incidence.{member-to, share-to, meets-to, crossing-to}
 use Rattle.symmetries.proofs.Moves.{undoneChange, symmetry-undone, comes, same-to}
 
 module _ {w : Change} (s : Symmetry w) {g m h n : List ℕ} (p : Worn w g m h n) where

@@ -11,7 +11,7 @@ use Rattle.grid.specs.Cells.{cell, row, col, box}
 use Rattle.grid.specs.Units.{inUnit}
 use Rattle.grid.proofs.Cells.{row-below, col-below, cell-of, row-of, col-of, box-of, cell-lt}
 use Rattle.grid.proofs.Units.{Kind, row-unit, col-unit, box-unit, kind, in-row, in-col, in-box}
-use Rattle.symmetries.specs.Changes.{Moves, OneToOne, Change, Symmetry, still, bothWays, swapped, relabelling, linesMoved, carried, InOneGroup, rowsExchanged, columnsExchanged, bandsExchanged, stacksExchanged, turned}
+use Rattle.symmetries.specs.Changes.{Moves, OneToOne, Symmetry, still, bothWays, swapped, relabelling, linesMoved, carried, InOneGroup, rowsExchanged, columnsExchanged, bandsExchanged, stacksExchanged, turned}
 
 -- ---- moves that undo themselves
 

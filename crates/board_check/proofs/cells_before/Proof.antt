@@ -10,22 +10,10 @@ Inv-loop after sheet₀ index₀ sheet index = Unit {0}
 abbrev μ-loop : tie.MeasureT-loop
 μ-loop after sheet₀ index₀ sheet index = 81 - index
 
-loop-holds : tie.Need-loop-holds Inv-loop μ-loop
-loop-holds c = tt
-
-loop-again : tie.Need-loop-again Inv-loop μ-loop
-loop-again c = tt
-
-returns : tie.Need-returns Inv-loop μ-loop
-returns c = tt
-
 pub cells-before-spec : {M : Type 1} → statement M
 cells-before-spec =
     tie.close
     (tie.spec
     Inv-loop
     μ-loop
-    loop-holds
-    (λ c. omega arith) (λ c. omega arith) (λ c. omega arith)
-    loop-again
-    returns)
+    (λ c. tt) (λ c. omega arith) (λ c. omega arith) (λ c. omega arith) (λ c. tt) (λ c. tt))

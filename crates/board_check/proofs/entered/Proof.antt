@@ -11,24 +11,11 @@ Inv-loop board cell i₀ t5 t6 i = Unit {0}
 abbrev μ-loop : tie.MeasureT-loop
 μ-loop board cell i₀ t5 t6 i = 7 - i
 
-loop-holds : tie.Need-loop-holds Inv-loop μ-loop
-loop-holds c = tt
-
-loop-again : tie.Need-loop-again Inv-loop μ-loop
-loop-again c = tt
-
-returns : tie.Need-returns Inv-loop μ-loop
-returns c = tt
-
 pub entered-spec : {M : Type 1} → statement M
 entered-spec =
     tie.close
     (tie.spec
     Inv-loop
     μ-loop
-    loop-holds
-    (λ c. omega arith) (λ c. omega arith) (search needs) (search needs) (search needs) (λ c. omega arith)
-    (λ c. omega arith)
-    loop-again
-    (search needs) (search needs) (search needs)
-    returns)
+    (λ c. tt) (λ c. omega arith) (λ c. omega arith) (search needs) (search needs) (search needs) (λ c. omega arith)
+    (λ c. omega arith) (λ c. tt) (search needs) (search needs) (search needs) (λ c. tt))

@@ -11,25 +11,12 @@ Inv-loop beside i₀ i = Unit {0}
 abbrev μ-loop : tie.MeasureT-loop
 μ-loop beside i₀ i = 7 - i
 
-loop-holds : tie.Need-loop-holds Inv-loop μ-loop
-loop-holds c = tt
-
-loop-again : tie.Need-loop-again Inv-loop μ-loop
-loop-again c = tt
-
-returns : tie.Need-returns Inv-loop μ-loop
-returns c = tt
-
 pub entry-numbers-spec : {M : Type 1} → statement M
 entry-numbers-spec =
     tie.close
     (tie.spec
     Inv-loop
     μ-loop
-    (search needs) (search needs)
-    loop-holds
-    (λ c. omega arith) (λ c. omega arith) (search needs) (λ c. omega arith) (search needs) (search needs)
-    (λ c. omega arith) (λ c. omega arith) (search needs) (λ c. omega arith) (search needs) (search needs)
-    (λ c. omega arith) (λ c. omega arith)
-    loop-again
-    returns)
+    (search needs) (search needs) (λ c. tt) (λ c. omega arith) (λ c. omega arith) (search needs) (λ c. omega arith)
+    (search needs) (search needs) (λ c. omega arith) (λ c. omega arith) (search needs) (λ c. omega arith)
+    (search needs) (search needs) (λ c. omega arith) (λ c. omega arith) (λ c. tt) (λ c. tt))

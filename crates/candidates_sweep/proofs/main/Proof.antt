@@ -11,23 +11,10 @@ Inv-loop i₀ i = Unit {0}
 abbrev μ-loop : tie.MeasureT-loop
 μ-loop i₀ i = 18 - i
 
-loop-holds : tie.Need-loop-holds Inv-loop μ-loop
-loop-holds c = tt
-
-loop-again : tie.Need-loop-again Inv-loop μ-loop
-loop-again c = tt
-
-returns : tie.Need-returns Inv-loop μ-loop
-returns c = tt
-
 pub main-spec : {M : Type 1} → statement M
 main-spec =
     tie.close
     (tie.spec
     Inv-loop
     μ-loop
-    (search needs)
-    loop-holds
-    (search needs) (λ c. omega arith) (λ c. omega arith)
-    loop-again
-    returns)
+    (search needs) (λ c. tt) (search needs) (λ c. omega arith) (λ c. omega arith) (λ c. tt) (λ c. tt))

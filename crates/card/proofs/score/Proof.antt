@@ -1,8 +1,7 @@
 -- `card::score` meets its contract: each part of the card, and the counts, are what its function gives. Assumes nothing.
 use borrow.Author.Needs.{needs}
 use mathlib.Core.Path.{_≡_, ap, _∙_}
-use mathlib.Core.List.{List, _++_}
-use Prim.Native.Nat.{ℕ}
+use mathlib.Core.List.{_++_}
 use lib.ListN.{length}
 use Rattle.grid.specs.Cells.{cells}
 use Rattle.steps.specs.Boards.{givensOf, fresh}

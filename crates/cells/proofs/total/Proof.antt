@@ -30,9 +30,6 @@ few c =
 cast-sum : tie.Need-cast-sum Inv-loop μ-loop
 cast-sum c = record { fits = omega (arith, few c) }
 
-add-sum : tie.Need-add-sum Inv-loop μ-loop
-add-sum c = omega (arith, few c)
-
 loop-again : tie.Need-loop-again Inv-loop μ-loop
 loop-again c =
     let inv = c .before .before .loop .inv in
@@ -51,8 +48,7 @@ total-spec =
     loop-holds
     (λ c. omega arith) (λ c. omega arith) (search needs)
     cast-sum
-    add-sum
-    (λ c. omega arith) (λ c. omega arith)
+    (λ c. omega (arith, few c)) (λ c. omega arith) (λ c. omega arith)
     loop-again
     (λ c. omega arith)
     returns)

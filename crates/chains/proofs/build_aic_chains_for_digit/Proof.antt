@@ -39,7 +39,7 @@ returns-2 c =
     let e = at .found .given .0 .0 in
     let q = sym (ap foundCell (at .found .given .1)) ∙ found .chain-end .ensures in
     let one = place-single (a .digit) (omega (arith, found .before .before .pre)) in
-    c .lose-at .ensures ∙ ap (λ (k : ℕ). loseIn (isOpen (a .givens .now)) e k (a .masks .now)) (c .before .digit-mask .ensures ∙ one)
+    c .lose-at .ensures .0 ∙ ap (λ (k : ℕ). loseIn (isOpen (a .givens .now)) e k (a .masks .now)) (c .before .digit-mask .ensures ∙ one)
     ∙ cond-true (ltb e 81) (loseAt (isOpen (a .givens .now)) e (single (a .digit)) (a .masks .now)) (a .masks .now) (lt-ltb e 81 (end-in-grid (a .givens .now) (a .masks .now) (a .digit) e q))
     ∙ ap (loseFound (a .givens .now) (a .digit) (a .masks .now)) q
 

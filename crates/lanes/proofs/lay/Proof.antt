@@ -1,14 +1,10 @@
 -- `lanes::lay` meets its contract. The invariant: the rows before this one are laid out. Assumes nothing.
-use mathlib.Core.Path.{_≡_, subst}
-use Prim.Native.Nat.{ℕ, _+_, _*_, _-_, _≤_}
+use Prim.Native.Nat.{_*_, _-_, _≤_}
 use native.Mathlib.Omega.{arith}
 use Rattle.lanes.specs.code.Lanes.{Partly}
 use Rattle.lanes.proofs.Spots.{partly-start, partly-to, partly-end}
 use Rattle.lanes.proofs.lay.Statement.{statement}
 use Rattle.lanes.proofs.lay.Tie as tie
-use Rattle.lanes.proofs.lay.Reads as reads
-use Rattle.lanes.proofs.lay.Lts as lts
-use Rattle.lanes.proofs.put_row.Reads as put-row-reads
 
 abbrev Inv-loop : tie.InvT-loop
 Inv-loop masks lanes₀ row₀ lanes row = (row ≤ 9) × Partly masks (9 * row) lanes

@@ -1,5 +1,5 @@
 -- `lanes::put` meets its contract: the three positions are the cell's spots. Assumes nothing.
-use mathlib.Core.Path.{_≡_, ap, _∙_}
+use mathlib.Core.Path.{ap, _∙_}
 use Prim.Native.Nat.{ℕ, _+_, _*_, _/_, _%_}
 use lib.Bits.{bitAnd}
 use lib.ListN.{set}
@@ -7,9 +7,6 @@ use Rattle.lanes.proofs.Spots.{put-is}
 use borrow.Author.Needs.{needs}
 use Rattle.lanes.proofs.put.Statement.{statement}
 use Rattle.lanes.proofs.put.Tie as tie
-use Rattle.lanes.proofs.put.Reads as reads
-use Rattle.lanes.proofs.put.Lts as lts
-use Rattle.candidates.proofs.masks.meet.Reads as meet-reads
 
 returns : tie.Need-returns
 returns c =

@@ -1,16 +1,11 @@
 -- `lanes::put_row` meets its contract. The invariant: the cells before this one are laid out. Assumes nothing.
-use mathlib.Core.Path.{_≡_, refl, ap, _∙_, subst}
-use mathlib.Core.List.{List}
+use mathlib.Core.Path.{_≡_, subst}
 use Prim.Native.Nat.{ℕ, _+_, _*_, _-_, _≤_}
 use native.Mathlib.Omega.{arith}
-use lib.Bits.{bitAnd}
 use Rattle.lanes.specs.code.Lanes.{Partly}
 use Rattle.lanes.proofs.Spots.{partly-on}
 use Rattle.lanes.proofs.put_row.Statement.{statement}
 use Rattle.lanes.proofs.put_row.Tie as tie
-use Rattle.lanes.proofs.put_row.Reads as reads
-use Rattle.lanes.proofs.put_row.Lts as lts
-use Rattle.lanes.proofs.put.Reads as put-reads
 
 abbrev Inv-loop : tie.InvT-loop
 Inv-loop masks lanes₀ row col₀ lanes col = (col ≤ 9) × Partly masks (9 * row + col) lanes
@@ -23,9 +18,6 @@ loop-holds c =
     let a = c .args in
     let e : 9 * a .row ≡ 9 * a .row + 0 = omega arith in
     (omega arith, subst (λ (i : ℕ). Partly (a .masks .now) i (a .lanes .now)) e (c .pre .1))
-
-put-requires : tie.Need-put-requires Inv-loop μ-loop
-put-requires c κs = (omega arith, omega arith)
 
 loop-again : tie.Need-loop-again Inv-loop μ-loop
 loop-again c =
@@ -47,8 +39,7 @@ put-row-spec =
     Inv-loop
     μ-loop
     loop-holds
-    (λ c. omega arith) (λ c. omega arith) (λ c. omega arith) (λ c. omega arith)
-    put-requires
+    (λ c. omega arith) (λ c. omega arith) (λ c. omega arith) (λ c. omega arith) (λ c κs. (omega arith, omega arith))
     (λ c. omega arith) (λ c. omega arith)
     loop-again
     returns)

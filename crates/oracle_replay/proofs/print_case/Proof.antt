@@ -5,9 +5,6 @@ use borrow.Author.Needs.{needs}
 use Rattle.oracle_replay.proofs.print_case.Statement.{statement}
 use Rattle.oracle_replay.proofs.print_case.Tie as tie
 
-slice-aggregate-word : tie.Need-slice-aggregate-word
-slice-aggregate-word c = omega (arith, length-take 81 (c .before .args .t1))
-
 slice-aggregate-parse-string : tie.Need-slice-aggregate-parse-string
 slice-aggregate-parse-string c = omega (arith, length-take 81 (c .before .before .before .before .before .args .t1))
 
@@ -15,9 +12,8 @@ pub print-case-spec : {M : Type 1} → statement M
 print-case-spec =
     tie.close
     (tie.spec
-    (search needs)
-    slice-aggregate-word
-    (search needs) (search needs) (search needs) (search needs)
+    (search needs) (λ c. omega (arith, length-take 81 (c .before .args .t1))) (search needs) (search needs)
+    (search needs) (search needs)
     slice-aggregate-parse-string
     (search needs) (search needs) (search needs) (search needs) (search needs) (λ c. search needs)
     (λ c. search needs))

@@ -1,12 +1,12 @@
 -- `passes::sweep` meets its contract. The invariant: where the sweep stands after its first passes (`Going`), the masks stand in the lanes, and the passes that are left still make the log and the tally. Assumes nothing.
-use mathlib.Core.Path.{_≡_, sym, ap, _∙_}
-use mathlib.Core.Logic.{inl, inr, ⊎-elim}
+use mathlib.Core.Path.{_≡_, refl, sym, ap, _∙_}
+use mathlib.Core.Logic.{_≢_, inl, inr, ⊎-elim}
 use mathlib.Core.List.{List}
-use Prim.Native.Nat.{_+_, _-_, _≤_, _<_}
+use Prim.Native.Nat.{ℕ, _+_, _-_, _≤_, _<_}
 use native.Mathlib.Omega.{arith}
 use borrow.Author.Needs.{needs}
 use Rattle.grid.proofs.Lists.{turn-done, turns-over}
-use Rattle.steps.specs.Boards.{total}
+use Rattle.steps.specs.Boards.{at, total}
 use Rattle.steps.specs.Difficulty.{removedEach}
 use Rattle.steps.specs.Instances.{Instance}
 use Rattle.steps.specs.Loops.{each, for, range}
@@ -16,10 +16,10 @@ use Rattle.steps.specs.code.Logs.{logAfter}
 use Rattle.steps.proofs.StepLogs.{log-done, log-over}
 use Rattle.cells.proofs.LogLengths.{log-kept}
 use Rattle.lanes.specs.code.Lanes.{laid}
-use Rattle.passes.specs.code.Tallies.{tallyWith, Tally}
+use Rattle.passes.specs.code.Tallies.{tallied, tallyWith, Tally}
 use Rattle.passes.proofs.Finished.{over-settled}
-use Rattle.passes.proofs.Rounds.{passInstances, sweep-blocks, Going, going-start, going-on, swept-early, swept-over, left-silent, swept-end}
-use Rattle.passes.proofs.Tallies.{tallyTurn, pass-fewer, sweep-tally, swept-tally, left-uncounted, tally-turn, unchanged}
+use Rattle.passes.proofs.Rounds.{passInstances, sweep-blocks, Going, going-start, going-idle, going-changed, swept-early, swept-over, left-silent, swept-end}
+use Rattle.passes.proofs.Tallies.{tallyTurn, pass-fewer, pass-same, sweep-tally, swept-tally, left-uncounted, tally-turn}
 use Rattle.passes.proofs.sweep.Statement.{statement}
 use Rattle.passes.proofs.sweep.Tie as tie
 
@@ -55,80 +55,78 @@ returns c =
 
 nth-pass-requires : tie.Need-nth-pass-requires Inv-loop μ-loop
 nth-pass-requires c κs =
-    let l = c .before .before .before .before .before .before in
+    let l = c .before .before .before .before .before in
     record { doors = l .before .before .pre .0 .doors; masks = l .loop .inv .1 }
 
--- the passes in a row are not six yet
-still-below : (c : tie.After-nth-pass Inv-loop μ-loop) → c .before .before .before .before .before .before .before .loop .still < 6
-still-below c = omega (arith, c .before .before .before .before .before .before .before .loop .inv .2 .few, c .before .before .before .before .before .if1 .left)
+-- a pass of the loop
+module _ (p : tie.After-nth-pass Inv-loop μ-loop) where
+  abbrev turn : tie.At-loop Inv-loop μ-loop
+  turn = p .before .before .before .before .before .before
 
-idle-after-requires : tie.Need-idle-after-requires Inv-loop μ-loop
-idle-after-requires c κs = still-below (c .before .before .before)
+  abbrev g : List ℕ
+  g = turn .before .before .args .givens .now
+
+  within : turn .loop .nth < 6
+  within = p .before .before .before .before .before .loop-test .taken
+
+  -- the passes in a row are not six yet
+  still-below : turn .loop .still < 6
+  still-below = omega (arith, turn .loop .inv .2 .few, p .before .before .before .before .if1 .left)
+
+  -- what it leaves, counted
+  fewer : {left : ℕ} → left ≡ total (p .nth-pass .last .1 .0) → left ≤ at (turn .loop .tally) 6
+  fewer e = omega (arith, e, ap total (p .nth-pass .ensures .0), pass-fewer g (turn .loop .nth) (turn .loop .masks), turn .loop .inv .4 .left)
+
+  same : {left : ℕ} → left ≡ total (p .nth-pass .last .1 .0) → left ≡ at (turn .loop .tally) 6 → p .nth-pass .last .1 .0 ≡ turn .loop .masks
+  same e t = pass-same g (turn .loop .nth) (turn .loop .masks) (p .nth-pass .ensures .0) (sym e ∙ t ∙ turn .loop .inv .4 .left)
+
+  other : {left : ℕ} → left ≡ total (p .nth-pass .last .1 .0) → left ≢ at (turn .loop .tally) 6 → p .nth-pass .last .1 .0 ≢ turn .loop .masks
+  other e d q = d (e ∙ ap total q ∙ sym (turn .loop .inv .4 .left))
+
+  -- the log
+  noting : logAfter g (for (range (6 - (turn .loop .nth + 1)) (turn .loop .nth + 1)) (passInstances g)) (p .nth-pass .last .1 .0) (p .nth-pass .last .1 .1 .0) ≡ logAfter g sweepInstances (turn .before .before .args .masks .now) (turn .before .before .args .log .now)
+  unfolding pass
+  noting = log-done g (passInstances g) 6 (turn .loop .nth) (turn .loop .masks) (turn .loop .log) within (p .nth-pass .ensures .0) (p .nth-pass .ensures .1 .1) (turn .loop .inv .3)
 
 tally-pass-requires : tie.Need-tally-pass-requires Inv-loop μ-loop
 tally-pass-requires c κs =
-    let p = c .before .before .before .before .before .before in
-    let l = p .before .before .before .before .before .before .before in
-    let tally = l .loop .inv .4 in
-    (omega arith, omega (arith, ap total (p .nth-pass .ensures .0), pass-fewer (l .before .before .args .givens .now) (l .loop .nth) (l .loop .masks), tally .left), tally .few)
+    let p = c .before .before .before .before .before .before .before in
+    (within p, fewer p (c .before .before .before .total .ensures), turn p .loop .inv .4 .few)
 
 loop-again : tie.Need-loop-again Inv-loop μ-loop
-unfolding pass
 loop-again c =
-    let p = c .before .before .before .before .before in
-    let l = p .before .before .before .before .before .before .before in
+    let p = c .before .before .before .before .before .before in
+    let t = c .before .before .total .ensures in
+    let l = turn p .loop in
     let done = p .nth-pass .ensures in
-    let g = l .before .before .args .givens .now in
-    let w = l .loop .nth in
-    let m = l .loop .masks in
-    let inv = l .loop .inv in
-    let idle = c .before .idle-after .ensures in
-    let tally =
-    tally-turn g (inv .4) {u = c .if2 .tally} w (omega arith) (done .0)
-    (⊎-elim (λ x. inl (x .8 ∙ x .2 .ensures)) (λ x. inr (unchanged m _ (l .loop .still) idle (x .0 .left), x .1)) (c .if2 .came)) in (
-      omega arith,
-      done .1 .0,
-      going-on g (omega arith) (still-below p) (inv .2) (done .0) idle,
-      log-done g (passInstances g) 6 w m (l .loop .log) (omega arith) (done .0) (done .1 .1) (inv .3),
-      tally .0,
-      turn-done (tallyTurn g) 6 w (omega arith) (tally .1) (inv .5),
-    )
-
--- the pass of the loop's number
-within : (p : tie.After-nth-pass Inv-loop μ-loop) → p .before .before .before .before .before .before .before .loop .nth < 6
-within p = p .before .before .before .before .before .before .loop-test .taken
+    let w =
+    ⊎-elim {C = (Tally (p .nth-pass .last .1 .0) (c .if2 .tally) × _≡_ {A = List ℕ × List ℕ} (p .nth-pass .last .1 .0, c .if2 .tally) (tallyTurn (g p) (l .nth) (l .masks, l .tally))) × Going (g p) (turn p .before .before .args .masks .now) (turn p .before .before .args .idle) (l .nth + 1) (c .if2 .still) (p .nth-pass .last .1 .0)}
+    (λ x. (tally-turn (g p) (l .inv .4) (l .nth) (within p) (done .0) (inr (same p t (x .0 .taken), x .1)), rw (x .2) (going-idle (g p) (within p) (still-below p) (l .inv .2) (done .0) (same p t (x .0 .taken)))))
+    (λ x. (tally-turn (g p) (l .inv .4) (l .nth) (within p) (done .0) (inl (x .7 ∙ x .2 .ensures ∙ ap (λ (n : ℕ). tallied (l .nth) n (l .tally)) t)), rw (x .8) (going-changed (g p) (within p) (still-below p) (l .inv .2) (done .0) (other p t (x .0 .left)))))
+    (c .if2 .came) in
+    (omega arith, done .1 .0, w .1, noting p, w .0 .0, turn-done (tallyTurn (g p)) 6 (l .nth) (within p) (w .0 .1) (l .inv .5))
 
 same-length-2 : tie.Need-same-length-2 Inv-loop μ-loop
-unfolding pass
-same-length-2 c =
-    let p = c .before .before .before .before .before .before .before .before .before .before .before .before in
-    let l = p .before .before .before .before .before .before .before in
-    let done = p .nth-pass .ensures in
-    log-kept _ _ _ _ _ _ _ (log-done (l .before .before .args .givens .now) (passInstances (l .before .before .args .givens .now)) 6 (l .loop .nth) (l .loop .masks) (l .loop .log) (within p) (done .0) (done .1 .1) (l .loop .inv .3))
+same-length-2 c = log-kept _ _ _ _ _ _ _ (noting (c .before .before .before .before .before .before .before .before .before .before .before .before))
 
 returns-2 : tie.Need-returns-2 Inv-loop μ-loop
-unfolding pass
 returns-2 c =
-    let o = c .before in
-    let t = o .before .before .before .before in
-    let i = t .before .before .before in
-    let p = i .before .before .before .before in
-    let l = p .before .before .before .before .before .before .before in
-    let a = l .before .before .args in
+    let over = c .before in
+    let tallies = over .before .before .before in
+    let counts = tallies .before .before .before .before in
+    let p = counts .before .before .before .before in
+    let t = counts .total .ensures in
+    let l = turn p .loop in
+    let a = turn p .before .before .args in
     let done = p .nth-pass .ensures in
-    let g = a .givens .now in
-    let w = l .loop .nth in
-    let m = l .loop .masks in
-    let inv = l .loop .inv in
-    let h = within p in
-    let next : w + 1 ≤ 6 = omega (arith, h) in
-    let tally = tally-turn g (inv .4) w h (done .0) (inl (t .tally-pass .ensures)) in
-    let going = going-on g h (still-below p) (inv .2) (done .0) (i .idle-after .ensures) in
-    let settled = over-settled g (p .nth-pass .last .1 .0) _ (done .1 .0) (sym (o .is-over .ensures) ∙ c .if3 .taken) in
-    let swept = swept-over g next going settled (t .before .before .if2 .taken) (omega arith) in
-    let noted = sym (left-silent g next going swept _) ∙ log-done g (passInstances g) 6 w m (l .loop .log) h (done .0) (done .1 .1) (inv .3) in
-    let counted = sym (left-uncounted g (tally .0) (range (6 - (w + 1)) (w + 1)) (going .rest ∙ sym (swept .swept))) ∙ turn-done (tallyTurn g) 6 w h (tally .1) (inv .5) in
-    (swept, (done .1 .0, (noted, (tally .0, swept-tally g (a .masks .now) (a .tally .now) counted))))
+    let next : l .nth + 1 ≤ 6 = omega (arith, within p) in
+    let tally = tally-turn (g p) (l .inv .4) (l .nth) (within p) (done .0) (inl (tallies .tally-pass .ensures ∙ ap (λ (n : ℕ). tallied (l .nth) n (l .tally)) t)) in
+    let going = going-changed (g p) (within p) (still-below p) (l .inv .2) (done .0) (other p t (tallies .before .before .if2 .left)) in
+    let settled = over-settled (g p) (p .nth-pass .last .1 .0) _ (done .1 .0) (sym (over .is-over .ensures) ∙ c .if3 .taken) in
+    let swept = swept-over (g p) next going settled refl (omega arith) in
+    let noted = sym (left-silent (g p) next going swept _) ∙ noting p in
+    let counted = sym (left-uncounted (g p) (tally .0) (range (6 - (l .nth + 1)) (l .nth + 1)) (going .rest ∙ sym (swept .swept))) ∙ turn-done (tallyTurn (g p)) 6 (l .nth) (within p) (tally .1) (l .inv .5) in
+    (swept, (done .1 .0, (noted, (tally .0, swept-tally (g p) (a .masks .now) (a .tally .now) counted))))
 
 same-length-3 : tie.Need-same-length-3 Inv-loop μ-loop
 same-length-3 c = log-kept _ _ _ _ _ _ _ (c .before .loop .inv .3)
@@ -154,9 +152,10 @@ sweep-spec =
     same-length
     returns
     nth-pass-requires
-    idle-after-requires
-    tally-pass-requires
     (search needs) (search needs)
+    (λ c. omega (arith, still-below (c .before .before .before .before .before .before)))
+    tally-pass-requires
+    (search needs)
     same-length-2
     returns-2
     (λ c. omega arith) (λ c. omega arith)

@@ -14,9 +14,6 @@ Inv-loop masks sum₀ cell₀ sum cell = (cell ≤ 81) × (sum ≡ sumOf masks c
 abbrev μ-loop : tie.MeasureT-loop
 μ-loop masks sum₀ cell₀ sum cell = 81 - cell
 
-loop-holds : tie.Need-loop-holds Inv-loop μ-loop
-loop-holds c = (omega arith, refl)
-
 loop-again : tie.Need-loop-again Inv-loop μ-loop
 loop-again c =
     let l = c .before .before .before in
@@ -37,7 +34,7 @@ mask-sum-spec =
     (tie.spec
     Inv-loop
     μ-loop
-    loop-holds
-    (λ c. omega arith) (λ c. omega arith) (search needs) (λ c. omega arith) (λ c. omega arith)
+    (λ c. (omega arith, refl)) (λ c. omega arith) (λ c. omega arith) (search needs) (λ c. omega arith)
+    (λ c. omega arith)
     loop-again
     returns)

@@ -1,6 +1,6 @@
 -- `record::check_unentered` meets its contract. Assumes nothing.
 use mathlib.Core.Path.{_≡_, sym, ap, _∙_}
-use Prim.Native.Nat.{ℕ, _+_, _*_, _<_}
+use Prim.Native.Nat.{_+_, _*_, _<_}
 use lib.Dec.{eqb}
 use lib.IntN.{ℤ, pos}
 use borrow.Author.Needs.{needs}
@@ -27,15 +27,6 @@ few : (c : tie.After-count-clues2) → c .count-clues2 .result < 82
 unfolding cells
 few c = omega (arith, c .count-clues2 .ensures, clues-few (givensOf (c .before .before .before .args .clues .now)) cells)
 
-mul-t5 : tie.Need-mul-t5
-mul-t5 c = omega (arith, few c)
-
-add-t6 : tie.Need-add-t6
-add-t6 c = omega (arith, few c)
-
-cast-t7 : tie.Need-cast-t7
-cast-t7 c = omega (arith, few c)
-
 returns-2 : tie.Need-returns-2
 returns-2 c =
     let e = c .before in
@@ -46,4 +37,9 @@ returns-2 c =
 
 pub check-unentered-spec : {M : Type 1} → statement M
 check-unentered-spec =
-    tie.close (tie.spec (search needs) returns (search needs) mul-t5 add-t6 cast-t7 returns-2)
+    tie.close
+    (tie.spec
+    (search needs)
+    returns
+    (search needs) (λ c. omega (arith, few c)) (λ c. omega (arith, few c)) (λ c. omega (arith, few c))
+    returns-2)

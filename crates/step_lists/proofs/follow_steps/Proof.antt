@@ -34,34 +34,22 @@ loop-holds c =
     let a = c .before .before .args in
     (omega arith, ap (λ (ss : List (Option Instance)). follow (a .givens .now) 0 ss (a .start)) (from-first (a .steps .now) (c .count-steps .result) (c .count-steps .ensures)))
 
-mul-take-at : tie.Need-mul-take-at Inv-loop μ-loop
-mul-take-at c = omega (arith, few (c .before .before .before))
-
-take-at-requires : tie.Need-take-at-requires Inv-loop μ-loop
-take-at-requires c κs = omega (arith, few (c .before .before .before))
-
-cast-t15 : tie.Need-cast-t15 Inv-loop μ-loop
-cast-t15 c = omega (arith, few (c .before .before .before .before .before .before))
-
 returns : tie.Need-returns Inv-loop μ-loop
 returns c =
-    let l = c .before .before .before .before .before .loop in
-    let a = c .before .before .before .before .before .before .before .before .args in
+    let l = c .before .before .before .before .loop in
+    let a = c .before .before .before .before .before .before .before .args in
     let e : stop (BadStep (toZ w64 (l .index))) ≡ follow (a .givens .now) 0 (stepsOf (a .steps .now)) (a .start) =
-    ap (λ (z : ℤ). stop (BadStep z)) (small (omega (arith, few (c .before .before .before .before .before .before))))
-    ∙ sym (step-bad (a .steps .now) (a .givens .now) (c .before .before .before .before .before .before .count-steps .result) (l .index) (l .masks) (omega arith) (c .before .before .take-at .ensures) (sym (c .before .changed .ensures) ∙ not-true (c .before .changed .result) (c .if1 .taken)))
+    ap (λ (z : ℤ). stop (BadStep z)) (small (omega (arith, few (c .before .before .before .before .before))))
+    ∙ sym (step-bad (a .steps .now) (a .givens .now) (c .before .before .before .before .before .count-steps .result) (l .index) (l .masks) (omega arith) (c .before .take-at .ensures .0) (sym (c .before .take-at .ensures .1) ∙ not-true (c .before .take-at .result) (c .if1 .taken)))
     ∙ l .inv .1 in
     (e, ap (valueOr (a .start)) e)
 
-add-index : tie.Need-add-index Inv-loop μ-loop
-add-index c = omega (arith, few (c .before .before .before .before .before .before))
-
 loop-again : tie.Need-loop-again Inv-loop μ-loop
 loop-again c =
-    let l = c .before .before .before .before .before .loop in
-    let a = c .before .before .before .before .before .before .before .before .args in (
+    let l = c .before .before .before .before .loop in
+    let a = c .before .before .before .before .before .before .before .args in (
       omega arith,
-      sym (step-good (a .steps .now) (a .givens .now) (c .before .before .before .before .before .before .count-steps .result) (l .index) (l .masks) (omega arith) (c .before .before .take-at .ensures) (sym (c .before .changed .ensures) ∙ not-false (c .before .changed .result) (c .if1 .left)))
+      sym (step-good (a .steps .now) (a .givens .now) (c .before .before .before .before .before .count-steps .result) (l .index) (l .masks) (omega arith) (c .before .take-at .ensures .0) (sym (c .before .take-at .ensures .1) ∙ not-false (c .before .take-at .result) (c .if1 .left)))
           ∙ l .inv .1,
     )
 
@@ -81,12 +69,9 @@ follow-steps-spec =
     μ-loop
     (search needs)
     loop-holds
-    mul-take-at
-    take-at-requires
-    (search needs)
-    cast-t15
+    (λ c. omega (arith, few (c .before .before .before))) (λ c κs. omega (arith, few (c .before .before .before)))
+    (λ c. omega (arith, few (c .before .before .before .before .before)))
     returns
-    add-index
-    (λ c. omega arith)
+    (λ c. omega (arith, few (c .before .before .before .before .before))) (λ c. omega arith)
     loop-again
     returns-2)

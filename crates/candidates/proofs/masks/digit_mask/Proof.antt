@@ -14,9 +14,6 @@ use Rattle.candidates.proofs.masks.digit_mask.Tie as tie
 small : (c : tie.Then1) → 2 ^ c .before .args .place < 2 ^ 16
 small c = pow-lt (c .if1 .taken)
 
-cast-result : tie.Need-cast-result
-cast-result c = omega (arith, small c)
-
 returns : tie.Need-returns
 returns c = omega (arith, small c) ∙ sym (place-single (c .before .args .place) (c .if1 .taken))
 
@@ -27,4 +24,4 @@ returns-2 c =
 
 pub digit-mask-spec : {M : Type 1} → statement M
 digit-mask-spec =
-    tie.close (tie.spec (search needs) cast-result returns returns-2)
+    tie.close (tie.spec (search needs) (λ c. omega (arith, small c)) returns returns-2)

@@ -11,28 +11,11 @@ Inv-loop mask rest₀ sum₀ counter₀ rest sum counter = Unit {0}
 abbrev μ-loop : tie.MeasureT-loop
 μ-loop mask rest₀ sum₀ counter₀ rest sum counter = 10 - counter
 
-loop-holds : tie.Need-loop-holds Inv-loop μ-loop
-loop-holds c = tt
-
-returns : tie.Need-returns Inv-loop μ-loop
-returns c = tt
-
-loop-again : tie.Need-loop-again Inv-loop μ-loop
-loop-again c = tt
-
-returns-2 : tie.Need-returns-2 Inv-loop μ-loop
-returns-2 c = tt
-
 pub digits-of-spec : {M : Type 1} → statement M
 digits-of-spec =
     tie.close
     (tie.spec
     Inv-loop
     μ-loop
-    (search needs) (search needs)
-    loop-holds
-    (search needs) (search needs) (search needs)
-    returns
-    (search needs) (search needs) (λ c. omega arith) (λ c. omega arith)
-    loop-again
-    returns-2)
+    (search needs) (search needs) (λ c. tt) (search needs) (search needs) (search needs) (λ c. tt) (search needs)
+    (search needs) (λ c. omega arith) (λ c. omega arith) (λ c. tt) (λ c. tt))

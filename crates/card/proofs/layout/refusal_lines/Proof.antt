@@ -4,14 +4,13 @@ use Rattle.output.specs.Decimals.{decimal}
 use Rattle.output.specs.code.Tapes.{tape, append}
 use Rattle.card.proofs.Cards.{refusal-short}
 use borrow.Author.Needs.{needs}
-use mathlib.Core.Path.{_≡_, sym, ap, subst, _∙_}
-use mathlib.Core.List.{List, [], _∷_, _++_}
+use mathlib.Core.Path.{ap, subst, _∙_}
+use mathlib.Core.List.{[], _∷_, _++_}
 use Prim.Native.Nat.{ℕ, _<_, _^_}
 use lib.IntN.{ℤ}
 use lib.Signed.{mag}
 use mir.Facts.{toZ-ofZ}
 use mir.Syntax.{w64}
-use mir.Val.{toZ, ofZ}
 use Rattle.stops.specs.Stops.{rowOf}
 use Rattle.card.specs.Layout.{lineOf, refusedLabel, signed, refusalBytes}
 use Rattle.output.proofs.Tapes.{append-one, joined}

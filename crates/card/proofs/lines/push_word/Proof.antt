@@ -15,9 +15,6 @@ Inv-loop lines₀ at word end₀ i₀ lines end i = append 256 (drop i word) (ta
 abbrev μ-loop : tie.MeasureT-loop
 μ-loop lines₀ at word end₀ i₀ lines end i = length word - i
 
-loop-holds : tie.Need-loop-holds Inv-loop μ-loop
-loop-holds c = refl
-
 loop-again : tie.Need-loop-again Inv-loop μ-loop
 unfolding append
 loop-again c =
@@ -36,7 +33,6 @@ push-word-spec =
     (tie.spec
     Inv-loop
     μ-loop
-    loop-holds
-    (λ c. omega arith) (search needs) (λ c. omega arith) (λ c. omega arith)
+    (λ c. refl) (λ c. omega arith) (search needs) (λ c. omega arith) (λ c. omega arith)
     loop-again
     returns)

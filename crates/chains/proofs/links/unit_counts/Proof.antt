@@ -23,9 +23,6 @@ loop-holds : tie.Need-loop-holds Inv-loop μ-loop
 unfolding unitCounts
 loop-holds c = (c .pre, fill-start _ 27 (replicate 27 0) refl)
 
-cast-counts : tie.Need-cast-counts Inv-loop μ-loop
-cast-counts c = omega (arith, c .before .holders-in .ensures .within)
-
 loop-again : tie.Need-loop-again Inv-loop μ-loop
 loop-again c =
     let h = c .before .holders-in in
@@ -43,8 +40,7 @@ unit-counts-spec =
     Inv-loop
     μ-loop
     loop-holds
-    (λ c. omega arith)
-    cast-counts
-    (λ c. omega arith) (λ c. omega arith) (λ c. omega arith)
+    (λ c. omega arith) (λ c. omega (arith, c .before .holders-in .ensures .within)) (λ c. omega arith)
+    (λ c. omega arith) (λ c. omega arith)
     loop-again
     returns)

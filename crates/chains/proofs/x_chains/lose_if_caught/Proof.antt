@@ -15,7 +15,7 @@ use Rattle.chains.proofs.x_chains.lose_if_caught.Tie as tie
 returns : tie.Need-returns
 returns c =
     let a = c .before .before .before .before .args in
-    c .lose-at .ensures
+    c .lose-at .ensures .0
     ∙ sym (cond-true (sees (a .start) (a .cell) && any (endSees (a .ends .now) (a .cell)) (listed (a .linked .now) (a .count))) (loseIn (isOpen (a .givens .now)) (a .cell) (a .lost) (a .masks .now)) (a .masks .now)
     (sym (c .before .before .before .is-caught .ensures) ∙ c .before .before .if1 .taken))
 

@@ -47,9 +47,6 @@ loop-holds c =
           ∙ digit-over (a .givens .now) (a .masks .now) (a .digit) hs (sums .result) linked count (all .ensures .are) (sums .ensures) (chosen .ensures .are) (c .digit-mask .ensures ∙ place-single (a .digit) (omega (arith, s .pre))),
     )
 
-array-read-start : tie.Need-array-read-start Inv-loop μ-loop
-array-read-start c = omega (arith, c .before .loop .inv .1, c .loop-test .taken)
-
 lose-from-requires : tie.Need-lose-from-requires Inv-loop μ-loop
 lose-from-requires c κs =
     let l = c .before .before .before .before .before in
@@ -87,7 +84,7 @@ x-chain-digit-spec =
     linked-cells-requires
     (search needs)
     loop-holds
-    array-read-start
+    (λ c. omega (arith, c .before .loop .inv .1, c .loop-test .taken))
     lose-from-requires
     (λ c. omega arith) (λ c. omega arith)
     loop-again

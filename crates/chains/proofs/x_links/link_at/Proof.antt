@@ -10,9 +10,6 @@ use Rattle.chains.specs.code.XLinks.{otherOf}
 use Rattle.chains.proofs.x_links.link_at.Statement.{statement}
 use Rattle.chains.proofs.x_links.link_at.Tie as tie
 
-element-copy-out-if-seen : tie.Need-element-copy-out-if-seen
-element-copy-out-if-seen c = omega (arith, c .before .pre)
-
 returns : tie.Need-returns
 returns c =
     let one = c .before .before in
@@ -27,4 +24,4 @@ returns-2 c =
 
 pub link-at-spec : {M : Type 1} → statement M
 link-at-spec =
-    tie.close (tie.spec element-copy-out-if-seen (search needs) returns (search needs) returns-2)
+    tie.close (tie.spec (λ c. omega (arith, c .before .pre)) (search needs) returns (search needs) returns-2)

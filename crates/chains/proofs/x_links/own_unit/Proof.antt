@@ -5,7 +5,7 @@ use borrow.Author.Needs.{needs}
 use borrow.Author.Tests.{eq-eqb, ne-eqb}
 use lib.Dec.{eqb}
 use Rattle.candidates.proofs.Tests.{cond-true, cond-false}
-use Rattle.grid.specs.Cells.{row, col, box}
+use Rattle.grid.specs.Cells.{row, col}
 use Rattle.chains.proofs.x_links.own_unit.Statement.{statement}
 use Rattle.chains.proofs.x_links.own_unit.Tie as tie
 

@@ -6,9 +6,6 @@ use Rattle.locked.proofs.FirstDue.{none-nine, none-then}
 use Rattle.locked.proofs.rests.first_due.Statement.{statement}
 use Rattle.locked.proofs.rests.first_due.Tie as tie
 
-add-result : tie.Need-add-result
-add-result c = omega (arith, c .first-some .ensures .most)
-
 returns : tie.Need-returns
 returns c =
     let found = c .before .before in
@@ -18,9 +15,6 @@ returns-2 : tie.Need-returns-2
 returns-2 c =
     let found = c .before .before .before in
     rw (found .before .if1 .left) (none-nine _ 0 (found .nine-due2 .ensures) (c .before .first-some2 .ensures) (omega arith))
-
-add-result-2 : tie.Need-add-result-2
-add-result-2 c = omega (arith, c .first-some3 .ensures .most)
 
 returns-3 : tie.Need-returns-3
 returns-3 c =
@@ -34,11 +28,9 @@ pub first-due-spec : {M : Type 1} → statement M
 first-due-spec =
     tie.close
     (tie.spec
-    (search needs) (search needs)
-    add-result
+    (search needs) (search needs) (λ c. omega (arith, c .first-some .ensures .most))
     returns
     (search needs) (search needs)
     returns-2
-    (search needs) (search needs)
-    add-result-2
+    (search needs) (search needs) (λ c. omega (arith, c .first-some3 .ensures .most))
     returns-3)

@@ -4,15 +4,13 @@ use mathlib.Core.List.{List}
 use Prim.Native.Nat.{ℕ}
 use native.Mathlib.Omega.{arith}
 use borrow.Author.Needs.{needs}
-use borrow.Author.Tests.{eq-eqb, ne-eqb}
 use lib.Dec.{eqb}
 use Rattle.candidates.specs.Masks.{count, single}
-use Rattle.steps.specs.Boards.{sameMasks}
 use Rattle.steps.specs.Instances.{lone}
 use Rattle.steps.specs.Passes.{instanceTaken}
 use Rattle.steps.specs.StepLists.{stepBytes}
-use Rattle.steps.proofs.Masks.{same-eq}
-use Rattle.steps.proofs.StepLogs.{log-one, log-none}
+use Rattle.steps.proofs.StepLogs.{log-none}
+use Rattle.cells.proofs.Losses.{noted-lost, noted-kept}
 use Rattle.cells.proofs.NineBits.{place-is}
 use Rattle.lone_place.specs.code.Turns.{peersLose}
 use Rattle.lone_place.proofs.Taking.{loneTest, lone-taken, lone-left}
@@ -43,16 +41,15 @@ unfolding stepBytes
 returns c =
     let lost = c .before .before .before .before .before in
     let a = lost .before .before .before .before .before .before .before .before .before .before .args in
-    let m = a .masks .now in
     let e = taken lost (lost .lose-peers .ensures .0) in
-    (e, c .before .before .note .ensures ∙ sym (log-one (a .givens .now) (lone (a .cell) (a .digit)) m (a .log .now) (ap (sameMasks m) (sym e) ∙ sym (lost .lose-peers .ensures .1) ∙ ne-eqb (lost .lose-peers .result) 0 (c .before .before .before .before .if2 .taken))))
+    (e, c .before .before .note .ensures ∙ noted-lost (a .givens .now) (lone (a .cell) (a .digit)) (a .masks .now) e (a .log .now) (sym (lost .lose-peers .ensures .1) ∙ c .before .before .before .before .if2 .taken))
 
 returns-2 : tie.Need-returns-2
 returns-2 c =
     let lost = c .before in
     let a = lost .before .before .before .before .before .before .before .before .before .before .args in
     let e = taken lost (lost .lose-peers .ensures .0) in
-    (e, sym (log-none (a .givens .now) (lone (a .cell) (a .digit)) (a .masks .now) (a .log .now) (sym e ∙ sym (same-eq (a .masks .now) _ (sym (lost .lose-peers .ensures .1) ∙ eq-eqb (lost .lose-peers .result) 0 (c .if2 .left))))))
+    (e, noted-kept (a .givens .now) (lone (a .cell) (a .digit)) (a .masks .now) e (a .log .now) (sym (lost .lose-peers .ensures .1) ∙ c .if2 .left))
 
 returns-3 : tie.Need-returns-3
 returns-3 c =

@@ -4,28 +4,28 @@ use mathlib.Core.List.{List, [], _∷_}
 use Prim.Native.Nat.{ℕ, _+_, _<_}
 use native.Mathlib.Omega.{arith}
 use borrow.Author.Needs.{needs}
-use borrow.Author.Tests.{eq-eqb, ne-eqb}
+use borrow.Author.Tests.{eq-eqb, not-false}
 use lib.Bits.{bitAnd}
 use lib.Dec.{eqb}
 use Rattle.candidates.specs.Masks.{minus, single}
 use Rattle.candidates.proofs.Tests.{cond-true}
 use Rattle.grid.specs.Units.{unitCell}
 use Rattle.grid.proofs.Units.{cell-below}
-use Rattle.steps.specs.Boards.{at, isOpen, sameMasks}
+use Rattle.steps.specs.Boards.{at, isOpen}
 use Rattle.steps.specs.Instances.{place}
 use Rattle.steps.specs.Passes.{instanceTaken}
 use Rattle.steps.specs.StepLists.{stepBytes}
 use Rattle.steps.specs.Steps.{loseAt}
 use Rattle.steps.specs.code.Logs.{noted}
-use Rattle.steps.proofs.StepLogs.{log-one, log-none}
+use Rattle.steps.proofs.Masks.{same-eq}
 use Rattle.steps.proofs.Steps.{lose-other}
 use Rattle.cells.specs.code.Places.{loseIn, heldPlaces}
+use Rattle.cells.proofs.Losses.{noted-lost, noted-kept}
 use Rattle.cells.proofs.Places.{lose-cell}
 use Rattle.cells.proofs.NineBits.{place-is}
 use Rattle.lanes.specs.code.Lanes.{laid, putAt}
 use Rattle.lanes.proofs.Spots.{laid-one}
 use Rattle.lone_place.specs.code.Turns.{placeTurn}
-use Rattle.lone_place.proofs.Gone.{Went, went-as, went-cell, same-if}
 use Rattle.lone_place.proofs.PlaceTurns.{taken}
 use Rattle.lone_place.proofs.places.place_at.Statement.{statement}
 use Rattle.lone_place.proofs.places.place_at.Tie as tie
@@ -52,7 +52,7 @@ step c =
     sym (cond-true (eqb left 0) (loseAt (isOpen (a .givens .now)) (unitCell (a .unit) (a .place)) (minus 511 (single (a .digit))) m) m (eq-eqb left 0 (c .pre .3)))
     ∙ sym (taken (a .givens .now) (a .unit) (a .digit) (c .pre .0) (c .pre .1) m (a .place) (c .pre .2))
 
-lost : (c : tie.After-lose-cell) {o : List ℕ} → let a = c .before .before .before .before .before .before .args in
+lost : (c : tie.After-lose-at) {o : List ℕ} → let a = c .before .before .before .before .before .before .args in
     o ≡ loseIn (isOpen (a .givens .now)) (c .before .before .unit-cell .result) (c .before .before .before .lose .result) (a .masks .now) → o ≡ instanceTaken (a .givens .now) (place (a .unit) (a .digit) (a .place)) (a .masks .now)
 lost c e =
     let named = c .before .before in
@@ -70,13 +70,6 @@ laid-lost : (g m : List ℕ) (i k : ℕ) {n p q : List ℕ} → i < 81 → n ≡
 laid-lost g m i k {n} {p} {q} h e b d =
     d ∙ ap (putAt i (bitAnd (at n i) 511)) b ∙ laid-one m n i h (λ j r. ap (λ (o : List ℕ). at o j) (e ∙ lose-cell (isOpen g) i k m h) ∙ lose-other (isOpen g) i k m j r)
 
--- whether the masks changed
-told : (c : tie.After-lose-cell) {o : List ℕ} → let a = c .before .before .before .before .before .before .args in
-    o ≡ loseIn (isOpen (a .givens .now)) (c .before .before .unit-cell .result) (c .before .before .before .lose .result) (a .masks .now) → Went (c .lose-cell .result) (a .masks .now) o
-told c e =
-    let a = c .before .before .before .before .before .before .args in
-    went-as (c .lose-cell .ensures .1) e (went-cell (a .givens .now) (a .masks .now) (c .before .before .unit-cell .result) (c .before .before .before .lose .result))
-
 returns : tie.Need-returns
 unfolding stepBytes
 returns c =
@@ -86,14 +79,13 @@ returns c =
     let start = gone .before .before .before .before .before .before in
     let a = start .args in
     let m = a .masks .now in
-    let x = place (a .unit) (a .digit) (a .place) in
-    let loss = gone .lose-cell .ensures .0 in
-    let e = lost gone loss in (
+    let loss = gone .lose-at .ensures in
+    let e = lost gone (loss .0) in (
       e,
       (
-        laid-lost (a .givens .now) m (gone .before .before .unit-cell .result) (gone .before .before .before .lose .result) (within (gone .before .before)) loss (start .pre .4) (lay .lay-cell .ensures),
+        laid-lost (a .givens .now) m (gone .before .before .unit-cell .result) (gone .before .before .before .lose .result) (within (gone .before .before)) (loss .0) (start .pre .4) (lay .lay-cell .ensures),
         c .before .before .note .ensures ∙ ap (λ (i : ℕ). noted (1 ∷ a .unit ∷ (a .digit + 1) ∷ i ∷ 0 ∷ 0 ∷ []) (a .log .now)) (gone .before .before .unit-cell .ensures)
-            ∙ sym (log-one (a .givens .now) x m (a .log .now) (ap (sameMasks m) (sym e) ∙ sym (told gone loss .told) ∙ ne-eqb (gone .lose-cell .result) 0 (hit .if1 .taken))),
+            ∙ noted-lost (a .givens .now) (place (a .unit) (a .digit) (a .place)) m e (a .log .now) (sym (loss .1) ∙ hit .if1 .taken),
       ),
     )
 
@@ -102,10 +94,10 @@ returns-2 c =
     let gone = c .before in
     let start = gone .before .before .before .before .before .before in
     let a = start .args in
-    let loss = gone .lose-cell .ensures .0 in
-    let e = lost gone loss in
-    let same = same-if (told gone loss) (c .if1 .left) in
-    (e, (start .pre .4 ∙ ap laid (sym same), sym (log-none (a .givens .now) (place (a .unit) (a .digit) (a .place)) (a .masks .now) (a .log .now) (sym e ∙ same))))
+    let loss = gone .lose-at .ensures in
+    let e = lost gone (loss .0) in
+    let idle = sym (loss .1) ∙ c .if1 .left in
+    (e, (start .pre .4 ∙ ap laid (same-eq (a .masks .now) _ (not-false _ idle)), noted-kept (a .givens .now) (place (a .unit) (a .digit) (a .place)) (a .masks .now) e (a .log .now) idle))
 
 pub place-at-spec : {M : Type 1} → statement M
 place-at-spec =

@@ -40,9 +40,6 @@ returns c =
     let others = openHeld (a .held .now) (set (set (a .doors .now) (a .i) 0) (a .j) 0) in
     still start (ap (bitAnd others) (sym (lost-is (c .before)) ∙ c .if1 .taken) ∙ and-zero-r others)
 
-other-doors-requires : tie.Need-other-doors-requires
-other-doors-requires c κs = (omega arith, omega arith)
-
 -- what the open cells of the others hold of it
 open-is : (c : tie.After-meet)
     → let start = c .before .before .before .before .before .before .before .before .before .before .before in
@@ -105,8 +102,7 @@ two-turn-spec =
     (tie.spec
     (λ c. omega arith) (λ c. omega arith) (λ c. omega arith) (λ c. omega arith) (search needs) (search needs)
     returns
-    other-doors-requires
-    (search needs) (search needs)
+    (λ c κs. (omega arith, omega arith)) (search needs) (search needs)
     returns-2
     two-lines-requires
     (search needs) (search needs) (search needs)

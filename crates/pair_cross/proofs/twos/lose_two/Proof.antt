@@ -6,6 +6,7 @@ use Rattle.candidates.specs.Masks.{union, placeMask}
 use Rattle.steps.specs.Boards.{isOpen}
 use Rattle.cells.specs.code.Places.{losePlaces, allBut}
 use Rattle.cells.proofs.Crossings.{two-across}
+use Rattle.cells.proofs.Losses.{went-on, went-places}
 use Rattle.cells.proofs.NineBits.{both-is}
 use Rattle.pair_cross.specs.code.Twos.{Framed, twoLose}
 use Rattle.pair_cross.specs.declared.twos.Frame.{Frame}
@@ -26,13 +27,15 @@ returns c =
     let a = start .args in
     let u = told .frame .given .0 .0 in
     let m = a .masks .now in
-    c .lose-places .ensures
+    let e =
+    c .lose-places .ensures .0
     ∙ ap (λ (ps : ℕ). losePlaces (isOpen (a .givens .now)) u ps (c .before .before .join .result) m) (told .before .before .all-but .ensures)
     ∙ ap (λ (k : ℕ). losePlaces (isOpen (a .givens .now)) u (allBut (a .i) (a .j)) k m)
     (c .before .before .join .ensures ∙ ap (λ (x : ℕ). union x (c .before .before .before .digit-mask2 .result)) (c .before .before .before .before .digit-mask .ensures) ∙ ap (union (placeMask (a .a))) (c .before .before .before .digit-mask2 .ensures)
     ∙ both-is (a .a) (a .b) (start .pre .3) (start .pre .4))
     ∙ pair-lose (a .givens .now) (a .i) (a .j) (a .a) (a .b) (start .pre .1) (start .pre .2) (start .pre .3) (start .pre .4) u (subst Framed (told .frame .given .1) (start .pre .0)) m
-    ∙ sym (ap (λ (F : Frame). twoLose (a .givens .now) F (a .i) (a .j) (a .a) (a .b) m) (told .frame .given .1))
+    ∙ sym (ap (λ (F : Frame). twoLose (a .givens .now) F (a .i) (a .j) (a .a) (a .b) m) (told .frame .given .1)) in
+    (e, c .lose-places .ensures .1)
 
 returns-2 : tie.Need-returns-2
 unfolding twoLose
@@ -45,12 +48,17 @@ returns-2 c =
     let framed = subst Framed (told .frame2 .given .1) (start .pre .0) in
     let m = a .masks .now in
     let k = c .before .before .before .before .digit-mask3 .result in
-    c .lose-places3 .ensures
-    ∙ ap (losePlaces (isOpen (a .givens .now)) (9 - f + a .b) (told .before .before .all-but .result) k) (c .before .before .lose-places2 .ensures)
+    let others = told .before .before .all-but .result in
+    let x = c .before .before .lose-places2 .ensures in
+    let y = c .lose-places3 .ensures in
+    let e =
+    y .0
+    ∙ ap (losePlaces (isOpen (a .givens .now)) (9 - f + a .b) others k) (x .0)
     ∙ ap (λ (x : ℕ). losePlaces (isOpen (a .givens .now)) (9 - f + a .b) x k (losePlaces (isOpen (a .givens .now)) (9 - f + a .a) x k m)) (told .before .before .all-but .ensures)
     ∙ ap (λ (x : ℕ). losePlaces (isOpen (a .givens .now)) (9 - f + a .b) (allBut (a .i) (a .j)) x (losePlaces (isOpen (a .givens .now)) (9 - f + a .a) (allBut (a .i) (a .j)) x m)) (c .before .before .before .before .digit-mask3 .ensures)
     ∙ two-across (a .givens .now) f (9 - f) d (a .i) (a .j) (crossed f (framed .0)) (framed .1) (start .pre .1) (start .pre .2) (a .a) (a .b) (start .pre .3) (start .pre .4) m
-    ∙ sym (ap (λ (F : Frame). twoLose (a .givens .now) F (a .i) (a .j) (a .a) (a .b) m) (told .frame2 .given .1))
+    ∙ sym (ap (λ (F : Frame). twoLose (a .givens .now) F (a .i) (a .j) (a .a) (a .b) m) (told .frame2 .given .1)) in
+    (e, went-on (went-places (isOpen (a .givens .now)) (9 - f + a .a) others k (x .0) (x .1)) (went-places (isOpen (a .givens .now)) (9 - f + a .b) others k (y .0) (y .1)) .told)
 
 pub lose-two-spec : {M : Type 1} → statement M
 lose-two-spec =

@@ -2,33 +2,33 @@
 use mathlib.Core.Path.{_≡_, sym, ap, _∙_}
 use mathlib.Core.Bool.{Bool, true, false, cond}
 use mathlib.Core.List.{List}
-use Prim.Native.Nat.{ℕ}
+use Prim.Native.Nat.{ℕ, _<_}
 use borrow.Author.Needs.{needs}
-use borrow.Author.Tests.{not-true, not-false}
 use lib.Dec.{eqb}
 use Rattle.candidates.specs.Masks.{minus, union, placeMask}
 use Rattle.candidates.proofs.Counts.{test-none}
 use Rattle.candidates.proofs.Tests.{cond-true, cond-false}
-use Rattle.steps.specs.Boards.{sameMasks}
 use Rattle.steps.specs.Instances.{both}
 use Rattle.steps.specs.Passes.{instanceTaken}
-use Rattle.steps.proofs.Masks.{same-eq}
-use Rattle.steps.proofs.StepLogs.{log-one, log-none}
+use Rattle.steps.proofs.StepLogs.{log-none}
+use Rattle.cells.proofs.Losses.{noted-lost, noted-kept}
 use Rattle.cells.proofs.NineBits.{both-is}
-use Rattle.pair_cross.specs.code.Twos.{frameInstance, twoLose, twoTurn}
+use Rattle.pair_cross.specs.code.Twos.{Framed, frameInstance, twoLose, twoTurn}
 use Rattle.pair_cross.proofs.FrameLogs.{turn-taken}
 use Rattle.pair_cross.proofs.twos.two_at.Statement.{statement}
 use Rattle.pair_cross.proofs.twos.two_at.Tie as tie
 
+-- the lines and the places are there
+there : (c : tie.After-lose-two-arg) → let a = c .before .before .before .before .before .before .before .before .args in Framed (a .frame) × (a .i < 9) × (a .j < 9) × (a .a < 9) × (a .b < 9)
+there c =
+    let p = c .before .before .before .before .before .before .before .before .pre in
+    (p .0, p .1, p .2, p .3, p .4)
+
 lose-two-requires : tie.Need-lose-two-requires
-lose-two-requires c κs =
-    let start = c .before .before .before .before .before .before .before .before .before in
-    (start .pre .0, start .pre .1, start .pre .2, start .pre .3, start .pre .4)
+lose-two-requires c κs = there c
 
 note-two-requires : tie.Need-note-two-requires
-note-two-requires c κs =
-    let start = c .before .before .before .before .before .before .before .before .before .before .before .before .before .before in
-    (start .pre .0, start .pre .1, start .pre .2, start .pre .3, start .pre .4)
+note-two-requires c κs = there (c .before .before .before)
 
 -- what is tested
 tested : (c : tie.After-is-none) → c .is-none .result ≡ eqb (minus (c .before .before .before .before .before .before .args .held) (both (c .before .before .before .before .before .before .args .a) (c .before .before .before .before .before .before .args .b))) 0
@@ -71,33 +71,28 @@ module _ (c : tie.After-is-none) where
 returns : tie.Need-returns
 unfolding twoTurn
 returns c =
-    let changed = c .before .before .before .before .before in
-    let lose = changed .before .before in
-    let then = lose .before .before .before in
+    let hit = c .before .before .before .before in
+    let lose = hit .before in
+    let then = lose .before .before in
     let a = start (then .before) .args in
-    let x = frameInstance (a .frame) (a .i) (a .j) (a .a) (a .b) in
-    let after = lose .lose-two .ensures ∙ sym (holds (then .before) (then .if1 .taken)) in
-    let some = not-true _ (sym (changed .changed .ensures) ∙ c .before .before .before .before .if2 .taken) in
-    (after, c .before .before .note-two .ensures ∙ sym (log-one (a .givens .now) x (a .masks .now) (a .log .now) (ap (sameMasks (a .masks .now)) (takes (then .before) ∙ sym after) ∙ some)))
+    let after = lose .lose-two .ensures .0 ∙ sym (holds (then .before) (then .if1 .taken)) in
+    (after, c .before .before .note-two .ensures ∙ noted-lost (a .givens .now) (frameInstance (a .frame) (a .i) (a .j) (a .a) (a .b)) (a .masks .now) (after ∙ sym (takes (then .before))) (a .log .now) (sym (lose .lose-two .ensures .1) ∙ hit .if2 .taken))
 
 returns-2 : tie.Need-returns-2
 unfolding twoTurn
 returns-2 c =
-    let lose = c .before .before .before in
-    let then = lose .before .before .before in
+    let lose = c .before in
+    let then = lose .before .before in
     let a = start (then .before) .args in
-    let x = frameInstance (a .frame) (a .i) (a .j) (a .a) (a .b) in
-    let after = lose .lose-two .ensures ∙ sym (holds (then .before) (then .if1 .taken)) in
-    let none = same-eq (a .masks .now) _ (not-false _ (sym (c .before .changed .ensures) ∙ c .if2 .left)) in
-    (after, sym (log-none (a .givens .now) x (a .masks .now) (a .log .now) (takes (then .before) ∙ sym after ∙ sym none)))
+    let after = lose .lose-two .ensures .0 ∙ sym (holds (then .before) (then .if1 .taken)) in
+    (after, noted-kept (a .givens .now) (frameInstance (a .frame) (a .i) (a .j) (a .a) (a .b)) (a .masks .now) (after ∙ sym (takes (then .before))) (a .log .now) (sym (lose .lose-two .ensures .1) ∙ c .if2 .left))
 
 returns-3 : tie.Need-returns-3
 unfolding twoTurn
 returns-3 c =
     let a = start (c .before) .args in
-    let x = frameInstance (a .frame) (a .i) (a .j) (a .a) (a .b) in
     let idle = fails (c .before) (c .if1 .left) in
-    (sym idle, sym (log-none (a .givens .now) x (a .masks .now) (a .log .now) (takes (c .before) ∙ idle)))
+    (sym idle, sym (log-none (a .givens .now) (frameInstance (a .frame) (a .i) (a .j) (a .a) (a .b)) (a .masks .now) (a .log .now) (takes (c .before) ∙ idle)))
 
 pub two-at-spec : {M : Type 1} → statement M
 two-at-spec =
@@ -105,7 +100,6 @@ two-at-spec =
     (tie.spec
     (search needs) (search needs) (search needs) (search needs) (search needs)
     lose-two-requires
-    (search needs)
     note-two-requires
     (search needs)
     returns

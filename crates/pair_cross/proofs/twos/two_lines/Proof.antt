@@ -82,7 +82,7 @@ returns c =
     let g = a .givens .now in
     let m = a .masks .now in
     let p = start .pre in (
-      lose .lose-two .ensures ∙ ap₂ (λ (x y : ℕ). twoLose g (a .frame) (a .i) (a .j) x y m) (first-is b) (second-is b)
+      lose .lose-two .ensures .0 ∙ ap₂ (λ (x y : ℕ). twoLose g (a .frame) (a .i) (a .j) x y m) (first-is b) (second-is b)
           ∙ sym (two-turned (a .held) (held-nine m (a .frame) (a .i) (a .j) (p .3)) (two t) g (a .frame) (a .i) (a .j) m),
       c .before .before .note-two .ensures ∙ ap₂ (λ (x y : ℕ). noted (stepBytes (frameInstance (a .frame) (a .i) (a .j) x y)) (a .log .now)) (first-is b) (second-is b)
           ∙ sym (two-noted g (a .frame) (p .0) (a .i) (a .j) (p .1) (p .2) m (p .3) (two t) (p .4) (a .log .now)),

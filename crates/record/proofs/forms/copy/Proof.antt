@@ -19,9 +19,6 @@ loop-holds : tie.Need-loop-holds Inv-loop μ-loop
 unfolding leading
 loop-holds c = (refl, fill-front (λ i. getD (c .args .bytes .now) i 0) (c .args .count) (c .args .out .now) (c .pre .1))
 
-element-copy-out-out : tie.Need-element-copy-out-out Inv-loop μ-loop
-element-copy-out-out c = omega (arith, c .before .before .pre .0)
-
 slice-write-out : tie.Need-slice-write-out Inv-loop μ-loop
 slice-write-out c = omega (arith, c .before .before .loop .inv .0, c .before .before .before .pre .1)
 
@@ -47,7 +44,7 @@ copy-spec =
     Inv-loop
     μ-loop
     loop-holds
-    element-copy-out-out
+    (λ c. omega (arith, c .before .before .pre .0))
     slice-write-out
     (λ c. omega arith) (λ c. omega arith)
     loop-again

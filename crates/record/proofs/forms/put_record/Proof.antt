@@ -29,9 +29,6 @@ entries-length c k =
     let g = t .before .before in
     entered-length (g .before .before .before .before .before .before .before .args .entries .now) (t .digit-sets2 .ensures ∙ ap digitSets (g .givens-of3 .ensures)) k
 
-put-section-requires : tie.Need-put-section-requires
-put-section-requires c κs = omega (arith, printed-length (c .before .before))
-
 put-entered-requires : tie.Need-put-entered-requires
 put-entered-requires c κs =
     let p = c .before .before in
@@ -83,7 +80,7 @@ put-record-spec =
     tie.close
     (tie.spec
     (search needs) (search needs) (search needs) (search needs) (search needs) (search needs) (search needs)
-    put-section-requires
+    (λ c κs. omega (arith, printed-length (c .before .before)))
     put-entered-requires
     put-section-requires-2
     returns)

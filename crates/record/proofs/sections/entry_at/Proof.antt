@@ -63,9 +63,6 @@ returns-4 c =
     ∙ entry-outside (a .section) (a .free .now) (a .bytes .now) (a .low) (a .at) (omega arith) (e .value-at .ensures) (d .value-at2 .ensures) (is-well (m .before))
     (held (m .before) (m .mask-at .ensures) ∙ sym (c .before .before .has-digit .ensures) ∙ not-true (c .before .before .has-digit .result) (c .before .if4 .taken))
 
-mul-t8 : tie.Need-mul-t8
-mul-t8 c = omega (arith, is-formed (c .before .before .before) .cell)
-
 sub-t13 : tie.Need-sub-t13
 sub-t13 c = is-formed (c .before .before .before) .some
 
@@ -96,7 +93,7 @@ entry-at-spec =
     sub-has-digit
     (search needs) (search needs) (search needs)
     returns-4
-    mul-t8
+    (λ c. omega (arith, is-formed (c .before .before .before) .cell))
     sub-t13
     add-t23
     returns-5)

@@ -38,32 +38,11 @@ room c =
     let a = l .before .before .args in
     omega (arith, l .before .before .pre .1, l .loop .inv .1, digit-less (a .cell) (l .loop .left) (omega arith) (l .loop .inv .0))
 
-cast-bytes : tie.Need-cast-bytes Inv-loop μ-loop
-cast-bytes c = omega (arith, c .before .before .before .pre .0)
-
-element-write-bytes : tie.Need-element-write-bytes Inv-loop μ-loop
-element-write-bytes c = omega (arith, room c)
-
 -- the digit that is written
 place : (c : tie.After-lowest-digit Inv-loop μ-loop) → c .lowest-digit .result < 9
 place c =
     let l = c .before .before in
     omega (arith, c .lowest-digit .ensures, lowest-place (l .loop .left) (omega arith) (l .loop .inv .0))
-
-add-bytes : tie.Need-add-bytes Inv-loop μ-loop
-add-bytes c = omega (arith, place c)
-
-cast-bytes-2 : tie.Need-cast-bytes-2 Inv-loop μ-loop
-cast-bytes-2 c = omega (arith, place c)
-
-add-bytes-2 : tie.Need-add-bytes-2 Inv-loop μ-loop
-add-bytes-2 c = omega (arith, room (c .before))
-
-element-write-bytes-2 : tie.Need-element-write-bytes-2 Inv-loop μ-loop
-element-write-bytes-2 c = omega (arith, room (c .before))
-
-add-at : tie.Need-add-at Inv-loop μ-loop
-add-at c = omega (arith, room (c .before .before))
 
 loop-less : tie.Need-loop-less Inv-loop μ-loop
 loop-less c =
@@ -105,15 +84,9 @@ put-cell-spec =
     μ-loop
     (search needs)
     loop-holds
-    cast-bytes
-    element-write-bytes
-    (search needs)
-    add-bytes
-    cast-bytes-2
-    add-bytes-2
-    element-write-bytes-2
-    (search needs)
-    add-at
+    (λ c. omega (arith, c .before .before .before .pre .0)) (λ c. omega (arith, room c)) (search needs)
+    (λ c. omega (arith, place c)) (λ c. omega (arith, place c)) (λ c. omega (arith, room (c .before)))
+    (λ c. omega (arith, room (c .before))) (search needs) (λ c. omega (arith, room (c .before .before)))
     loop-less
     loop-again
     returns)

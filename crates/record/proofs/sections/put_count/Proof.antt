@@ -9,18 +9,9 @@ use native.Mathlib.Omega.{arith}
 use Rattle.record.proofs.sections.put_count.Statement.{statement}
 use Rattle.record.proofs.sections.put_count.Tie as tie
 
-element-write-bytes : tie.Need-element-write-bytes
-element-write-bytes c = omega (arith, c .pre .0, width-some (c .args .section))
-
 -- there is room for the second byte
 second : (c : tie.After-enum-told2) → c .before .before .args .start + 2 ≤ 1786
 second c = omega (arith, c .before .before .pre .0, ap width (c .enum-told2 .given .1))
-
-add-bytes : tie.Need-add-bytes
-add-bytes c = omega (arith, second c)
-
-element-write-bytes-2 : tie.Need-element-write-bytes-2
-element-write-bytes-2 c = omega (arith, second c)
 
 returns : tie.Need-returns
 returns c =
@@ -36,10 +27,7 @@ pub put-count-spec : {M : Type 1} → statement M
 put-count-spec =
     tie.close
     (tie.spec
-    (search needs)
-    element-write-bytes
-    (search needs) (search needs) (search needs)
-    add-bytes
-    element-write-bytes-2
+    (search needs) (λ c. omega (arith, c .pre .0, width-some (c .args .section))) (search needs) (search needs)
+    (search needs) (λ c. omega (arith, second c)) (λ c. omega (arith, second c))
     returns
     returns-2)

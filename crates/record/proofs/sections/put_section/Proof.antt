@@ -14,9 +14,6 @@ use Rattle.record.proofs.sections.put_section.Tie as tie
 room : (c : tie.After-count-width) → c .before .args .start + width (c .before .args .section) + 2 * length (candidates (c .before .args .sets .now)) ≤ 1786
 room c = omega (arith, c .before .pre, section-length (c .before .args .section) (c .before .args .sets .now))
 
-add-first : tie.Need-add-first
-add-first c = omega (arith, c .count-width .ensures, room c)
-
 put-entries-requires : tie.Need-put-entries-requires
 put-entries-requires c κs = omega (arith, c .before .count-width .ensures, room (c .before))
 
@@ -44,4 +41,10 @@ returns c =
 
 pub put-section-spec : {M : Type 1} → statement M
 put-section-spec =
-    tie.close (tie.spec (search needs) add-first put-entries-requires (search needs) put-count-requires returns)
+    tie.close
+    (tie.spec
+    (search needs) (λ c. omega (arith, c .count-width .ensures, room c))
+    put-entries-requires
+    (search needs)
+    put-count-requires
+    returns)

@@ -18,9 +18,6 @@ Inv-loop section free bytes count start sets₀ left₀ low₀ at₀ sets left l
 abbrev μ-loop : tie.MeasureT-loop
 μ-loop section free bytes count start sets₀ left₀ low₀ at₀ sets left low at = left
 
-loop-holds : tie.Need-loop-holds Inv-loop μ-loop
-loop-holds c = refl
-
 returns : tie.Need-returns Inv-loop μ-loop
 returns c =
     let e = c .before .before in
@@ -69,8 +66,7 @@ read-entries-spec =
     (tie.spec
     Inv-loop
     μ-loop
-    loop-holds
-    (search needs) (search needs) (search needs)
+    (λ c. refl) (search needs) (search needs) (search needs)
     returns
     add-requires
     next-low-requires

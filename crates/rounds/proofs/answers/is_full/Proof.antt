@@ -1,5 +1,5 @@
 -- `rounds::answers::is_full` meets its contract. Assumes nothing. The invariant: the cells from this one on decide.
-use mathlib.Core.Path.{_≡_, refl, sym, ap, _∙_}
+use mathlib.Core.Path.{_≡_, sym, ap, _∙_}
 use Prim.Native.Nat.{_-_}
 use native.Mathlib.Omega.{arith}
 use borrow.Author.Needs.{needs}

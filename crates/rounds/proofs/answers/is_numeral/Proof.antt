@@ -1,5 +1,4 @@
 -- `rounds::answers::is_numeral` meets its contract. Assumes nothing.
-use mathlib.Core.Path.{sym}
 use borrow.Author.Tests.{lt-leb, le-leb}
 use Rattle.rounds.proofs.answers.is_numeral.Statement.{statement}
 use Rattle.rounds.proofs.answers.is_numeral.Tie as tie

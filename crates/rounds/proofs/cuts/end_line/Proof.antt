@@ -1,6 +1,6 @@
 -- `rounds::cuts::end_line` meets its contract: what is printed of a line has room. Assumes nothing.
 use mathlib.Core.Path.{_≡_, ap, ap₂, _∙_}
-use mathlib.Core.List.{List, [], _∷_}
+use mathlib.Core.List.{List, []}
 use Prim.Native.Nat.{ℕ, min}
 use borrow.Author.Needs.{needs}
 use lib.ListN.{length, take}

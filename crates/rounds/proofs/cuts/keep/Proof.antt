@@ -20,9 +20,6 @@ Inv-loop kept₀ bytes passed end₀ grid₀ parted₀ last₀ i₀ kept end gri
 abbrev μ-loop : tie.MeasureT-loop
 μ-loop kept₀ bytes passed end₀ grid₀ parted₀ last₀ i₀ kept end grid parted last i = length bytes - i
 
-loop-holds : tie.Need-loop-holds Inv-loop μ-loop
-loop-holds c = refl
-
 loop-again : tie.Need-loop-again Inv-loop μ-loop
 unfolding keptOne
 loop-again c =
@@ -47,7 +44,6 @@ keep-spec =
     (tie.spec
     Inv-loop
     μ-loop
-    loop-holds
-    (λ c. omega arith) (search needs) (search needs) (search needs) (λ c. omega arith) (λ c. omega arith)
+    (λ c. refl) (λ c. omega arith) (search needs) (search needs) (search needs) (λ c. omega arith) (λ c. omega arith)
     loop-again
     returns)

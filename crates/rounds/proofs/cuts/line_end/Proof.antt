@@ -1,5 +1,5 @@
 -- `rounds::cuts::line_end` meets its contract. Assumes nothing. The invariant: what is passed and what is left of the line are all of it.
-use mathlib.Core.Path.{_≡_, refl}
+use mathlib.Core.Path.{_≡_}
 use Prim.Native.Nat.{_+_, _-_, _≤_}
 use native.Mathlib.Nat.{zero-add}
 use native.Mathlib.Omega.{arith}

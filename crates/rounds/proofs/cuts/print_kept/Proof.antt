@@ -13,9 +13,6 @@ use Rattle.rounds.proofs.Cutting.{most}
 use Rattle.rounds.proofs.cuts.print_kept.Statement.{statement}
 use Rattle.rounds.proofs.cuts.print_kept.Tie as tie
 
-array-share-prefix-kept : tie.Need-array-share-prefix-kept
-array-share-prefix-kept c = omega (arith, c .least .ensures .1)
-
 slice-aggregate-write-line : tie.Need-slice-aggregate-write-line
 slice-aggregate-write-line c =
     let l = c .before in
@@ -33,4 +30,9 @@ returns c =
 
 pub print-kept-spec : {M : Type 1} → statement M
 print-kept-spec =
-    tie.close (tie.spec (search needs) array-share-prefix-kept slice-aggregate-write-line (search needs) returns)
+    tie.close
+    (tie.spec
+    (search needs) (λ c. omega (arith, c .least .ensures .1))
+    slice-aggregate-write-line
+    (search needs)
+    returns)

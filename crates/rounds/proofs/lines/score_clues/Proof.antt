@@ -4,15 +4,14 @@ use mathlib.Core.Path.{_≡_, sym, ap, ap₂, subst, _∙_}
 use mathlib.Core.List.{List}
 use Prim.Native.Nat.{ℕ, _≤_}
 use Rattle.stops.specs.Answer.{Answer}
-use Rattle.steps.specs.Boards.{givensOf, fresh}
-use Rattle.steps.specs.Difficulty.{Figure, summed, passCounts}
+use Rattle.steps.specs.Boards.{givensOf}
+use Rattle.steps.specs.Difficulty.{Figure, summed}
 use Rattle.steps.proofs.Check.{clues-givens}
 use Rattle.difficulty.specs.Ratings.{ratingAnswer}
 use Rattle.difficulty.specs.code.Rates.{ratingBy, rateOf}
 use Rattle.difficulty.proofs.Figures.{counts-few}
 use Rattle.output.specs.code.Tapes.{tape, append}
 use Rattle.card.specs.declared.layout.Card.{Card}
-use Rattle.card.specs.Cards.{cardFor}
 use Rattle.rounds.specs.Rounds.{scoreBytes}
 use Rattle.rounds.specs.Summaries.{raised, verdictPlace, checkTallied, tallied}
 use Rattle.rounds.proofs.lines.score_clues.Statement.{statement}

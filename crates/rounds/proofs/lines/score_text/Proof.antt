@@ -4,7 +4,7 @@ use mathlib.Core.Path.{_≡_, sym, ap, _∙_}
 use mathlib.Core.List.{[]}
 use lib.ListN.{take}
 use lib.Seq.{length-take-le}
-use Rattle.stops.specs.Answer.{passing, checkAnswer, stop, gives}
+use Rattle.stops.specs.Answer.{passing, checkAnswer}
 use Rattle.stops.specs.declared.Check.{Check}
 use Rattle.text.specs.Texts.{parseOf}
 use Rattle.output.specs.code.Tapes.{tape, append}

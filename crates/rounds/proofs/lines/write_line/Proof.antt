@@ -1,19 +1,17 @@
 -- `rounds::lines::write_line` meets its contract. Assumes nothing.
 use borrow.Author.Needs.{needs}
-use mathlib.Core.Path.{_≡_, sym, ap, _∙_}
+use mathlib.Core.Path.{sym, ap, _∙_}
 use mathlib.Core.List.{List, [], _∷_}
 use native.Mathlib.Omega.{arith}
-use Prim.Native.Nat.{ℕ, _≤_}
-use lib.IntN.{pos}
-use lib.ListN.{length, take}
+use Prim.Native.Nat.{ℕ}
+use lib.ListN.{take}
 use lib.Seq.{length-take-le}
-use Rattle.stops.specs.declared.Stop.the-variants.{TextLength}
 use Rattle.output.specs.code.Tapes.{tape, append}
 use Rattle.output.proofs.Tapes.{append-one, joined}
 use Rattle.card.proofs.Newlines.{text-most}
-use Rattle.rounds.specs.Rounds.{Outcome, refused, outcomeBytes}
+use Rattle.rounds.specs.Rounds.{Outcome, outcomeBytes}
 use Rattle.rounds.specs.Summaries.{tallied}
-use Rattle.rounds.specs.code.Kept.{scoredFrom, outcomeFrom}
+use Rattle.rounds.specs.code.Kept.{scoredFrom}
 use Rattle.rounds.proofs.Kept.{refused-one, scored-bytes, from-none, from-other, from-grid}
 use Rattle.rounds.proofs.lines.write_line.Statement.{statement}
 use Rattle.rounds.proofs.lines.write_line.Tie as tie

@@ -9,6 +9,7 @@ use Rattle.steps.specs.Steps.{stepTaken}
 use Rattle.steps.specs.code.Decoding.{boxIn}
 use Rattle.steps.proofs.StepBytes.{ClaimingParts, claiming-parts, box-few}
 use Rattle.cells.specs.code.Meets.{meetings, metUnit}
+use Rattle.cells.proofs.Losses.{told-none}
 use Rattle.cells.proofs.Meetings.{three-boxes}
 use Rattle.step_lists.proofs.Named.{after-taken, after-left, claiming-taken}
 use Rattle.step_lists.proofs.kinds.claiming_step.Statement.{statement}
@@ -35,14 +36,16 @@ returns c =
     let g = a .givens .now in
     let m = a .masks .now in
     let w = parts (c .before .before .before) in
-    c .take-locked .ensures ∙ ap (λ (k : ℕ). stepTaken (isOpen g) (lockedStep (a .line) (metUnit (a .line) k) (a .digit - 1)) m) (c .before .box-in .ensures)
+    let e =
+    c .take-locked .ensures .0 ∙ ap (λ (k : ℕ). stepTaken (isOpen g) (lockedStep (a .line) (metUnit (a .line) k) (a .digit - 1)) m) (c .before .box-in .ensures)
     ∙ claiming-taken g m (a .line) (a .digit - 1) (boxIn (a .line) (a .block)) (w .line) (box-few (a .line) (a .block))
-    ∙ after-taken g m (claiming (a .line) (a .digit - 1) (boxIn (a .line) (a .block))) (sym (c .before .before .before .before .is-claiming .ensures) ∙ c .before .before .before .if1 .taken)
+    ∙ after-taken g m (claiming (a .line) (a .digit - 1) (boxIn (a .line) (a .block))) (sym (c .before .before .before .before .is-claiming .ensures) ∙ c .before .before .before .if1 .taken) in
+    (e, c .take-locked .ensures .1)
 
 returns-2 : tie.Need-returns-2
 returns-2 c =
     let a = c .before .before .args in
-    after-left (a .givens .now) (a .masks .now) (claiming (a .line) (a .digit - 1) (boxIn (a .line) (a .block))) (sym (c .before .is-claiming .ensures) ∙ c .if1 .left)
+    (after-left (a .givens .now) (a .masks .now) (claiming (a .line) (a .digit - 1) (boxIn (a .line) (a .block))) (sym (c .before .is-claiming .ensures) ∙ c .if1 .left), told-none (a .masks .now))
 
 pub claiming-step-spec : {M : Type 1} → statement M
 claiming-step-spec =

@@ -6,6 +6,7 @@ use native.Mathlib.Omega.{arith}
 use borrow.Author.Needs.{needs}
 use Rattle.steps.specs.Instances.{cross}
 use Rattle.steps.proofs.StepBytes.{CrossParts, cross-parts}
+use Rattle.cells.proofs.Losses.{told-none}
 use Rattle.step_lists.proofs.Named.{after-taken, after-left, cross-is}
 use Rattle.step_lists.proofs.kinds.cross_step.Statement.{statement}
 use Rattle.step_lists.proofs.kinds.cross_step.Tie as tie
@@ -37,13 +38,15 @@ returns c =
     let g = a .givens .now in
     let m = a .masks .now in
     let w = parts (c .before .before) in
-    c .take-cross .ensures ∙ cross-is g m (a .digit - 1) (a .u) (a .v) (a .x - 9) (a .y - 9)
-    ∙ after-taken g m (cross (a .digit - 1) (a .u) (a .v) (a .x - 9) (a .y - 9)) (sym (c .before .before .before .is-cross .ensures) ∙ c .before .before .if1 .taken)
+    let e =
+    c .take-cross .ensures .0 ∙ cross-is g m (a .digit - 1) (a .u) (a .v) (a .x - 9) (a .y - 9)
+    ∙ after-taken g m (cross (a .digit - 1) (a .u) (a .v) (a .x - 9) (a .y - 9)) (sym (c .before .before .before .is-cross .ensures) ∙ c .before .before .if1 .taken) in
+    (e, c .take-cross .ensures .1)
 
 returns-2 : tie.Need-returns-2
 returns-2 c =
     let a = c .before .before .args in
-    after-left (a .givens .now) (a .masks .now) (cross (a .digit - 1) (a .u) (a .v) (a .x - 9) (a .y - 9)) (sym (c .before .is-cross .ensures) ∙ c .if1 .left)
+    (after-left (a .givens .now) (a .masks .now) (cross (a .digit - 1) (a .u) (a .v) (a .x - 9) (a .y - 9)) (sym (c .before .is-cross .ensures) ∙ c .if1 .left), told-none (a .masks .now))
 
 pub cross-step-spec : {M : Type 1} → statement M
 cross-step-spec =

@@ -6,6 +6,7 @@ use native.Mathlib.Omega.{arith}
 use borrow.Author.Needs.{needs}
 use Rattle.steps.specs.Instances.{exchanged}
 use Rattle.steps.proofs.StepBytes.{CrossParts, cross-parts}
+use Rattle.cells.proofs.Losses.{told-none}
 use Rattle.step_lists.proofs.Named.{after-taken, after-left, exchanged-is}
 use Rattle.step_lists.proofs.kinds.exchanged_step.Statement.{statement}
 use Rattle.step_lists.proofs.kinds.exchanged_step.Tie as tie
@@ -37,13 +38,15 @@ returns c =
     let g = a .givens .now in
     let m = a .masks .now in
     let w = parts (c .before .before) in
-    c .take-cross .ensures ∙ exchanged-is g m (a .digit - 1) (a .u - 9) (a .v - 9) (a .x) (a .y)
-    ∙ after-taken g m (exchanged (a .digit - 1) (a .u - 9) (a .v - 9) (a .x) (a .y)) (sym (c .before .before .before .is-cross .ensures) ∙ c .before .before .if1 .taken)
+    let e =
+    c .take-cross .ensures .0 ∙ exchanged-is g m (a .digit - 1) (a .u - 9) (a .v - 9) (a .x) (a .y)
+    ∙ after-taken g m (exchanged (a .digit - 1) (a .u - 9) (a .v - 9) (a .x) (a .y)) (sym (c .before .before .before .is-cross .ensures) ∙ c .before .before .if1 .taken) in
+    (e, c .take-cross .ensures .1)
 
 returns-2 : tie.Need-returns-2
 returns-2 c =
     let a = c .before .before .args in
-    after-left (a .givens .now) (a .masks .now) (exchanged (a .digit - 1) (a .u - 9) (a .v - 9) (a .x) (a .y)) (sym (c .before .is-cross .ensures) ∙ c .if1 .left)
+    (after-left (a .givens .now) (a .masks .now) (exchanged (a .digit - 1) (a .u - 9) (a .v - 9) (a .x) (a .y)) (sym (c .before .is-cross .ensures) ∙ c .if1 .left), told-none (a .masks .now))
 
 pub exchanged-step-spec : {M : Type 1} → statement M
 exchanged-step-spec =

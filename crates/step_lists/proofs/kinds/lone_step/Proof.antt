@@ -5,6 +5,7 @@ use native.Mathlib.Omega.{arith}
 use borrow.Author.Needs.{needs}
 use Rattle.steps.specs.Instances.{lone}
 use Rattle.steps.proofs.StepBytes.{LoneParts, lone-parts}
+use Rattle.cells.proofs.Losses.{told-none}
 use Rattle.step_lists.proofs.Named.{after-taken, after-left}
 use Rattle.step_lists.proofs.kinds.lone_step.Statement.{statement}
 use Rattle.step_lists.proofs.kinds.lone_step.Tie as tie
@@ -30,12 +31,12 @@ returns c =
     let g = a .givens .now in
     let m = a .masks .now in
     let w = parts (c .before .before) in
-    c .take-lone .ensures ∙ after-taken g m (lone (a .cell) (a .digit - 1)) (sym (c .before .before .before .is-lone .ensures) ∙ c .before .before .if1 .taken)
+    (c .take-lone .ensures .0 ∙ after-taken g m (lone (a .cell) (a .digit - 1)) (sym (c .before .before .before .is-lone .ensures) ∙ c .before .before .if1 .taken), c .take-lone .ensures .1)
 
 returns-2 : tie.Need-returns-2
 returns-2 c =
     let a = c .before .before .args in
-    after-left (a .givens .now) (a .masks .now) (lone (a .cell) (a .digit - 1)) (sym (c .before .is-lone .ensures) ∙ c .if1 .left)
+    (after-left (a .givens .now) (a .masks .now) (lone (a .cell) (a .digit - 1)) (sym (c .before .is-lone .ensures) ∙ c .if1 .left), told-none (a .masks .now))
 
 pub lone-step-spec : {M : Type 1} → statement M
 lone-step-spec =

@@ -7,6 +7,7 @@ use Rattle.steps.specs.Instances.{pair}
 use Rattle.steps.specs.Passes.{instanceTaken}
 use Rattle.steps.specs.code.Decoding.{placeIn}
 use Rattle.steps.proofs.StepBytes.{PairParts, pair-parts}
+use Rattle.cells.proofs.Losses.{told-none}
 use Rattle.step_lists.proofs.Named.{after-taken, after-left}
 use Rattle.step_lists.proofs.kinds.pair_step.Statement.{statement}
 use Rattle.step_lists.proofs.kinds.pair_step.Tie as tie
@@ -35,14 +36,16 @@ returns c =
     let g = a .givens .now in
     let m = a .masks .now in
     let w = parts (c .before .before .before .before) in
-    c .take-pair .ensures ∙ ap (λ (i : ℕ). instanceTaken g (pair (a .unit) i (c .before .before .place-in2 .result) (a .a - 1) (a .b - 1)) m) (c .before .before .before .place-in .ensures)
+    let e =
+    c .take-pair .ensures .0 ∙ ap (λ (i : ℕ). instanceTaken g (pair (a .unit) i (c .before .before .place-in2 .result) (a .a - 1) (a .b - 1)) m) (c .before .before .before .place-in .ensures)
     ∙ ap (λ (j : ℕ). instanceTaken g (pair (a .unit) (placeIn (a .unit) (a .first)) j (a .a - 1) (a .b - 1)) m) (c .before .before .place-in2 .ensures)
-    ∙ after-taken g m (pair (a .unit) (placeIn (a .unit) (a .first)) (placeIn (a .unit) (a .second)) (a .a - 1) (a .b - 1)) (sym (c .before .before .before .before .before .is-pair .ensures) ∙ c .before .before .before .before .if1 .taken)
+    ∙ after-taken g m (pair (a .unit) (placeIn (a .unit) (a .first)) (placeIn (a .unit) (a .second)) (a .a - 1) (a .b - 1)) (sym (c .before .before .before .before .before .is-pair .ensures) ∙ c .before .before .before .before .if1 .taken) in
+    (e, c .take-pair .ensures .1)
 
 returns-2 : tie.Need-returns-2
 returns-2 c =
     let a = c .before .before .args in
-    after-left (a .givens .now) (a .masks .now) (pair (a .unit) (placeIn (a .unit) (a .first)) (placeIn (a .unit) (a .second)) (a .a - 1) (a .b - 1)) (sym (c .before .is-pair .ensures) ∙ c .if1 .left)
+    (after-left (a .givens .now) (a .masks .now) (pair (a .unit) (placeIn (a .unit) (a .first)) (placeIn (a .unit) (a .second)) (a .a - 1) (a .b - 1)) (sym (c .before .is-pair .ensures) ∙ c .if1 .left), told-none (a .masks .now))
 
 pub pair-step-spec : {M : Type 1} → statement M
 pair-step-spec =

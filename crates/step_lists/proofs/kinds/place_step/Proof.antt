@@ -7,6 +7,7 @@ use Rattle.steps.specs.Instances.{place}
 use Rattle.steps.specs.Passes.{instanceTaken}
 use Rattle.steps.specs.code.Decoding.{placeIn}
 use Rattle.steps.proofs.StepBytes.{PlaceParts, place-parts}
+use Rattle.cells.proofs.Losses.{told-none}
 use Rattle.step_lists.proofs.Named.{after-taken, after-left}
 use Rattle.step_lists.proofs.kinds.place_step.Statement.{statement}
 use Rattle.step_lists.proofs.kinds.place_step.Tie as tie
@@ -32,12 +33,12 @@ returns c =
     let g = a .givens .now in
     let m = a .masks .now in
     let w = parts (c .before .before .before) in
-    c .take-place .ensures ∙ ap (λ (i : ℕ). instanceTaken g (place (a .unit) (a .digit - 1) i) m) (c .before .place-in .ensures) ∙ after-taken g m (place (a .unit) (a .digit - 1) (placeIn (a .unit) (a .cell))) (sym (c .before .before .before .before .is-place .ensures) ∙ c .before .before .before .if1 .taken)
+    (c .take-place .ensures .0 ∙ ap (λ (i : ℕ). instanceTaken g (place (a .unit) (a .digit - 1) i) m) (c .before .place-in .ensures) ∙ after-taken g m (place (a .unit) (a .digit - 1) (placeIn (a .unit) (a .cell))) (sym (c .before .before .before .before .is-place .ensures) ∙ c .before .before .before .if1 .taken), c .take-place .ensures .1)
 
 returns-2 : tie.Need-returns-2
 returns-2 c =
     let a = c .before .before .args in
-    after-left (a .givens .now) (a .masks .now) (place (a .unit) (a .digit - 1) (placeIn (a .unit) (a .cell))) (sym (c .before .is-place .ensures) ∙ c .if1 .left)
+    (after-left (a .givens .now) (a .masks .now) (place (a .unit) (a .digit - 1) (placeIn (a .unit) (a .cell))) (sym (c .before .is-place .ensures) ∙ c .if1 .left), told-none (a .masks .now))
 
 pub place-step-spec : {M : Type 1} → statement M
 place-step-spec =

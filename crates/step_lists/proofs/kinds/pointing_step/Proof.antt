@@ -9,6 +9,7 @@ use Rattle.steps.specs.Steps.{stepTaken}
 use Rattle.steps.specs.code.Decoding.{lineIn}
 use Rattle.steps.proofs.StepBytes.{PointingParts, pointing-parts, line-few}
 use Rattle.cells.specs.code.Meets.{meetings, metUnit}
+use Rattle.cells.proofs.Losses.{told-none}
 use Rattle.cells.proofs.Meetings.{six-lines}
 use Rattle.step_lists.proofs.Named.{after-taken, after-left, pointing-taken}
 use Rattle.step_lists.proofs.kinds.pointing_step.Statement.{statement}
@@ -35,14 +36,16 @@ returns c =
     let g = a .givens .now in
     let m = a .masks .now in
     let w = parts (c .before .before .before) in
-    c .take-locked .ensures ∙ ap (λ (k : ℕ). stepTaken (isOpen g) (lockedStep (a .block) (metUnit (a .block) k) (a .digit - 1)) m) (c .before .line-in .ensures)
+    let e =
+    c .take-locked .ensures .0 ∙ ap (λ (k : ℕ). stepTaken (isOpen g) (lockedStep (a .block) (metUnit (a .block) k) (a .digit - 1)) m) (c .before .line-in .ensures)
     ∙ pointing-taken g m (a .block) (a .digit - 1) (lineIn (a .line)) (w .low) (w .high) (line-few (a .line))
-    ∙ after-taken g m (pointing (a .block - 18) (a .digit - 1) (lineIn (a .line))) (sym (c .before .before .before .before .is-pointing .ensures) ∙ c .before .before .before .if1 .taken)
+    ∙ after-taken g m (pointing (a .block - 18) (a .digit - 1) (lineIn (a .line))) (sym (c .before .before .before .before .is-pointing .ensures) ∙ c .before .before .before .if1 .taken) in
+    (e, c .take-locked .ensures .1)
 
 returns-2 : tie.Need-returns-2
 returns-2 c =
     let a = c .before .before .args in
-    after-left (a .givens .now) (a .masks .now) (pointing (a .block - 18) (a .digit - 1) (lineIn (a .line))) (sym (c .before .is-pointing .ensures) ∙ c .if1 .left)
+    (after-left (a .givens .now) (a .masks .now) (pointing (a .block - 18) (a .digit - 1) (lineIn (a .line))) (sym (c .before .is-pointing .ensures) ∙ c .if1 .left), told-none (a .masks .now))
 
 pub pointing-step-spec : {M : Type 1} → statement M
 pointing-step-spec =

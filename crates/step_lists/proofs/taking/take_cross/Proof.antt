@@ -8,6 +8,7 @@ use Rattle.candidates.specs.Masks.{union, placeMask}
 use Rattle.steps.specs.Boards.{isOpen}
 use Rattle.steps.specs.Instances as instances
 use Rattle.cells.specs.code.Places.{losePlaces, allBut}
+use Rattle.cells.proofs.Losses.{told-none, went-on, went-places}
 use Rattle.cells.proofs.NineBits.{both-is}
 use Rattle.step_lists.specs.code.Taking.{confinedTo}
 use Rattle.step_lists.proofs.Instances.{first-most, cross-taken, cross-first, cross-second}
@@ -45,10 +46,15 @@ returns c =
     let m = a .masks .now in
     let p = start .pre in
     let lost : ℕ → ℕ → List ℕ → List ℕ = λ u k. losePlaces (isOpen g) u (allBut (a .i) (a .j)) k in
-    (c .lose-places2 .ensures ∙ ap (λ (x : ℕ). losePlaces (isOpen g) (a .across + a .b) x (c .before .before .before .before .before .before .digit-mask3 .result) (c .before .before .before .lose-places .last .1 .0)) (c .before .all-but2 .ensures))
-    ∙ ap (lost (a .across + a .b) (c .before .before .before .before .before .before .digit-mask3 .result)) (c .before .before .before .lose-places .ensures ∙ ap (λ (x : ℕ). losePlaces (isOpen g) (a .across + a .a) x (c .before .before .before .before .before .before .digit-mask3 .result) m) (c .before .before .before .before .all-but .ensures))
+    let x = c .before .before .before .lose-places .ensures in
+    let y = c .lose-places2 .ensures in
+    let k = c .before .before .before .before .before .before .digit-mask3 .result in
+    let e =
+    (y .0 ∙ ap (λ (x : ℕ). losePlaces (isOpen g) (a .across + a .b) x k (c .before .before .before .lose-places .last .1 .0)) (c .before .all-but2 .ensures))
+    ∙ ap (lost (a .across + a .b) k) (x .0 ∙ ap (λ (x : ℕ). losePlaces (isOpen g) (a .across + a .a) x k m) (c .before .before .before .before .all-but .ensures))
     ∙ ap (λ (k : ℕ). lost (a .across + a .b) k (lost (a .across + a .a) k m)) (c .before .before .before .before .before .before .digit-mask3 .ensures)
-    ∙ cross-taken g m (a .first) (a .across) (a .digit) (a .i) (a .j) (a .a) (a .b) (p .0) (p .1) (p .2) (p .3) (p .4) (p .5) (sym (c .before .before .before .before .before .before .before .before .before .before .before .is-confined .ensures ∙ ap (confinedTo m (a .first + a .i) (a .digit)) (two (c .before .before .before .before .before .before .before .before .before .before .before .before .before))) ∙ c .before .before .before .before .before .before .before .before .before .before .if1 .taken) (sym (c .before .before .before .before .before .before .before .before .is-confined2 .ensures ∙ ap (confinedTo m (a .first + a .j) (a .digit)) (two (c .before .before .before .before .before .before .before .before .before .before .before .before .before))) ∙ c .before .before .before .before .before .before .before .if2 .taken)
+    ∙ cross-taken g m (a .first) (a .across) (a .digit) (a .i) (a .j) (a .a) (a .b) (p .0) (p .1) (p .2) (p .3) (p .4) (p .5) (sym (c .before .before .before .before .before .before .before .before .before .before .before .is-confined .ensures ∙ ap (confinedTo m (a .first + a .i) (a .digit)) (two (c .before .before .before .before .before .before .before .before .before .before .before .before .before))) ∙ c .before .before .before .before .before .before .before .before .before .before .if1 .taken) (sym (c .before .before .before .before .before .before .before .before .is-confined2 .ensures ∙ ap (confinedTo m (a .first + a .j) (a .digit)) (two (c .before .before .before .before .before .before .before .before .before .before .before .before .before))) ∙ c .before .before .before .before .before .before .before .if2 .taken) in
+    (e, went-on (went-places (isOpen g) (a .across + a .a) (c .before .before .before .before .all-but .result) k (x .0) (x .1)) (went-places (isOpen g) (a .across + a .b) (c .before .all-but2 .result) k (y .0) (y .1)) .told)
 
 returns-2 : tie.Need-returns-2
 returns-2 c =
@@ -57,7 +63,7 @@ returns-2 c =
     let g = a .givens .now in
     let m = a .masks .now in
     let p = start .pre in
-    cross-second g m (a .first) (a .across) (a .digit) (a .i) (a .j) (a .a) (a .b) (p .0) (p .1) (p .2) (p .3) (p .4) (p .5) (sym (c .before .before .before .before .is-confined .ensures ∙ ap (confinedTo m (a .first + a .i) (a .digit)) (two (c .before .before .before .before .before .before))) ∙ c .before .before .before .if1 .taken) (sym (c .before .is-confined2 .ensures ∙ ap (confinedTo m (a .first + a .j) (a .digit)) (two (c .before .before .before .before .before .before))) ∙ c .if2 .left)
+    (cross-second g m (a .first) (a .across) (a .digit) (a .i) (a .j) (a .a) (a .b) (p .0) (p .1) (p .2) (p .3) (p .4) (p .5) (sym (c .before .before .before .before .is-confined .ensures ∙ ap (confinedTo m (a .first + a .i) (a .digit)) (two (c .before .before .before .before .before .before))) ∙ c .before .before .before .if1 .taken) (sym (c .before .is-confined2 .ensures ∙ ap (confinedTo m (a .first + a .j) (a .digit)) (two (c .before .before .before .before .before .before))) ∙ c .if2 .left), told-none m)
 
 returns-3 : tie.Need-returns-3
 returns-3 c =
@@ -66,7 +72,7 @@ returns-3 c =
     let g = a .givens .now in
     let m = a .masks .now in
     let p = start .pre in
-    cross-first g m (a .first) (a .across) (a .digit) (a .i) (a .j) (a .a) (a .b) (p .0) (p .1) (p .2) (p .3) (p .4) (p .5) (sym (c .before .is-confined .ensures ∙ ap (confinedTo m (a .first + a .i) (a .digit)) (two (c .before .before .before))) ∙ c .if1 .left)
+    (cross-first g m (a .first) (a .across) (a .digit) (a .i) (a .j) (a .a) (a .b) (p .0) (p .1) (p .2) (p .3) (p .4) (p .5) (sym (c .before .is-confined .ensures ∙ ap (confinedTo m (a .first + a .i) (a .digit)) (two (c .before .before .before))) ∙ c .if1 .left), told-none m)
 
 pub take-cross-spec : {M : Type 1} → statement M
 take-cross-spec =

@@ -11,8 +11,10 @@ returns : tie.Need-returns
 returns c =
     let start = c .before .before .before .before in
     let a = start .args in
-    c .lose-met .ensures ∙ ap (λ (x : ℕ). meetTurn (a .givens .now) (a .unit) (a .digit) x (a .nth) (a .masks .now)) (c .before .before .held-places .ensures)
-    ∙ locked-taken (a .givens .now) (a .masks .now) (a .unit) (a .digit) (a .nth) (start .pre .0) (start .pre .1) (start .pre .2)
+    let e =
+    c .lose-met .ensures .0 ∙ ap (λ (x : ℕ). meetTurn (a .givens .now) (a .unit) (a .digit) x (a .nth) (a .masks .now)) (c .before .before .held-places .ensures)
+    ∙ locked-taken (a .givens .now) (a .masks .now) (a .unit) (a .digit) (a .nth) (start .pre .0) (start .pre .1) (start .pre .2) in
+    (e, c .lose-met .ensures .1)
 
 pub take-locked-spec : {M : Type 1} → statement M
 take-locked-spec =

@@ -4,6 +4,7 @@ use Prim.Native.Nat.{ℕ}
 use borrow.Author.Needs.{needs}
 use Rattle.candidates.specs.Masks.{single}
 use Rattle.cells.specs.code.Places.{maskAt}
+use Rattle.cells.proofs.Losses.{told-none}
 use Rattle.cells.proofs.NineBits.{place-is}
 use Rattle.lone_place.specs.code.Turns.{peersLose}
 use Rattle.step_lists.specs.code.Taking.{withinDigits}
@@ -25,14 +26,16 @@ returns : tie.Need-returns
 returns c =
     let start = c .before .before .before .before .before .before .before in
     let a = start .args in
+    let e =
     c .lose-peers .ensures .0 ∙ ap (λ (k : ℕ). peersLose (a .givens .now) (a .cell) k (a .masks .now)) (one (c .before .before .before .before .before .before))
-    ∙ lone-taken (a .givens .now) (a .masks .now) (a .cell) (a .digit) (start .pre .0) (sym (tested (c .before .before .before)) ∙ c .before .before .if1 .taken)
+    ∙ lone-taken (a .givens .now) (a .masks .now) (a .cell) (a .digit) (start .pre .0) (sym (tested (c .before .before .before)) ∙ c .before .before .if1 .taken) in
+    (e, c .lose-peers .ensures .1)
 
 returns-2 : tie.Need-returns-2
 returns-2 c =
     let start = c .before .before .before .before .before in
     let a = start .args in
-    lone-left (a .givens .now) (a .masks .now) (a .cell) (a .digit) (start .pre .0) (sym (tested (c .before)) ∙ c .if1 .left)
+    (lone-left (a .givens .now) (a .masks .now) (a .cell) (a .digit) (start .pre .0) (sym (tested (c .before)) ∙ c .if1 .left), told-none (a .masks .now))
 
 pub take-lone-spec : {M : Type 1} → statement M
 take-lone-spec =

@@ -6,6 +6,7 @@ use Rattle.candidates.specs.Masks.{single}
 use Rattle.grid.specs.Units.{unitCell}
 use Rattle.steps.specs.Boards.{isOpen}
 use Rattle.cells.specs.code.Places.{loseIn}
+use Rattle.cells.proofs.Losses.{told-none}
 use Rattle.cells.proofs.NineBits.{place-is}
 use Rattle.step_lists.specs.code.Taking.{confinedTo}
 use Rattle.step_lists.proofs.Instances.{place-taken, place-left}
@@ -24,16 +25,18 @@ returns c =
     let start = c .before .before .before .before .before .before .before .before in
     let a = start .args in
     let m = a .masks .now in
-    c .lose-at .ensures
+    let e =
+    c .lose-at .ensures .0
     ∙ ap (λ (e : ℕ). loseIn (isOpen (a .givens .now)) e (c .before .before .before .lose-digit .result) m) (c .before .unit-cell .ensures)
     ∙ ap (λ (k : ℕ). loseIn (isOpen (a .givens .now)) (unitCell (a .unit) (a .place)) k m) (c .before .before .before .lose-digit .ensures)
-    ∙ place-taken (a .givens .now) m (a .unit) (a .digit) (a .place) (start .pre .0) (start .pre .2) (sym (tested (c .before .before .before .before .before)) ∙ c .before .before .before .before .if1 .taken)
+    ∙ place-taken (a .givens .now) m (a .unit) (a .digit) (a .place) (start .pre .0) (start .pre .2) (sym (tested (c .before .before .before .before .before)) ∙ c .before .before .before .before .if1 .taken) in
+    (e, c .lose-at .ensures .1)
 
 returns-2 : tie.Need-returns-2
 returns-2 c =
     let start = c .before .before .before .before in
     let a = start .args in
-    place-left (a .givens .now) (a .masks .now) (a .unit) (a .digit) (a .place) (start .pre .0) (start .pre .2) (sym (tested (c .before)) ∙ c .if1 .left)
+    (place-left (a .givens .now) (a .masks .now) (a .unit) (a .digit) (a .place) (start .pre .0) (start .pre .2) (sym (tested (c .before)) ∙ c .if1 .left), told-none (a .masks .now))
 
 pub take-place-spec : {M : Type 1} → statement M
 take-place-spec =

@@ -8,7 +8,7 @@ use Rattle.steps.specs.Boards.{givensOf}
 use Rattle.sudoku.specs.Boards.{verdictNumber}
 use Rattle.candidates.proofs.Tests.{past}
 use Rattle.sudoku.proofs.Calls.{is-asked, not-asked}
-use Rattle.stops.specs.Answer.{Answer, map, then}
+use Rattle.stops.specs.Answer.{Answer, map}
 use Rattle.stops.proofs.Answers.{map-map, map-then}
 use Rattle.steps.specs.Calls.{checkOf}
 use Rattle.board.specs.Boards.{boardOf, clueCount, cellMask, verdictOf}

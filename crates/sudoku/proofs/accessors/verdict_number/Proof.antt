@@ -1,6 +1,5 @@
 -- Each arm says which verdict it is.
 use mathlib.Core.Path.{sym, ap}
-use Rattle.board.specs.declared.Verdict.{Verdict}
 use Rattle.sudoku.specs.Boards.{verdictNumber}
 use borrow.Author.Needs.{needs}
 use Rattle.sudoku.proofs.accessors.verdict_number.Statement.{statement}

@@ -1,5 +1,5 @@
 -- Zeros are what a step leaves that was made.
-use mathlib.Core.Path.{_≡_, sym, ap}
+use mathlib.Core.Path.{sym, ap}
 use borrow.Author.Needs.{needs}
 use lib.ListN.{replicate}
 use Rattle.calls.specs.StepNumbers.{steppingAnswer}

@@ -1,6 +1,5 @@
 -- Each arm says which case it is.
 use borrow.Author.Needs.{needs}
-use Rattle.steps.specs.Boards as S
 use mathlib.Core.Path.{refl, sym, ap, subst, _∙_}
 use Rattle.board.specs.Boards.{boardOf}
 use Rattle.stops.proofs.Numbers.{small}

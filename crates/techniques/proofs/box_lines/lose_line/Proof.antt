@@ -23,7 +23,7 @@ returns-2 c =
     let out = c .before in
     let met = out .before in
     let a = met .before .before .before .before .args in
-    c .lose-places .ensures
+    c .lose-places .ensures .0
     ∙ ap (λ (v : ℕ). losePlaces (isOpen (a .givens .now)) v (out .outside .result) (a .lost) (a .masks .now)) (met .met-unit .ensures)
     ∙ ap (λ (ps : ℕ). losePlaces (isOpen (a .givens .now)) (metUnit (a .unit) (a .nth)) ps (a .lost) (a .masks .now)) (out .outside .ensures)
 

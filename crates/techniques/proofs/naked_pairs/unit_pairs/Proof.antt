@@ -39,7 +39,7 @@ loop-again c =
     ⊎-elim {C = (c .if1 .nine ≡ unitMasks g (c .if1 .masks) u) × (c .if1 .masks ≡ turn g u (s .first) (s .masks))}
     (λ w. (
       w .7 ∙ w .5 .ensures ∙ ap (λ (m : List ℕ). unitMasks g m u) (sym (w .6)),
-      w .6 ∙ w .3 .ensures ∙ pair-turn g (s .masks) (s .nine) u (s .first) (omega arith) (s .inv .1) (pair .ensures) (w .0 .taken) (w .2 .ensures),
+      w .6 ∙ w .3 .ensures .0 ∙ pair-turn g (s .masks) (s .nine) u (s .first) (omega arith) (s .inv .1) (pair .ensures) (w .0 .taken) (w .2 .ensures),
     ))
     (λ w. (w .2 ∙ s .inv .1 ∙ ap (λ (m : List ℕ). unitMasks g m u) (sym (w .1)), w .1 ∙ pair-none g (s .masks) (s .nine) u (s .first) (omega arith) (s .inv .1) (pair .ensures) (w .0 .left)))
     (c .if1 .came) in

@@ -10,15 +10,6 @@ use Rattle.techniques.specs.code.Pushes.{pushed, stored}
 use Rattle.techniques.proofs.singles.push.Statement.{statement}
 use Rattle.techniques.proofs.singles.push.Tie as tie
 
-element-write-cells : tie.Need-element-write-cells
-element-write-cells c = omega (arith, c .pre)
-
-element-write-digits : tie.Need-element-write-digits
-element-write-digits c = omega (arith, c .pre)
-
-add-result : tie.Need-add-result
-add-result c = omega (arith, c .pre)
-
 returns : tie.Need-returns
 unfolding pushed
 returns c =
@@ -28,4 +19,8 @@ returns c =
     )
 
 pub push-spec : {M : Type 1} → statement M
-push-spec = tie.close (tie.spec element-write-cells element-write-digits add-result returns)
+push-spec =
+    tie.close
+    (tie.spec
+    (λ c. omega (arith, c .pre)) (λ c. omega (arith, c .pre)) (λ c. omega (arith, c .pre))
+    returns)

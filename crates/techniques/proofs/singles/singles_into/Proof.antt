@@ -7,9 +7,6 @@ use Rattle.techniques.specs.code.Pushes.{pushed, append, stored}
 use Rattle.techniques.proofs.singles.singles_into.Statement.{statement}
 use Rattle.techniques.proofs.singles.singles_into.Tie as tie
 
-hidden-singles-requires : tie.Need-hidden-singles-requires
-hidden-singles-requires c κs = omega (arith, c .before .before .naked-singles .ensures .1)
-
 returns : tie.Need-returns
 unfolding append
 returns c =
@@ -22,4 +19,7 @@ returns c =
 
 pub singles-into-spec : {M : Type 1} → statement M
 singles-into-spec =
-    tie.close (tie.spec (λ c. omega arith) hidden-singles-requires returns)
+    tie.close
+    (tie.spec
+    (λ c. omega arith) (λ c κs. omega (arith, c .before .before .naked-singles .ensures .1))
+    returns)

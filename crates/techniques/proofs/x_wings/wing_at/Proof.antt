@@ -25,8 +25,8 @@ returns c =
     let e = c .before .before .before .before in
     let f = e .before .before .before .before .before in
     let a = f .before .before .args in
-    c .lose-places2 .ensures
-    ∙ ap (losePlaces (isOpen (a .givens .now)) (f .across-from .result + c .before .lowest-digit2 .result) (e .before .before .before .before .all-but .result) (e .before .before .before .digit-mask .result)) (e .lose-places .ensures)
+    c .lose-places2 .ensures .0
+    ∙ ap (losePlaces (isOpen (a .givens .now)) (f .across-from .result + c .before .lowest-digit2 .result) (e .before .before .before .before .all-but .result) (e .before .before .before .digit-mask .result)) (e .lose-places .ensures .0)
     ∙ wing-lost (a .givens .now) (a .columns) (a .digit) (a .first) (a .second) (a .spots) (a .others) (a .masks .now) (f .across-from .ensures) (e .before .lowest-digit .ensures)
     (c .before .before .lose-lowest .ensures) (c .before .lowest-digit2 .ensures) (e .before .before .before .before .all-but .ensures) (e .before .before .before .digit-mask .ensures) (f .before .if1 .taken)
 

@@ -43,9 +43,6 @@ loop-holds c =
 slice-write-out : tie.Need-slice-write-out Inv-loop μ-loop
 slice-write-out c = omega (arith, c .before .before .loop .inv .0, c .before .before .before .before .pre)
 
-element-copy-out-clue-byte : tie.Need-element-copy-out-clue-byte Inv-loop μ-loop
-element-copy-out-clue-byte c = omega (arith, c .if1 .left)
-
 slice-write-out-2 : tie.Need-slice-write-out-2 Inv-loop μ-loop
 slice-write-out-2 c = omega (arith, c .before .before .before .before .loop .inv .0, c .before .before .before .before .before .before .pre)
 
@@ -83,9 +80,7 @@ put-sheet-spec =
     μ-loop
     loop-holds
     slice-write-out
-    (λ c. omega arith) (λ c. omega arith) (λ c. omega arith)
-    element-copy-out-clue-byte
-    (search needs)
+    (λ c. omega arith) (λ c. omega arith) (λ c. omega arith) (λ c. omega (arith, c .if1 .left)) (search needs)
     slice-write-out-2
     (λ c. omega arith) (λ c. omega arith)
     loop-again
