@@ -1,5 +1,6 @@
 // The board: 81 clues, 81 entries and 81 masks, opened, checked and judged (modules 2 and 13).
 // A call that is handed a board checks it first, and hands on the check's stop.
+#![tactic(auto)]
 
 ghost use Rattle.std.specs.Prelude.{◌≡◌};
 ghost use Rattle.stops.specs.Answer.{check_answer, passing, stop_at, then, value_or};

@@ -1,6 +1,8 @@
 // The readers, the opener, the board's calls, entering and rubbing out, and the writers at their edges. A line for each call, `NAME A B STOP DETAIL`: A and B
 // say on what, and STOP is 0 where the call is not refused, with its number or a checksum of its result beside it.
 // tools/board_check.py makes the file `stdout` from the paper's words, and knows nothing of this crate.
+#![tactic(auto)]
+
 use board::entries::Pencilled;
 use board::{Board, BoardVerdict, CellMask, Counting, Verdict, clues, entries};
 use printing::{fold, mask_sum, number, refusal, word};

@@ -1,4 +1,6 @@
 // The board calls by their step numbers, and lists of them run from the fresh board of clues and entries.
+#![tactic(auto)]
+
 ghost use Rattle.board.specs.Boards.{board_of};
 ghost use Rattle.calls.specs.Replays.{Replays};
 ghost use Rattle.calls.specs.StepNumbers.{HandsBack, step_answer};

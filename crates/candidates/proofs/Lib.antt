@@ -7,5 +7,3 @@ pub mod FewDigits
 pub mod Only
 pub mod Sets
 pub mod Places
-mod Methods
-mod Lends

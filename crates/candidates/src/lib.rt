@@ -1,5 +1,7 @@
 // The candidate set: the digits that a cell may still take, as a mask of nine bits (module 1).
 // The passes work on bare masks by the functions of `masks`; the set is the same masks with the calls of the Rust.
+#![tactic(auto)]
+
 ghost use Rattle.std.specs.Prelude.{◌≡◌, eqb};
 ghost use Rattle.candidates.specs.Masks.{low_nine, count};
 ghost use Rattle.stops.specs.Answer.{check_answer};

@@ -2,6 +2,8 @@
 // number that it is handed beside the mask, `NAME NUMBER CHECKSUM`; where there is none, `NAME CHECKSUM`.
 // tools/candidates_sweep.py makes the file `stdout` from the paper's words and sets of digits, and knows nothing of this crate.
 // A line that differs names a call, and the number handed to it, at which some mask's answer is not what the paper says.
+#![tactic(auto)]
+
 use calls::Call;
 use codes::{fold, is_negative, size};
 use libc::STDOUT_FILENO;

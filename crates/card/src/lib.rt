@@ -1,5 +1,7 @@
 // The card of a grid (module 15): what the program `scorecard` prints of the bytes that it read. Only the reader refuses a text: the board that it
 // opens is fresh, and no call would refuse that or what settling leaves of it.
+#![tactic(auto)]
+
 ghost use Rattle.std.specs.Prelude.{◌≡◌, ◌≤◌, length};
 ghost use Rattle.stops.specs.Answer.{map, writing_answer};
 ghost use Rattle.steps.specs.Boards.{givens_of, fresh};

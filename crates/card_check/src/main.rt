@@ -1,5 +1,7 @@
 // The cards of some inputs and the refusals of others, each with all 256 lent bytes, which are `x` before the call.
 // tools/card_check.py makes the file `stdout` from the paper's words, and knows nothing of this crate.
+#![tactic(auto)]
+
 use printing::{number, refusal, word};
 use stops::Writing;
 

@@ -1,5 +1,7 @@
 // The published cases P1 to P11, and document 02's of Claiming and of entries, through the public calls. The file `stdout` is written from the paper's sentences:
 // a text or clue numbers with the stop and what stands beside it, `step NUMBER FLAG REMOVED` by step numbers, a mask by its cell.
+#![tactic(auto)]
+
 use board::entries::{Pencilled, enter, rub_out};
 use board::{Board, BoardVerdict, CellMask, Counting, Verdict};
 use calls::{Stepping, step};

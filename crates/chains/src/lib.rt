@@ -1,4 +1,6 @@
 // The chain pass (module 11) over lent givens and masks, ported as it is, with the original's names. It begins with a weak link, so it can cost a filling. The X-chain pass, which cannot, stands beside it.
+#![tactic(auto)]
+
 ghost use Rattle.std.specs.Prelude.{◌≡◌, ◌<◌};
 ghost use Rattle.steps.specs.Chains.{chain_digit, chains};
 

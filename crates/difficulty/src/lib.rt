@@ -1,4 +1,6 @@
 // The difficulty figure (document 02, F-14): points for what settling the fresh board removes, divided by the open cells without entries.
+#![tactic(auto)]
+
 ghost use Rattle.std.specs.Prelude.{◌≡◌, ◌≢◌, ◌≤◌};
 ghost use Rattle.steps.specs.Boards.{Givens, fresh};
 ghost use Rattle.steps.specs.Difficulty.{summed, pass_counts, points_of, open_cells, figure_of, difficulty_of};

@@ -1,5 +1,7 @@
 // The calls that remove candidates: the ported eliminations with the original's names, the wide passes and the two chain passes. Each checks its board
 // first; what it removes is worked out over lent givens and masks by the crates below.
+#![tactic(auto)]
+
 ghost use Rattle.std.specs.Prelude.{◌≡◌};
 ghost use Rattle.stops.specs.Answer.{map, progress_answer};
 ghost use Rattle.steps.specs.Calls.{answer, box_line_call, chain_call, left, naked_pairs_call, outcome, wide, x_chain_call, x_wing_call};

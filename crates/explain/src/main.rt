@@ -2,6 +2,8 @@
 // difficulty figure and the verdict; or `refused N P`. README.md has the line format.
 //
 // What a line says of a step is the list of settling, taken step by step as the checker of step lists does. Each line is made in lent bytes and written out.
+#![tactic(auto)]
+
 use board::Board;
 use board::entries::fresh_board;
 use board::verdicts::verdict_of;

@@ -1,5 +1,7 @@
 // The grid: rows, columns and boxes, who sees whom, and the verifier of filled grids (module 10).
 // A cell is its number, 0 to 80; a unit its number, 0 to 8 for rows, 9 to 17 for columns, 18 to 26 for boxes.
+#![tactic(auto)]
+
 ghost use Rattle.std.specs.Prelude.{◌≡◌};
 ghost use Rattle.grid.specs.Cells.{row, col, box, aligned, sees, peer_table};
 ghost use Rattle.grid.specs.Units.{units, unit_cell};

@@ -6,7 +6,7 @@ ghost use Rattle.grid.specs.code.Scopes.{in_scope};
 use crate::{are_peers, box_of, col_of, row_of};
 
 // The peers of a cell, or the cells of a unit.
-#[derive(Drop)]
+#[derive(Clone, Copy)]
 pub enum Scope {
     Peers(usize),
     Unit(usize),

@@ -1,5 +1,7 @@
 // The masks of a board in lanes: each stands three times, in the lane of its row, of its column and of its box, so that a test of one lane in a loop over sixteen is a test of sixteen units at once.
 // Place i of lane l stands at 48 i + l; the rows are lanes 0 to 8, the columns 16 to 24, the boxes 32 to 40, and the other lanes hold nothing. A lane has the nine digits of a mask and no higher bits.
+#![tactic(auto)]
+
 ghost use Rattle.std.specs.Prelude.{◌≡◌, ◌+◌, ◌*◌, ◌<◌, ◌≤◌};
 ghost use Rattle.std.specs.Int.Bits.{bit_and};
 ghost use Rattle.steps.specs.Boards.{at};

@@ -1,5 +1,7 @@
 // Pointing and Claiming, two of the wide passes (module 8; document 02, F-5), over lent givens and masks. Nothing is asked of either: the contracts hold for any of them. Where the caller has the masks in lanes already, `pointing_lanes` and `claiming_lanes` use these and leave them laid.
 // Both are one step over a unit and those that meet it: Pointing a box and its six lines, Claiming a line and its three boxes.
+#![tactic(auto)]
+
 ghost use Rattle.std.specs.Prelude.{◌≡◌, [], ◌∷◌, ◌-◌, ◌<◌};
 ghost use Rattle.steps.specs.Loops.{each, for, range};
 ghost use Rattle.steps.specs.Passes.{pass, instances, Pointing, Claiming};

@@ -1,4 +1,6 @@
 // Lone and Place, two of the wide passes (module 8), over lent givens and masks. Nothing is asked of either: each contract holds for any of them.
+#![tactic(auto)]
+
 ghost use Rattle.std.specs.Prelude.{◌≡◌};
 ghost use Rattle.steps.specs.Passes.{pass, Lone, Place};
 

@@ -4,6 +4,8 @@
 // A case is a line of 94 bytes: a grid, a space, and up to eleven steps, each the byte of `0` and its number, filled with spaces.
 // Its answer is the grid, then `refused STOP PLACE`, or `open`, the clues and a checksum of the fresh masks; then for each step its
 // number, its flag, a checksum of the masks after it, and each report, its cell and its digit.
+#![tactic(auto)]
+
 use board::Board;
 use calls::Stepping;
 use libc::{STDIN_FILENO, STDOUT_FILENO};

@@ -1,4 +1,6 @@
 // What the checking programs print to standard output: words, numbers, stops, and checksums of masks.
+#![tactic(auto)]
+
 ghost use Rattle.std.specs.Prelude.{◌≡◌};
 ghost use Rattle.printing.specs.code.Sums.{folded, sum_of};
 

@@ -1,5 +1,7 @@
 // The record of a board (module 14; document 02, F-8): its clue section, its entry section and its removed section, what the fresh masks of
 // clues and entries have and the board lacks; and records moved from the old form, which has no entry section, and back.
+#![tactic(auto)]
+
 ghost use Rattle.std.specs.Prelude.{◌≡◌, length};
 ghost use Rattle.stops.specs.Answer.{check_answer, map, passing, value_or, writing_answer};
 ghost use Rattle.board.specs.Boards.{board_of, handed, no_board, no_masks};

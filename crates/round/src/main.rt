@@ -1,5 +1,7 @@
 // Scores a round: standard input has a grid a line, with the printed answer after it, and standard output a line for each; a summary comes on standard
 // error. README.md has the line's fields.
+#![tactic(auto)]
+
 use libc::{STDERR_FILENO, STDIN_FILENO, STDOUT_FILENO};
 use rounds::cuts::{State, feed, finish, fresh_state};
 use rounds::tallies::write_summary;

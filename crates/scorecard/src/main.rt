@@ -1,4 +1,6 @@
 // Prints the card of the grid that is read from standard input (module 15), or `refused N P`.
+#![tactic(auto)]
+
 ghost use Rattle.std.specs.Prelude.{◌≡◌, ◌≤◌, length};
 ghost use Rattle.card.specs.Cards.{card_of, printed};
 ghost use Rattle.output.specs.Lent.{over};

@@ -1,5 +1,7 @@
 // Setters' step lists (document 02, F-10): a list of steps, six bytes each, is taken step by step from the fresh board of the handed board's clues and entries. It is accepted
 // where each step names an instance of a wide pass whose condition holds at its turn and that removes something.
+#![tactic(auto)]
+
 ghost use Rattle.std.specs.Prelude.{◌≡◌, ◌≤◌};
 ghost use Rattle.stops.specs.Answer.{check_answer, passing, value_or};
 ghost use Rattle.steps.specs.StepLists.{count_check, follow, step_count, steps_in, steps_of};

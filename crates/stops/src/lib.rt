@@ -1,4 +1,6 @@
 // The stops (refusals) of the paper's table and of document 02, one enum for all calls: "A refusal hands back only number and detail".
+#![tactic(auto)]
+
 ghost use Rattle.std.specs.Prelude.{◌≡◌};
 ghost use Rattle.stops.specs.Answer.{check_answer, passing, then, writing_answer};
 ghost use Rattle.stops.specs.Stops.{row_of};

@@ -1,5 +1,7 @@
 // What other languages call: the engine on numbers and arrays. host/README.md is the page for callers.
 // Nothing is owed by a caller beyond the lengths of what it lends, and each answer fixes all that was lent.
+#![tactic(auto)]
+
 ghost use Rattle.std.specs.Prelude.{◌≡◌};
 ghost use Rattle.grid.specs.Fillings.{verified};
 ghost use Rattle.steps.specs.Entries.{enter, rub_out};

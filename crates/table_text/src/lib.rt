@@ -1,5 +1,7 @@
 // The unit table and the peer table as Rattle constants, as bytes (document 02, F-12): what the program `tables` prints. Rows, columns, boxes and peers
 // are worked out cell by cell; no table of the repository is read.
+#![tactic(auto)]
+
 ghost use Rattle.std.specs.Prelude.{◌≡◌, length};
 ghost use Rattle.output.specs.Lent.{over};
 ghost use Rattle.steps.specs.Loops.{for};

@@ -1,4 +1,6 @@
 // Prints the unit table and the peer table as Rattle constants.
+#![tactic(auto)]
+
 use libc::STDOUT_FILENO;
 
 fn main() {

@@ -1,5 +1,7 @@
 // The ported techniques (modules 3 to 6), with the original's names: the eliminations over lent givens and masks, where givens are the digit that each
 // cell is given, 0 where it is open, and every function is total; and the calls that report singles, which check their board first.
+#![tactic(auto)]
+
 ghost use Rattle.std.specs.Prelude.{◌≡◌, cond, ◌||◌, [], ltb};
 ghost use Rattle.stops.specs.Answer.{map, progress_answer, value_or};
 ghost use Rattle.steps.specs.Calls.{naked_singles_call, hidden_singles_call, advanced_call, answer, left, outcome};

@@ -1,4 +1,6 @@
 // Grids as text (module 12): 81 bytes, `1` to `9`; `0` and `.` are open.
+#![tactic(auto)]
+
 ghost use Rattle.std.specs.Prelude.{◌≡◌, ◌<◌, ◌^◌, ◌≤◌, drop, get_or, length, ◌++◌};
 ghost use Rattle.stops.specs.Answer.{check_answer, passing, stop_at, value_or, writing_answer};
 ghost use Rattle.stops.specs.declared.Stop.TheVariants.{OtherByte};

@@ -1,5 +1,7 @@
 // Trial rounds: a line for each, `round SOLUTION START PERCENTAGE STOP DETAIL CLUES`, where STOP is 0 for a round that is made and CLUES stand as
 // text, `.` for open. tools/trial_check.py makes the file `stdout` from the words of document 02, and knows nothing of this crate.
+#![tactic(auto)]
+
 use printing::{number, refusal, word};
 use stops::Check;
 use trial_rounds::trial_round;

@@ -1,5 +1,7 @@
 // Trial rounds (document 02, F-11): of a solution's digits, those that a generator of numbers keeps as clues. The same start gives the same round on
 // every station.
+#![tactic(auto)]
+
 ghost use Rattle.std.specs.Prelude.{◌≡◌};
 ghost use Rattle.stops.specs.Answer.{check_answer, then};
 ghost use Rattle.trial_rounds.specs.Rounds.{clue_of, is_kept, Makes, next_state, percentage_check, round_clues, solution_check};

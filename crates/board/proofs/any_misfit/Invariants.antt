@@ -1,0 +1,19 @@
+-- `board::any_misfit` meets its contract. Assumes nothing.
+use mathlib.Core.Path.{◌≡◌, refl}
+use mathlib.Core.Bool.{◌||◌}
+use Prim.Native.Nat.{◌-◌}
+use native.Mathlib.Omega.{arith}
+use borrow.Author.Rules.{rules}
+use Rattle.grid.specs.Cells.{cells}
+use Rattle.grid.specs.Lists.{range}
+use Rattle.steps.specs.Boards.{at, given}
+use Rattle.steps.specs.Loops.{first}
+use Rattle.board.specs.code.Checks.{misfit_of, first_misfit, is_found}
+use Rattle.board.proofs.Flags.{flag-on, flag-end}
+use Rattle.board.proofs.any_misfit.Given as goal
+
+abbrev pub invariant-loop-cell : goal.invariant-loop-cell
+invariant-loop-cell l = (l.any || is_found (first (λ c. misfit_of (at l.masks c) (at l.fresh c) (given l.givens c)) (range (81 - l.cell) l.cell))) ≡ is_found (first_misfit l.givens l.fresh l.masks)
+
+abbrev pub decreases-loop-cell : goal.decreases-loop-cell
+decreases-loop-cell l = 81 - l.cell

@@ -1,0 +1,19 @@
+-- `board::fresh::fresh_masks` meets its contract. Assumes nothing.
+use mathlib.Core.Path.{◌≡◌, ap, ◌∙◌}
+use mathlib.Core.List.{List}
+use Prim.Native.Nat.{ℕ, ◌-◌, ◌≤◌}
+use native.Mathlib.Omega.{arith}
+use borrow.Author.Rules.{rules}
+use lib.ListN.{replicate}
+use Rattle.grid.specs.Lists.{each, range}
+use Rattle.grid.proofs.Lists.{turn-done, turns-over}
+use Rattle.steps.specs.Boards.{fresh}
+use Rattle.board.specs.code.Fresh.{fresh_row}
+use Rattle.board.proofs.Taken.{fresh-rows}
+use Rattle.board.proofs.fresh.fresh_masks.Given as goal
+
+abbrev pub invariant-loop-row : goal.invariant-loop-row
+invariant-loop-row l = (l.row ≤ 9) × (each (fresh_row l.givens l.sets) (range (9 - l.row) l.row) l.masks ≡ fresh l.givens)
+
+abbrev pub decreases-loop-row : goal.decreases-loop-row
+decreases-loop-row l = 9 - l.row

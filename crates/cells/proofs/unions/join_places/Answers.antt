@@ -1,0 +1,26 @@
+use mathlib.Core.Path.{◌≡◌, refl, ap, ◌∙◌}
+use mathlib.Core.Bool.{cond}
+use mathlib.Core.List.{List}
+use Prim.Native.Nat.{ℕ, ◌-◌, ◌≤◌}
+use native.Mathlib.Omega.{arith}
+use borrow.Author.Rules.{rules}
+use Rattle.candidates.specs.Masks.{has, union}
+use Rattle.grid.proofs.Lists.{turn-done, turns-over}
+use Rattle.steps.specs.Boards.{at}
+use Rattle.steps.specs.Loops.{each, range}
+use Rattle.cells.specs.code.Unions.{joined_at}
+use Rattle.cells.proofs.unions.join_places.Invariants.{turn}
+use Rattle.cells.proofs.unions.join_places.Goals as goal
+
+pub loop-place-init : goal.loop-place-init
+unfolding joined_at
+loop-place-init c = (omega arith, refl)
+
+pub loop-place-preserved : goal.loop-place-preserved
+loop-place-preserved c =
+    (omega arith, turn-done (turn c.args.nine.now c.args.places) 9 c.loop-place.place (omega arith) (c.join-mask.ensures ∙ ap (union c.loop-place.mask) c.mask_if.ensures) c.loop-place.invariant.1)
+
+pub returns : goal.returns
+returns c =
+    let a = c.args in
+    turns-over (turn a.nine.now a.places) 9 c.loop-place.place c.loop-place-test.false c.loop-place.invariant.1

@@ -1,0 +1,22 @@
+-- `cells::unions::several` meets its contract. The invariant: the places that are left still make the whole. Assumes nothing.
+use mathlib.Core.Path.{◌≡◌, refl, ap, ◌∙◌}
+use mathlib.Core.List.{List}
+use Prim.Native.Nat.{ℕ, ◌-◌, ◌≤◌}
+use native.Mathlib.Omega.{arith}
+use borrow.Author.Rules.{rules}
+use Rattle.candidates.specs.Masks.{union}
+use Rattle.grid.proofs.Lists.{turn-done, turns-over}
+use Rattle.steps.specs.Boards.{at}
+use Rattle.steps.specs.Loops.{each, range}
+use Rattle.cells.specs.code.Unions.{several_in, several_of}
+use Rattle.cells.proofs.unions.several.Given as goal
+
+-- one turn of the loop
+abbrev pub turn : List ℕ → ℕ → ℕ → ℕ
+turn nine i k = union k (several_in (at nine i))
+
+abbrev pub invariant-loop-place : goal.invariant-loop-place
+invariant-loop-place l = (l.place ≤ 9) × (each (turn l.nine) (range (9 - l.place) l.place) l.mask ≡ several_of l.nine)
+
+abbrev pub decreases-loop-place : goal.decreases-loop-place
+decreases-loop-place l = 9 - l.place

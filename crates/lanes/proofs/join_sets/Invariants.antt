@@ -1,0 +1,21 @@
+-- `lanes::join_sets` meets its contract. The invariant: the sets that are left still make the whole. Assumes nothing.
+use mathlib.Core.Path.{◌≡◌, refl}
+use mathlib.Core.List.{List}
+use Prim.Native.Nat.{ℕ, ◌-◌, ◌≤◌}
+use native.Mathlib.Omega.{arith}
+use Rattle.candidates.specs.Masks.{union}
+use Rattle.grid.proofs.Lists.{turn-done, turns-over}
+use Rattle.steps.specs.Boards.{at}
+use Rattle.steps.specs.Loops.{each, range}
+use Rattle.lanes.specs.code.Lanes.{joined_sets}
+use borrow.Author.Rules.{rules}
+use Rattle.lanes.proofs.join_sets.Given as goal
+
+abbrev pub turn : List ℕ → ℕ → ℕ → ℕ
+turn sets i k = union k (at sets i)
+
+abbrev pub invariant-loop-nth : goal.invariant-loop-nth
+invariant-loop-nth l = (l.nth ≤ 16) × (each (turn l.sets) (range (16 - l.nth) l.nth) l.held ≡ joined_sets l.sets)
+
+abbrev pub decreases-loop-nth : goal.decreases-loop-nth
+decreases-loop-nth l = 16 - l.nth

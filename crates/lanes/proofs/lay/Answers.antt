@@ -1,0 +1,11 @@
+use Prim.Native.Nat.{◌*◌, ◌-◌, ◌≤◌}
+use native.Mathlib.Omega.{arith}
+use Rattle.lanes.specs.code.Lanes.{Partly}
+use Rattle.lanes.proofs.Spots.{partly-start, partly-to, partly-end}
+use Rattle.lanes.proofs.lay.Goals as goal
+
+pub loop-row-init : goal.loop-row-init
+loop-row-init c = (omega arith, partly-start c.args.masks.now c.requires)
+
+pub returns : goal.returns
+returns c = partly-end (partly-to (omega arith) c.loop-row.invariant.1)

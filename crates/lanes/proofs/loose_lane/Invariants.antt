@@ -1,0 +1,21 @@
+-- `lanes::loose_lane` meets its contract. The invariant: the places that are left still make the whole. Assumes nothing.
+use mathlib.Core.Path.{◌≡◌, refl, ap, ◌∙◌}
+use mathlib.Core.List.{List}
+use Prim.Native.Nat.{ℕ, ◌-◌, ◌≤◌}
+use native.Mathlib.Omega.{arith}
+use lib.Bits.{bit_and}
+use Rattle.candidates.specs.Masks.{union}
+use Rattle.grid.proofs.Lists.{turn-done, turns-over}
+use Rattle.steps.specs.Loops.{each, range}
+use Rattle.lanes.specs.code.Lanes.{lane_at, loose_of}
+use borrow.Author.Rules.{rules}
+use Rattle.lanes.proofs.loose_lane.Given as goal
+
+abbrev pub turn : List ℕ → List ℕ → ℕ → ℕ → ℕ → ℕ
+turn p q l i k = union k (bit_and (lane_at p l i) (lane_at q l i))
+
+abbrev pub invariant-loop-place : goal.invariant-loop-place
+invariant-loop-place l = (l.place ≤ 9) × (each (turn l.lanes l.doors l.lane) (range (9 - l.place) l.place) l.held ≡ loose_of l.lanes l.doors l.lane)
+
+abbrev pub decreases-loop-place : goal.decreases-loop-place
+decreases-loop-place l = 9 - l.place
