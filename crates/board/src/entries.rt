@@ -93,7 +93,7 @@ pub fn fresh_board(clues: [i32; 81], entries: [i32; 81]) -> Board
 }
 
 // The board after `enter` or `rub_out`; as it was beside a refusal.
-#[derive(Drop)]
+#[derive(Clone, Copy)]
 pub struct Pencilled {
     pub answer: Check,
     pub board: Board,

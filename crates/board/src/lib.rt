@@ -21,7 +21,7 @@ pub mod fresh;
 pub mod verdicts;
 
 // A board. A clue is 0 where its cell is open, an entry where it has none; a mask holds the cell's candidates.
-#[derive(Drop)]
+#[derive(Clone, Copy)]
 pub struct Board {
     pub clues: [i32; 81],
     pub entries: [i32; 81],
@@ -29,56 +29,56 @@ pub struct Board {
 }
 
 // What a search finds.
-#[derive(Drop)]
+#[derive(Clone, Copy)]
 pub enum Found {
     At(usize),
     Nothing,
 }
 
 // A board that was opened; zeros beside a refusal.
-#[derive(Drop)]
+#[derive(Clone, Copy)]
 pub struct Opened {
     pub answer: Check,
     pub board: Board,
 }
 
 // The board after `update_candidates`; as it was beside a refusal.
-#[derive(Drop)]
+#[derive(Clone, Copy)]
 pub struct Updated {
     pub answer: Check,
     pub board: Board,
 }
 
 // The clues of a board; zeros beside a refusal.
-#[derive(Drop)]
+#[derive(Clone, Copy)]
 pub struct Puzzle {
     pub answer: Check,
     pub clues: [i32; 81],
 }
 
 // The masks of a board; zeros beside a refusal.
-#[derive(Drop)]
+#[derive(Clone, Copy)]
 pub struct Candidates {
     pub answer: Check,
     pub masks: [u16; 81],
 }
 
 // What `clue_count` answers.
-#[derive(Drop)]
+#[derive(Clone, Copy)]
 pub enum Counting {
     Clues(usize),
     Refused(Stop),
 }
 
 // What `cell_mask` answers.
-#[derive(Drop)]
+#[derive(Clone, Copy)]
 pub enum CellMask {
     Mask(u16),
     Refused(Stop),
 }
 
 // What the masks of a board say of it.
-#[derive(Drop)]
+#[derive(Clone, Copy)]
 pub enum Verdict {
     Dead,
     Finished,
@@ -86,7 +86,7 @@ pub enum Verdict {
 }
 
 // What `verdict` answers.
-#[derive(Drop)]
+#[derive(Clone, Copy)]
 pub enum BoardVerdict {
     Is(Verdict),
     Refused(Stop),

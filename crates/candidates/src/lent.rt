@@ -7,13 +7,13 @@ use crate::{Presence, SudokuCandidateSet};
 use stops::Check;
 
 // The mask after a call, and what the call answered.
-#[derive(Drop)]
+#[derive(Clone, Copy)]
 pub struct Inserted {
     pub mask: u16,
     pub answer: Check,
 }
 
-#[derive(Drop)]
+#[derive(Clone, Copy)]
 pub struct Removed {
     pub mask: u16,
     pub answer: Presence,

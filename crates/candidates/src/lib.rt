@@ -15,20 +15,20 @@ pub mod lent;
 pub mod masks;
 
 // A set of digits: bit d - 1 is digit d. Only the nine lowest bits count: an accepted call drops the others first.
-#[derive(Drop)]
+#[derive(Clone, Copy)]
 pub struct SudokuCandidateSet {
     pub mask: u16,
 }
 
 // What `single` answers.
-#[derive(Drop)]
+#[derive(Clone, Copy)]
 pub enum NewSet {
     Set(SudokuCandidateSet),
     Refused(Stop),
 }
 
 // What `contains` and `remove` answer: whether the digit is there, or was.
-#[derive(Drop)]
+#[derive(Clone, Copy)]
 pub enum Presence {
     Present,
     Absent,
@@ -36,7 +36,7 @@ pub enum Presence {
 }
 
 // What `single_candidate` answers.
-#[derive(Drop)]
+#[derive(Clone, Copy)]
 pub enum SingleCandidate {
     Digit(i32),
     Empty,
@@ -44,14 +44,14 @@ pub enum SingleCandidate {
 }
 
 // The digits of `mask` at place `current` and above.
-#[derive(Drop)]
+#[derive(Clone, Copy)]
 pub struct SudokuCandidateIter {
     pub mask: u16,
     pub current: u8,
 }
 
 // What `next` answers: a digit and the iterator after it.
-#[derive(Drop)]
+#[derive(Clone, Copy)]
 pub enum NextCandidate {
     Digit(i32, SudokuCandidateIter),
     Done,

@@ -67,7 +67,7 @@ pub fn note(
 }
 
 // Steps with their count; the bytes after them are 0.
-#[derive(Drop)]
+#[derive(Clone, Copy)]
 pub struct Steps {
     pub bytes: [u8; 4374],
     pub count: usize,

@@ -6,7 +6,7 @@ ghost use Rattle.stops.specs.Answer.{check_answer, passing, then, writing_answer
 ghost use Rattle.stops.specs.Stops.{row_of};
 
 // A place or a length stands beside its stop as an `i64`, the type that `detail` answers in; a caller's own digit, cell or percentage as it was handed in.
-#[derive(Drop)]
+#[derive(Clone, Copy)]
 pub enum Stop {
     // A text's length, which is not 81.
     TextLength(i64),
@@ -55,21 +55,21 @@ pub enum Stop {
 }
 
 // What a call answers whose value stands beside the answer.
-#[derive(Drop)]
+#[derive(Clone, Copy)]
 pub enum Check {
     Passed,
     Refused(Stop),
 }
 
 // What a writer answers: how many bytes it wrote.
-#[derive(Drop)]
+#[derive(Clone, Copy)]
 pub enum Writing {
     Written(usize),
     Refused(Stop),
 }
 
 // What a call answers that may make progress: whether it did.
-#[derive(Drop)]
+#[derive(Clone, Copy)]
 pub enum Progress {
     Made(bool),
     Refused(Stop),
