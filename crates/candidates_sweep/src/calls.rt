@@ -3,7 +3,7 @@ use crate::codes;
 use candidates::{NextCandidate, SudokuCandidateSet, digits, lent, masks};
 
 // A call with what it is handed beside the mask. `New`, `Full`, `Single`, `PlaceOf`, `DigitMask` and `DigitAt` take no mask.
-#[derive(Drop)]
+#[derive(Clone, Copy)]
 pub enum Call {
     New,
     Full,

@@ -5,8 +5,9 @@
 #![tactic(auto)]
 
 use calls::Call;
-use codes::{fold, is_negative, size};
-use libc::STDOUT_FILENO;
+use codes::fold;
+use std::io;
+use std::io::Write;
 
 mod calls;
 mod codes;
@@ -41,82 +42,85 @@ fn checksum(call: Call) -> u64 {
     sum
 }
 
-fn line(name: &[u8], call: Call) {
-    io::write_all(STDOUT_FILENO, name);
-    io::write_all(STDOUT_FILENO, b" ");
-    io::print_decimal(STDOUT_FILENO, checksum(call));
-    io::write_all(STDOUT_FILENO, b"\n");
+fn write(rt: &impl Print, bytes: &[u8]) -> io::Result<()> {
+    io::writer(rt).write_all(bytes)
 }
 
-fn number_line(name: &[u8], number: u64, call: Call) {
-    io::write_all(STDOUT_FILENO, name);
-    io::write_all(STDOUT_FILENO, b" ");
-    io::print_decimal(STDOUT_FILENO, number);
-    line(b"", call);
+fn line(rt: &impl Print, name: &[u8], call: Call) -> io::Result<()> {
+    write(rt, name)?;
+    println!(rt; " {}", checksum(call))
 }
 
-fn digit_line(name: &[u8], digit: i32, call: Call) {
-    io::write_all(STDOUT_FILENO, name);
-    io::write_all(STDOUT_FILENO, b" ");
-    if is_negative(digit) {
-        io::write_all(STDOUT_FILENO, b"-");
-    }
-    io::print_decimal(STDOUT_FILENO, size(digit));
-    line(b"", call);
+fn number_line(rt: &impl Print, name: &[u8], number: u64, call: Call) -> io::Result<()> {
+    write(rt, name)?;
+    print!(rt; " {number}")?;
+    line(rt, b"", call)
 }
 
-fn plain_lines() {
-    line(b"new", Call::New);
-    line(b"full", Call::Full);
-    line(b"clear", Call::Clear);
-    line(b"len", Call::Len);
-    line(b"is_empty", Call::IsEmpty);
-    line(b"single_candidate", Call::SingleCandidate);
-    line(b"iter", Call::Iter);
-    line(b"digit_count", Call::DigitCount);
-    line(b"lowest_digit", Call::LowestDigit);
-    line(b"lose_lowest", Call::LoseLowest);
-    line(b"is_none", Call::IsNone);
-    line(b"is_one", Call::IsOne);
-    line(b"is_two", Call::IsTwo);
+fn digit_line(rt: &impl Print, name: &[u8], digit: i32, call: Call) -> io::Result<()> {
+    write(rt, name)?;
+    print!(rt; " {digit}")?;
+    line(rt, b"", call)
 }
 
-fn digit_lines(digit: i32) {
-    digit_line(b"single", digit, Call::Single(digit));
-    digit_line(b"contains", digit, Call::Contains(digit));
-    digit_line(b"insert", digit, Call::Insert(digit));
-    digit_line(b"remove", digit, Call::Remove(digit));
-    digit_line(b"place_of", digit, Call::PlaceOf(digit));
+fn plain_lines(rt: &impl Print) -> io::Result<()> {
+    line(rt, b"new", Call::New)?;
+    line(rt, b"full", Call::Full)?;
+    line(rt, b"clear", Call::Clear)?;
+    line(rt, b"len", Call::Len)?;
+    line(rt, b"is_empty", Call::IsEmpty)?;
+    line(rt, b"single_candidate", Call::SingleCandidate)?;
+    line(rt, b"iter", Call::Iter)?;
+    line(rt, b"digit_count", Call::DigitCount)?;
+    line(rt, b"lowest_digit", Call::LowestDigit)?;
+    line(rt, b"lose_lowest", Call::LoseLowest)?;
+    line(rt, b"is_none", Call::IsNone)?;
+    line(rt, b"is_one", Call::IsOne)?;
+    line(rt, b"is_two", Call::IsTwo)?;
+    Ok(())
 }
 
-fn place_lines(place: usize) {
-    number_line(b"has_digit", place as u64, Call::HasDigit(place));
-    number_line(b"digit_mask", place as u64, Call::DigitMask(place));
-    number_line(b"lose_digit", place as u64, Call::LoseDigit(place));
-    number_line(b"first_digit", place as u64, Call::FirstDigit(place));
-    number_line(b"digit_at", place as u64, Call::DigitAt(place));
+fn digit_lines(rt: &impl Print, digit: i32) -> io::Result<()> {
+    digit_line(rt, b"single", digit, Call::Single(digit))?;
+    digit_line(rt, b"contains", digit, Call::Contains(digit))?;
+    digit_line(rt, b"insert", digit, Call::Insert(digit))?;
+    digit_line(rt, b"remove", digit, Call::Remove(digit))?;
+    digit_line(rt, b"place_of", digit, Call::PlaceOf(digit))?;
+    Ok(())
 }
 
-fn mask_lines(mask: u16) {
-    number_line(b"lose", mask as u64, Call::Lose(mask));
-    number_line(b"meet", mask as u64, Call::Meet(mask));
-    number_line(b"join", mask as u64, Call::Join(mask));
+fn place_lines(rt: &impl Print, place: usize) -> io::Result<()> {
+    number_line(rt, b"has_digit", place as u64, Call::HasDigit(place))?;
+    number_line(rt, b"digit_mask", place as u64, Call::DigitMask(place))?;
+    number_line(rt, b"lose_digit", place as u64, Call::LoseDigit(place))?;
+    number_line(rt, b"first_digit", place as u64, Call::FirstDigit(place))?;
+    number_line(rt, b"digit_at", place as u64, Call::DigitAt(place))?;
+    Ok(())
+}
+
+fn mask_lines(rt: &impl Print, mask: u16) -> io::Result<()> {
+    number_line(rt, b"lose", mask as u64, Call::Lose(mask))?;
+    number_line(rt, b"meet", mask as u64, Call::Meet(mask))?;
+    number_line(rt, b"join", mask as u64, Call::Join(mask))?;
+    Ok(())
 }
 
 // The lines of a place, and of the digit and the second mask at that index.
-fn lines_at(i: usize) {
-    place_lines(i);
+fn lines_at(rt: &impl Print, i: usize) -> io::Result<()> {
+    place_lines(rt, i)?;
     if i < 14 {
-        digit_lines(DIGITS[i]);
+        digit_lines(rt, DIGITS[i])?;
     }
     if i < 6 {
-        mask_lines(MASKS[i]);
+        mask_lines(rt, MASKS[i])?;
     }
+    Ok(())
 }
 
-fn main() {
-    plain_lines();
+fn main(rt: HostRuntime) -> io::Result<()> {
+    plain_lines(&rt)?;
     for i in 0..18 {
-        lines_at(i);
+        lines_at(&rt, i)?;
     }
+    Ok(())
 }

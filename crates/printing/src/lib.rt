@@ -4,33 +4,28 @@
 ghost use Rattle.std.specs.Prelude.{◌≡◌};
 ghost use Rattle.printing.specs.code.Sums.{folded, sum_of};
 
-use libc::STDOUT_FILENO;
+use std::io;
+use std::io::Write;
 use stops::Stop;
 
-pub fn word(bytes: &[u8]) {
-    io::write_all(STDOUT_FILENO, bytes);
+pub fn word(rt: &impl Print, bytes: &[u8]) -> io::Result<()> {
+    io::writer(rt).write_all(bytes)
 }
 
 // A number after a space.
-pub fn number(n: u64) {
-    word(b" ");
-    io::print_decimal(STDOUT_FILENO, n);
+pub fn number(rt: &impl Print, n: u64) -> io::Result<()> {
+    print!(rt; " {n}")
 }
 
 // The same with its sign.
-fn signed(n: i64) {
-    if n < 0 {
-        word(b" -");
-        io::print_decimal(STDOUT_FILENO, (-1 - n) as u64 + 1);
-        return;
-    }
-    number(n as u64);
+fn signed(rt: &impl Print, n: i64) -> io::Result<()> {
+    print!(rt; " {n}")
 }
 
 // A stop's number and what stands beside it.
-pub fn refusal(stop: Stop) {
-    number(stops::number(stop) as u64);
-    signed(stops::detail(stop));
+pub fn refusal(rt: &impl Print, stop: Stop) -> io::Result<()> {
+    number(rt, stops::number(stop) as u64)?;
+    signed(rt, stops::detail(stop))
 }
 
 // A number joins a checksum.

@@ -19,7 +19,7 @@ mod words;
 // Room for the two tables, and no byte more.
 pub type Text = [u8; 7515];
 
-#[derive(Drop)]
+#[derive(Clone, Copy)]
 enum Table {
     Units,
     Peers,

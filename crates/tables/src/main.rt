@@ -1,10 +1,11 @@
 // Prints the unit table and the peer table as Rattle constants.
 #![tactic(auto)]
 
-use libc::STDOUT_FILENO;
+use std::io;
+use std::io::Write;
 
-fn main() {
+fn main(rt: HostRuntime) -> io::Result<()> {
     let mut text = [0u8; 7515];
     table_text::write_tables(&mut text);
-    io::write_all(STDOUT_FILENO, &text);
+    io::writer(&rt).write_all(&text)
 }

@@ -1,0 +1,30 @@
+use mathlib.Core.Path.{◌≡◌, refl, sym, ◌∙◌}
+use mathlib.Core.Logic.{⊎_elim}
+use Prim.Native.Nat.{◌-◌, ◌≤◌}
+use native.Mathlib.Omega.{arith}
+use borrow.Author.Rules.{rules}
+use Rattle.grid.specs.code.Scopes.{in_scope}
+use Rattle.steps.specs.Loops.{range, select}
+use Rattle.table_text.specs.Tables.{numbers}
+use Rattle.output.specs.code.Tapes.{tape, append}
+use Rattle.table_text.specs.code.Pushes.{entries, in_row}
+use Rattle.table_text.proofs.Numbers.{whole, taken, passed, row-over}
+use Rattle.table_text.proofs.rows.push_cells.Goals.{else-in_scope, then-in_scope}
+use Rattle.table_text.proofs.rows.push_cells.Goals as goal
+
+pub loop-cell-init : goal.loop-cell-init
+loop-cell-init c = (omega arith, whole c.args.scope (tape c.args.text.now c.args.at))
+
+pub loop-cell-preserved : goal.loop-cell-preserved
+loop-cell-preserved c =
+    let f = in_scope c.args.scope in
+    let test = sym c.in_scope.ensures in
+    let t = tape c.loop-cell.text c.loop-cell.end in (
+      omega arith,
+      elim c.if-in_scope.branch [ then-in_scope w ↦ taken f c.loop-cell.cell c.loop-cell.first t (omega arith) w.text-is w.end-is (test ∙ w.if-in_scope.true) w.first-is w.push_entry-end.ensures | else-in_scope w ↦ passed f c.loop-cell.cell c.loop-cell.first t (omega arith) w.text-is w.end-is (test ∙ w.if-in_scope.false) w.first-is refl ]
+          ∙ c.loop-cell.invariant.1,
+    )
+
+pub returns : goal.returns
+returns c =
+    row-over (in_scope c.args.scope) c.loop-cell.cell c.loop-cell.first (tape c.loop-cell.text c.loop-cell.end) c.loop-cell-test.false ∙ c.loop-cell.invariant.1

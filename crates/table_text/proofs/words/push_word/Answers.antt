@@ -1,0 +1,18 @@
+use mathlib.Core.Path.{◌≡◌, refl}
+use Prim.Native.Nat.{◌-◌}
+use native.Mathlib.Omega.{arith}
+use borrow.Author.Rules.{rules}
+use lib.ListN.{length, drop}
+use Rattle.grid.proofs.Lists.{member-done, members-over}
+use Rattle.output.specs.code.Tapes.{tape, pushed, append}
+use Rattle.table_text.proofs.words.push_word.Goals as goal
+
+pub loop-i-preserved : goal.loop-i-preserved
+unfolding append
+loop-i-preserved c =
+    member-done (λ b t. pushed 7515 t b) c.args.word.now c.loop-i.i c.loop-i-test.true c.push-end.ensures c.loop-i.invariant
+
+pub returns : goal.returns
+unfolding append
+returns c =
+    members-over (λ b t. pushed 7515 t b) c.args.word.now c.loop-i.i c.loop-i-test.false c.loop-i.invariant

@@ -1,0 +1,15 @@
+-- `table_text::words::push_word` meets its contract. The invariant: the bytes from i on still make all of the word. Assumes nothing.
+use mathlib.Core.Path.{◌≡◌, refl}
+use Prim.Native.Nat.{◌-◌}
+use native.Mathlib.Omega.{arith}
+use borrow.Author.Rules.{rules}
+use lib.ListN.{length, drop}
+use Rattle.grid.proofs.Lists.{member-done, members-over}
+use Rattle.output.specs.code.Tapes.{tape, pushed, append}
+use Rattle.table_text.proofs.words.push_word.Given as goal
+
+abbrev pub invariant-loop-i : goal.invariant-loop-i
+invariant-loop-i l = append 7515 (drop l.i l.word) (tape l.text l.end) ≡ append 7515 l.word (tape l.initial.text l.at)
+
+abbrev pub decreases-loop-i : goal.decreases-loop-i
+decreases-loop-i l = length l.word - l.i
