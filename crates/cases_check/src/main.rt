@@ -2,6 +2,7 @@
 // a text or clue numbers with the stop and what stands beside it, `step NUMBER FLAG REMOVED` by step numbers, a mask by its cell.
 #![tactic(auto)]
 
+use std::io;
 use board::entries::{Pencilled, enter, rub_out};
 use board::{Board, BoardVerdict, CellMask, Counting, Verdict};
 use calls::{Stepping, step};
@@ -9,40 +10,46 @@ use printing::{number, refusal, word};
 use record::{move_back, move_record, write_record};
 use stops::{Check, Stop, Writing};
 
-fn end() {
-    word(b"\n");
+fn end(rt: &impl Print) -> io::Result<()> {
+    word(rt, b"\n")?;
+    Ok(())
 }
 
-fn line(name: &[u8], a: u64, b: u64) {
-    word(name);
-    number(a);
-    number(b);
-    end();
+fn line(rt: &impl Print, name: &[u8], a: u64, b: u64) -> io::Result<()> {
+    word(rt, name)?;
+    number(rt, a)?;
+    number(rt, b)?;
+    end(rt)?;
+    Ok(())
 }
 
-fn refused(name: &[u8], stop: Stop) {
-    word(name);
-    refusal(stop);
-    end();
+fn refused(rt: &impl Print, name: &[u8], stop: Stop) -> io::Result<()> {
+    word(rt, name)?;
+    refusal(rt, stop)?;
+    end(rt)?;
+    Ok(())
 }
 
-fn checked(name: &[u8], answer: Check) {
+fn checked(rt: &impl Print, name: &[u8], answer: Check) -> io::Result<()> {
     match answer {
-        Check::Passed => line(name, 0, 0),
-        Check::Refused(stop) => refused(name, stop),
+        Check::Passed => line(rt, name, 0, 0)?,
+        Check::Refused(stop) => refused(rt, name, stop)?,
     }
+    Ok(())
 }
 
-fn read(name: &[u8], bytes: &[u8]) {
+fn read(rt: &impl Print, name: &[u8], bytes: &[u8]) -> io::Result<()> {
     let parsed = text::parse_string(bytes);
     let answer = parsed.answer;
-    checked(name, answer);
+    checked(rt, name, answer)?;
+    Ok(())
 }
 
-fn open(name: &[u8], clues: [i32; 81]) {
+fn open(rt: &impl Print, name: &[u8], clues: [i32; 81]) -> io::Result<()> {
     let opened = Board::new(clues);
     let answer = opened.answer;
-    checked(name, answer);
+    checked(rt, name, answer)?;
+    Ok(())
 }
 
 fn clues_of(bytes: &[u8]) -> [i32; 81] {
@@ -63,23 +70,25 @@ fn with_clue(clues: [i32; 81], cell: usize, clue: i32) -> [i32; 81] {
     put
 }
 
-fn mask(name: &[u8], board: Board, cell: u32) {
+fn mask(rt: &impl Print, name: &[u8], board: Board, cell: u32) -> io::Result<()> {
     match board.cell_mask(cell) {
-        CellMask::Mask(mask) => line(name, cell as u64, mask as u64),
-        CellMask::Refused(stop) => refused(name, stop),
+        CellMask::Mask(mask) => line(rt, name, cell as u64, mask as u64)?,
+        CellMask::Refused(stop) => refused(rt, name, stop)?,
     }
+    Ok(())
 }
 
-fn row_masks(name: &[u8], board: Board) {
-    mask(name, board, 0);
-    mask(name, board, 1);
-    mask(name, board, 2);
-    mask(name, board, 3);
-    mask(name, board, 4);
-    mask(name, board, 5);
-    mask(name, board, 6);
-    mask(name, board, 7);
-    mask(name, board, 8);
+fn row_masks(rt: &impl Print, name: &[u8], board: Board) -> io::Result<()> {
+    mask(rt, name, board, 0)?;
+    mask(rt, name, board, 1)?;
+    mask(rt, name, board, 2)?;
+    mask(rt, name, board, 3)?;
+    mask(rt, name, board, 4)?;
+    mask(rt, name, board, 5)?;
+    mask(rt, name, board, 6)?;
+    mask(rt, name, board, 7)?;
+    mask(rt, name, board, 8)?;
+    Ok(())
 }
 
 fn fewer(before: Board, after: Board) -> u64 {
@@ -109,257 +118,279 @@ fn progress(answer: Stepping) -> u64 {
 }
 
 // The step on the board; the board after it.
-fn take(name: &[u8], which: u8, board: Board) -> Board {
+fn take(rt: &impl Print, name: &[u8], which: u8, board: Board) -> io::Result<Board> {
     let done = step(which, board);
     let answer = done.answer;
     let after = done.board;
-    word(name);
-    number(which as u64);
-    number(progress(answer));
-    number(fewer(board, after));
-    end();
-    after
+    word(rt, name)?;
+    number(rt, which as u64)?;
+    number(rt, progress(answer))?;
+    number(rt, fewer(board, after))?;
+    end(rt)?;
+    Ok(after)
 }
 
 // Every pass, each on the same board.
-fn passes(name: &[u8], board: Board) {
-    take(name, 1, board);
-    take(name, 2, board);
-    take(name, 3, board);
-    take(name, 7, board);
-    take(name, 8, board);
-    take(name, 9, board);
-    take(name, 10, board);
-    take(name, 14, board);
-    take(name, 11, board);
-    take(name, 13, board);
+fn passes(rt: &impl Print, name: &[u8], board: Board) -> io::Result<()> {
+    take(rt, name, 1, board)?;
+    take(rt, name, 2, board)?;
+    take(rt, name, 3, board)?;
+    take(rt, name, 7, board)?;
+    take(rt, name, 8, board)?;
+    take(rt, name, 9, board)?;
+    take(rt, name, 10, board)?;
+    take(rt, name, 14, board)?;
+    take(rt, name, 11, board)?;
+    take(rt, name, 13, board)?;
+    Ok(())
 }
 
-fn settle(name: &[u8], board: Board) {
+fn settle(rt: &impl Print, name: &[u8], board: Board) -> io::Result<()> {
     let done = step(12, board);
     let sweeps = done.sweeps;
     let removed = done.removed;
-    line(name, sweeps as u64, removed as u64);
+    line(rt, name, sweeps as u64, removed as u64)?;
+    Ok(())
 }
 
-fn report(cell: u8, digit: u8) {
-    number(cell as u64);
-    number(digit as u64);
+fn report(rt: &impl Print, cell: u8, digit: u8) -> io::Result<()> {
+    number(rt, cell as u64)?;
+    number(rt, digit as u64)?;
+    Ok(())
 }
 
 // How many reports, and the first three.
-fn reports(name: &[u8], which: u8, board: Board) {
+fn reports(rt: &impl Print, name: &[u8], which: u8, board: Board) -> io::Result<()> {
     let done = step(which, board);
     let found = done.reports;
-    word(name);
-    number(found.count as u64);
+    word(rt, name)?;
+    number(rt, found.count as u64)?;
     let cells = found.cells;
     let digits = found.digits;
-    report(cells[0], digits[0]);
-    report(cells[1], digits[1]);
-    report(cells[2], digits[2]);
-    end();
+    report(rt, cells[0], digits[0])?;
+    report(rt, cells[1], digits[1])?;
+    report(rt, cells[2], digits[2])?;
+    end(rt)?;
+    Ok(())
 }
 
-fn verify(name: &[u8], grid: [i32; 81]) {
-    word(name);
+fn verify(rt: &impl Print, name: &[u8], grid: [i32; 81]) -> io::Result<()> {
+    word(rt, name)?;
     if grid::verify_solution(&grid) {
-        word(b" yes\n");
+        word(rt, b" yes\n")?;
     } else {
-        word(b" no\n");
+        word(rt, b" no\n")?;
     }
+    Ok(())
 }
 
 // What a writer answers, and the first four of its eight bytes.
-fn written(name: &[u8], writing: Writing, bytes: &[u8; 8]) {
+fn written(rt: &impl Print, name: &[u8], writing: Writing, bytes: &[u8; 8]) -> io::Result<()> {
     match writing {
-        Writing::Written(length) => line(name, 0, length as u64),
-        Writing::Refused(stop) => refused(name, stop),
+        Writing::Written(length) => line(rt, name, 0, length as u64)?,
+        Writing::Refused(stop) => refused(rt, name, stop)?,
     }
-    word(name);
-    report(bytes[0], bytes[1]);
-    report(bytes[2], bytes[3]);
-    end();
+    word(rt, name)?;
+    report(rt, bytes[0], bytes[1])?;
+    report(rt, bytes[2], bytes[3])?;
+    end(rt)?;
+    Ok(())
 }
 
 // The record in eight lent bytes that were 255.
-fn record(name: &[u8], board: Board) {
+fn record(rt: &impl Print, name: &[u8], board: Board) -> io::Result<()> {
     let mut bytes = [255u8; 8];
     let writing = write_record(board, &mut bytes);
-    written(name, writing, &bytes);
+    written(rt, name, writing, &bytes)?;
+    Ok(())
 }
 
-fn moved(name: &[u8], old: &[u8]) {
+fn moved(rt: &impl Print, name: &[u8], old: &[u8]) -> io::Result<()> {
     let mut bytes = [255u8; 8];
     let writing = move_record(old, &mut bytes);
-    written(name, writing, &bytes);
+    written(rt, name, writing, &bytes)?;
+    Ok(())
 }
 
-fn moved_back(name: &[u8], new: &[u8]) {
+fn moved_back(rt: &impl Print, name: &[u8], new: &[u8]) -> io::Result<()> {
     let mut bytes = [255u8; 8];
     let writing = move_back(new, &mut bytes);
-    written(name, writing, &bytes);
+    written(rt, name, writing, &bytes)?;
+    Ok(())
 }
 
-fn empty_grid() {
+fn empty_grid(rt: &impl Print) -> io::Result<()> {
     let dots = [b'.'; 81];
-    read(b"P1 read", &dots);
+    read(rt, b"P1 read", &dots)?;
     let board = fresh(&dots);
-    mask(b"P1 mask", board, 0);
-    mask(b"P1 mask", board, 40);
-    mask(b"P1 mask", board, 80);
-    take(b"P1 step", 4, board);
-    take(b"P1 step", 5, board);
-    take(b"P1 step", 6, board);
-    passes(b"P1 step", board);
-    settle(b"P1 settled", board);
-    record(b"P1 record", board);
+    mask(rt, b"P1 mask", board, 0)?;
+    mask(rt, b"P1 mask", board, 40)?;
+    mask(rt, b"P1 mask", board, 80)?;
+    take(rt, b"P1 step", 4, board)?;
+    take(rt, b"P1 step", 5, board)?;
+    take(rt, b"P1 step", 6, board)?;
+    passes(rt, b"P1 step", board)?;
+    settle(rt, b"P1 settled", board)?;
+    record(rt, b"P1 record", board)?;
+    Ok(())
 }
 
-fn stops() {
+fn stops(rt: &impl Print) -> io::Result<()> {
     let dots = [b'.'; 81];
-    read(b"P2 read", &dots[..80]);
+    read(rt, b"P2 read", &dots[..80])?;
     let mut last = dots;
     last[80] = b'a';
-    read(b"P3 read", &last);
-    open(b"P4 open", with_clue([0; 81], 0, -1));
-    open(b"P4 open", with_clue([0; 81], 80, 10));
+    read(rt, b"P3 read", &last)?;
+    open(rt, b"P4 open", with_clue([0; 81], 0, -1))?;
+    open(rt, b"P4 open", with_clue([0; 81], 80, 10))?;
+    Ok(())
 }
 
-fn one_open() {
+fn one_open(rt: &impl Print) -> io::Result<()> {
     let board = fresh(
         b".23456789456789123789123456231564897564897231897231564312645978645978312978312645",
     );
-    mask(b"P5 mask", board, 0);
-    reports(b"P5 naked", 4, board);
-    reports(b"P5 hidden", 5, board);
+    mask(rt, b"P5 mask", board, 0)?;
+    reports(rt, b"P5 naked", 4, board)?;
+    reports(rt, b"P5 hidden", 5, board)?;
+    Ok(())
 }
 
-fn filled() {
+fn filled(rt: &impl Print) -> io::Result<()> {
     let a = clues_of(
         b"123456789456789123789123456231564897564897231897231564312645978645978312978312645",
     );
-    verify(b"P6 verify A", a);
-    verify(b"P6 verify 0", with_clue(a, 80, 0));
-    verify(b"P6 verify 10", with_clue(a, 80, 10));
-    verify(b"P6 verify -2147483648", with_clue(a, 80, -2147483648));
-    verify(b"P6 verify exchanged", with_clue(with_clue(a, 0, 2), 1, 1));
+    verify(rt, b"P6 verify A", a)?;
+    verify(rt, b"P6 verify 0", with_clue(a, 80, 0))?;
+    verify(rt, b"P6 verify 10", with_clue(a, 80, 10))?;
+    verify(rt, b"P6 verify -2147483648", with_clue(a, 80, -2147483648))?;
+    verify(rt, b"P6 verify exchanged", with_clue(with_clue(a, 0, 2), 1, 1))?;
+    Ok(())
 }
 
-fn six_open() {
+fn six_open(rt: &impl Print) -> io::Result<()> {
     let board = fresh(
         b"..3456789456789123789123456..1564897564897231897231564..2645978645978312978312645",
     );
-    mask(b"P7 mask", board, 0);
-    mask(b"P7 mask", board, 1);
-    mask(b"P7 mask", board, 27);
-    mask(b"P7 mask", board, 28);
-    mask(b"P7 mask", board, 54);
-    mask(b"P7 mask", board, 55);
-    passes(b"P7 step", board);
+    mask(rt, b"P7 mask", board, 0)?;
+    mask(rt, b"P7 mask", board, 1)?;
+    mask(rt, b"P7 mask", board, 27)?;
+    mask(rt, b"P7 mask", board, 28)?;
+    mask(rt, b"P7 mask", board, 54)?;
+    mask(rt, b"P7 mask", board, 55)?;
+    passes(rt, b"P7 step", board)?;
+    Ok(())
 }
 
-fn pairs() {
+fn pairs(rt: &impl Print) -> io::Result<()> {
     let board = fresh(
         b"...4567893.......................................................................",
     );
-    mask(b"P8 mask", board, 0);
-    mask(b"P8 mask", board, 1);
-    mask(b"P8 mask", board, 2);
-    let after = take(b"P8 step", 1, board);
-    mask(b"P8 mask", after, 2);
-    take(b"P9 step", 6, board);
+    mask(rt, b"P8 mask", board, 0)?;
+    mask(rt, b"P8 mask", board, 1)?;
+    mask(rt, b"P8 mask", board, 2)?;
+    let after = take(rt, b"P8 step", 1, board)?;
+    mask(rt, b"P8 mask", after, 2)?;
+    take(rt, b"P9 step", 6, board)?;
+    Ok(())
 }
 
-fn lines() {
+fn lines(rt: &impl Print) -> io::Result<()> {
     let board = fresh(
         b".........456......789............................................................",
     );
-    let after = take(b"P10 step", 2, board);
-    take(b"P10 step", 2, after);
-    settle(b"P10 settled", board);
+    let after = take(rt, b"P10 step", 2, board)?;
+    take(rt, b"P10 step", 2, after)?;
+    settle(rt, b"P10 settled", board)?;
+    Ok(())
 }
 
-fn conflict() {
+fn conflict(rt: &impl Print) -> io::Result<()> {
     let text = b"55...............................................................................";
-    open(b"P11 open", clues_of(text));
+    open(rt, b"P11 open", clues_of(text))?;
     let board = fresh(text);
-    row_masks(b"P11 mask", board);
+    row_masks(rt, b"P11 mask", board)?;
     let done = step(12, board);
-    row_masks(b"P11 settled", done.board);
+    row_masks(rt, b"P11 settled", done.board)?;
+    Ok(())
 }
 
 // No wide pass but Claiming removes anything, so that a sweep without it would stop at once.
-fn claims() {
+fn claims(rt: &impl Print) -> io::Result<()> {
     let board = fresh(
         b"...456789........................................................................",
     );
-    passes(b"F-5 step", board);
-    settle(b"F-5 settled", board);
+    passes(rt, b"F-5 step", board)?;
+    settle(rt, b"F-5 settled", board)?;
+    Ok(())
 }
 
 // A digit entered or rubbed out; the board after it.
-fn pencil(name: &[u8], done: Pencilled) -> Board {
+fn pencil(rt: &impl Print, name: &[u8], done: Pencilled) -> io::Result<Board> {
     let answer = done.answer;
     let board = done.board;
-    checked(name, answer);
-    board
+    checked(rt, name, answer)?;
+    Ok(board)
 }
 
-fn count(name: &[u8], board: Board) {
+fn count(rt: &impl Print, name: &[u8], board: Board) -> io::Result<()> {
     match board.clue_count() {
-        Counting::Clues(count) => line(name, 0, count as u64),
-        Counting::Refused(stop) => refused(name, stop),
+        Counting::Clues(count) => line(rt, name, 0, count as u64)?,
+        Counting::Refused(stop) => refused(rt, name, stop)?,
     }
+    Ok(())
 }
 
-fn judged(name: &[u8], verdict: Verdict) {
-    word(name);
+fn judged(rt: &impl Print, name: &[u8], verdict: Verdict) -> io::Result<()> {
+    word(rt, name)?;
     match verdict {
-        Verdict::Dead => word(b" dead\n"),
-        Verdict::Finished => word(b" finished\n"),
-        Verdict::Open => word(b" open\n"),
+        Verdict::Dead => word(rt, b" dead\n")?,
+        Verdict::Finished => word(rt, b" finished\n")?,
+        Verdict::Open => word(rt, b" open\n")?,
     }
+    Ok(())
 }
 
-fn verdict(name: &[u8], board: Board) {
+fn verdict(rt: &impl Print, name: &[u8], board: Board) -> io::Result<()> {
     match board.verdict() {
-        BoardVerdict::Is(found) => judged(name, found),
-        BoardVerdict::Refused(stop) => refused(name, stop),
+        BoardVerdict::Is(found) => judged(rt, name, found)?,
+        BoardVerdict::Refused(stop) => refused(rt, name, stop)?,
     }
+    Ok(())
 }
 
 // The right digit and a wrong one in the open cell of P5; then the stops.
-fn entered() {
+fn entered(rt: &impl Print) -> io::Result<()> {
     let board = fresh(
         b".23456789456789123789123456231564897564897231897231564312645978645978312978312645",
     );
-    let right = pencil(b"F-6 enter", enter(board, 0, 1));
-    mask(b"F-6 mask", right, 0);
-    reports(b"F-6 naked", 4, right);
-    count(b"F-6 count", right);
-    verdict(b"F-6 verdict", right);
-    let wrong = pencil(b"F-6 enter", enter(board, 0, 2));
-    mask(b"F-6 mask", wrong, 0);
-    verdict(b"F-6 verdict", wrong);
-    pencil(b"F-6 enter", enter(board, 81, 0));
-    pencil(b"F-6 enter", enter(board, 1, 0));
-    pencil(b"F-6 enter", enter(board, 1, 1));
-    pencil(b"F-6 enter", enter(right, 0, 2));
-    pencil(b"F-6 rub out", rub_out(board, 81));
-    pencil(b"F-6 rub out", rub_out(board, 1));
-    pencil(b"F-6 rub out", rub_out(board, 0));
+    let right = pencil(rt, b"F-6 enter", enter(board, 0, 1))?;
+    mask(rt, b"F-6 mask", right, 0)?;
+    reports(rt, b"F-6 naked", 4, right)?;
+    count(rt, b"F-6 count", right)?;
+    verdict(rt, b"F-6 verdict", right)?;
+    let wrong = pencil(rt, b"F-6 enter", enter(board, 0, 2))?;
+    mask(rt, b"F-6 mask", wrong, 0)?;
+    verdict(rt, b"F-6 verdict", wrong)?;
+    pencil(rt, b"F-6 enter", enter(board, 81, 0))?;
+    pencil(rt, b"F-6 enter", enter(board, 1, 0))?;
+    pencil(rt, b"F-6 enter", enter(board, 1, 1))?;
+    pencil(rt, b"F-6 enter", enter(right, 0, 2))?;
+    pencil(rt, b"F-6 rub out", rub_out(board, 81))?;
+    pencil(rt, b"F-6 rub out", rub_out(board, 1))?;
+    pencil(rt, b"F-6 rub out", rub_out(board, 0))?;
+    Ok(())
 }
 
 // Entering, a pass and rubbing out on P10: all removals are gone.
-fn rubbed() {
+fn rubbed(rt: &impl Print) -> io::Result<()> {
     let board = fresh(
         b".........456......789............................................................",
     );
-    let entered = pencil(b"F-6 enter", enter(board, 80, 1));
-    let after = take(b"F-6 step", 2, entered);
-    let back = pencil(b"F-6 rub out", rub_out(after, 80));
-    line(b"F-6 left", fewer(board, back), fewer(back, board));
+    let entered = pencil(rt, b"F-6 enter", enter(board, 80, 1))?;
+    let after = take(rt, b"F-6 step", 2, entered)?;
+    let back = pencil(rt, b"F-6 rub out", rub_out(after, 80))?;
+    line(rt, b"F-6 left", fewer(board, back), fewer(back, board))?;
     let text = b"55...............................................................................";
     let masks = fresh(text).masks;
     let clash = Board {
@@ -367,24 +398,26 @@ fn rubbed() {
         entries: with_clue([0; 81], 1, 5),
         masks,
     };
-    mask(b"F-6 mask", clash, 0);
-    let one = pencil(b"F-6 enter", enter(fresh(&[b'.'; 81]), 80, 1));
-    record(b"F-8 record", one);
-    moved(b"F-8 moved", &[0; 3]);
-    moved_back(b"F-8 moved back", &[0; 4]);
-    moved_back(b"F-8 moved back", &[0, 1, 80, 1, 0, 0]);
+    mask(rt, b"F-6 mask", clash, 0)?;
+    let one = pencil(rt, b"F-6 enter", enter(fresh(&[b'.'; 81]), 80, 1))?;
+    record(rt, b"F-8 record", one)?;
+    moved(rt, b"F-8 moved", &[0; 3])?;
+    moved_back(rt, b"F-8 moved back", &[0; 4])?;
+    moved_back(rt, b"F-8 moved back", &[0, 1, 80, 1, 0, 0])?;
+    Ok(())
 }
 
-fn main() {
-    empty_grid();
-    stops();
-    one_open();
-    filled();
-    six_open();
-    pairs();
-    lines();
-    conflict();
-    claims();
-    entered();
-    rubbed();
+fn main(rt: HostRuntime) -> io::Result<()> {
+    empty_grid(&rt)?;
+    stops(&rt)?;
+    one_open(&rt)?;
+    filled(&rt)?;
+    six_open(&rt)?;
+    pairs(&rt)?;
+    lines(&rt)?;
+    conflict(&rt)?;
+    claims(&rt)?;
+    entered(&rt)?;
+    rubbed(&rt)?;
+    Ok(())
 }

@@ -1,6 +1,7 @@
 // The candidates of a board as a drawn grid: nine rows of pencil marks, all cells as wide as the widest, with rulings between the boxes.
 ghost use Rattle.std.specs.Prelude.{◌<◌};
 
+use std::io;
 use crate::lines;
 use crate::losses::push_digits;
 use candidates::masks;
@@ -52,15 +53,15 @@ fn push_three(line: &mut Lines, at: usize, masks: &[u16; 81], cell: usize, width
     push_marks(line, second, masks[cell + 2], width)
 }
 
-fn print_row(masks: &[u16; 81], row: usize, width: usize)
-    requires { row < 9 }
-{
+fn print_row(rt: &impl Print, masks: &[u16; 81], row: usize, width: usize) -> io::Result<()>
+    requires { row < 9 } {
     let mut line = lines::empty();
     let left = push_three(&mut line, 0, masks, 9 * row, width);
     let middle = push_three(&mut line, left, masks, 9 * row + 3, width);
     let right = push_three(&mut line, middle, masks, 9 * row + 6, width);
     let end = push(&mut line, right, b'|');
-    lines::write_line(line, end);
+    lines::write_line(rt, line, end)?;
+    Ok(())
 }
 
 // The ruling above or below a box.
@@ -71,29 +72,31 @@ fn push_ruling(line: &mut Lines, at: usize, width: usize) -> usize {
     push_word(line, third, b"----+")
 }
 
-fn print_ruling(width: usize) {
+fn print_ruling(rt: &impl Print, width: usize) -> io::Result<()> {
     let mut line = lines::empty();
     let corner = push(&mut line, 0, b'+');
     let first = push_ruling(&mut line, corner, width);
     let second = push_ruling(&mut line, first, width);
     let end = push_ruling(&mut line, second, width);
-    lines::write_line(line, end);
+    lines::write_line(rt, line, end)?;
+    Ok(())
 }
 
 // A ruling, and three rows from this one on.
-fn print_band(masks: &[u16; 81], row: usize, width: usize)
-    requires { row < 7 }
-{
-    print_ruling(width);
-    print_row(masks, row, width);
-    print_row(masks, row + 1, width);
-    print_row(masks, row + 2, width);
+fn print_band(rt: &impl Print, masks: &[u16; 81], row: usize, width: usize) -> io::Result<()>
+    requires { row < 7 } {
+    print_ruling(rt, width)?;
+    print_row(rt, masks, row, width)?;
+    print_row(rt, masks, row + 1, width)?;
+    print_row(rt, masks, row + 2, width)?;
+    Ok(())
 }
 
-pub fn print_grid(masks: &[u16; 81]) {
+pub fn print_grid(rt: &impl Print, masks: &[u16; 81]) -> io::Result<()> {
     let width = widest(masks);
-    print_band(masks, 0, width);
-    print_band(masks, 3, width);
-    print_band(masks, 6, width);
-    print_ruling(width);
+    print_band(rt, masks, 0, width)?;
+    print_band(rt, masks, 3, width)?;
+    print_band(rt, masks, 6, width)?;
+    print_ruling(rt, width)?;
+    Ok(())
 }

@@ -4,6 +4,7 @@
 // What a line says of a step is the list of settling, taken step by step as the checker of step lists does. Each line is made in lent bytes and written out.
 #![tactic(auto)]
 
+use std::io;
 use board::Board;
 use board::entries::fresh_board;
 use board::verdicts::verdict_of;
@@ -20,37 +21,41 @@ mod names;
 mod reading;
 mod steps;
 
-fn refuse(answer: Check) {
+fn refuse(rt: &impl Print, answer: Check) -> io::Result<()> {
     let mut line = lines::empty();
     let end = write_refusal(stops::written(answer, 0), &mut line);
-    lines::write_out(line, end);
+    lines::write_out(rt, line, end)?;
+    Ok(())
 }
 
-fn print_verdict(masks: &[u16; 81]) {
+fn print_verdict(rt: &impl Print, masks: &[u16; 81]) -> io::Result<()> {
     let mut line = lines::empty();
     let end = verdict_line(&mut line, 0, verdict_of(masks));
-    lines::write_out(line, end);
+    lines::write_out(rt, line, end)?;
+    Ok(())
 }
 
 // Settling does not refuse a fresh board.
-fn explain(board: Board) {
+fn explain(rt: &impl Print, board: Board) -> io::Result<()> {
     let after = apply_settling(board);
     let settled = after.board;
     let masks = settled.masks;
-    steps::print_steps(board, after.steps);
-    lines::write_line(lines::empty(), 0);
-    drawing::print_grid(&masks);
-    figures::print_difficulty(board);
-    print_verdict(&masks);
+    steps::print_steps(rt, board, after.steps)?;
+    lines::write_line(rt, lines::empty(), 0)?;
+    drawing::print_grid(rt, &masks)?;
+    figures::print_difficulty(rt, board)?;
+    print_verdict(rt, &masks)?;
+    Ok(())
 }
 
-fn main() {
-    let parsed = reading::read_clues();
+fn main(rt: HostRuntime) -> io::Result<()> {
+    let parsed = reading::read_clues(&rt)?;
     let answer = parsed.answer;
     let clues = parsed.clues;
     let Check::Passed = answer else {
-        refuse(answer);
-        return;
+        refuse(&rt, answer)?;
+        return Ok(());
     };
-    explain(fresh_board(clues, [0; 81]));
+    explain(&rt, fresh_board(clues, [0; 81]))?;
+    Ok(())
 }

@@ -2,6 +2,7 @@
 // checker accepts.
 ghost use Rattle.std.specs.Prelude.{◌<◌};
 
+use std::io;
 use crate::lines;
 use crate::losses::push_losses;
 use crate::names::push_step;
@@ -35,19 +36,19 @@ fn push_title(line: &mut Lines, bytes: &[u8; 4374], index: usize) -> usize
 }
 
 // A step is taken, and its line written out.
-fn print_step(givens: &[u8; 81], masks: &mut [u16; 81], bytes: &[u8; 4374], index: usize)
-    requires { index < 729 }
-{
+fn print_step(rt: &impl Print, givens: &[u8; 81], masks: &mut [u16; 81], bytes: &[u8; 4374], index: usize) -> io::Result<()>
+    requires { index < 729 } {
     let before = *masks;
     take_at(givens, masks, bytes, 6 * index);
     let mut line = lines::empty();
     let title = push_title(&mut line, bytes, index);
     let end = push_losses(&mut line, title, &before, masks);
-    lines::write_line(line, end);
+    lines::write_line(rt, line, end)?;
+    Ok(())
 }
 
 // The steps from the fresh board on.
-pub fn print_steps(fresh: Board, steps: Steps) {
+pub fn print_steps(rt: &impl Print, fresh: Board, steps: Steps) -> io::Result<()> {
     let clues = fresh.clues;
     let entries = fresh.entries;
     let bytes = steps.bytes;
@@ -56,8 +57,9 @@ pub fn print_steps(fresh: Board, steps: Steps) {
     let mut index: usize = 0;
     while index < 729 {
         if index < steps.count {
-            print_step(&givens, &mut masks, &bytes, index);
+            print_step(rt, &givens, &mut masks, &bytes, index)?;
         }
         index += 1;
     }
+    Ok(())
 }

@@ -6,9 +6,10 @@
 // number, its flag, a checksum of the masks after it, and each report, its cell and its digit.
 #![tactic(auto)]
 
+use std::io;
+use reading::read_full;
 use board::Board;
 use calls::Stepping;
-use libc::{STDIN_FILENO, STDOUT_FILENO};
 use printing::{mask_sum, number, refusal, word};
 use stops::{Check, Stop};
 use techniques::singles::Reports;
@@ -17,100 +18,106 @@ fn widened(byte: u8) -> u64 {
     byte as u64
 }
 
-fn print_reports(reports: Reports) {
+fn print_reports(rt: &impl Print, reports: Reports) -> io::Result<()> {
     let cells = reports.cells;
     let digits = reports.digits;
     for report in 0..324 {
         if report < reports.count {
-            number(widened(cells[report]));
-            number(widened(digits[report]));
+            number(rt, widened(cells[report]))?;
+            number(rt, widened(digits[report]))?;
         }
     }
+    Ok(())
 }
 
 // One step and its line; the board that it leaves.
-fn print_step(step: u8, board: Board) -> Board {
+fn print_step(rt: &impl Print, step: u8, board: Board) -> io::Result<Board> {
     let done = calls::step(step, board);
     let stepping = done.answer;
     let next = done.board;
     let masks = next.masks;
-    io::print_decimal(STDOUT_FILENO, step as u64);
+    print!(rt; "{step}")?;
     match stepping {
-        Stepping::Made(made) => number(made as u64),
-        Stepping::Refused(_) => word(b" refused"),
-        Stepping::NoStep => word(b" no step"),
+        Stepping::Made(made) => number(rt, made as u64)?,
+        Stepping::Refused(_) => word(rt, b" refused")?,
+        Stepping::NoStep => word(rt, b" no step")?,
     }
-    number(mask_sum(&masks));
-    print_reports(done.reports);
-    word(b"\n");
-    next
+    number(rt, mask_sum(&masks))?;
+    print_reports(rt, done.reports)?;
+    word(rt, b"\n")?;
+    Ok(next)
 }
 
-fn step_at(byte: u8, board: Board) -> Board {
+fn step_at(rt: &impl Print, byte: u8, board: Board) -> io::Result<Board> {
     if byte < b'0' {
-        return board;
+        return Ok(board);
     }
-    print_step(byte - b'0', board)
+    print_step(rt, byte - b'0', board)
 }
 
-fn print_list(line: &[u8; 94], opened: Board) {
+fn print_list(rt: &impl Print, line: &[u8; 94], opened: Board) -> io::Result<()> {
     let mut board = opened;
     for at in 82..93 {
-        let next = step_at(line[at], board);
+        let next = step_at(rt, line[at], board)?;
         board = next;
     }
+    Ok(())
 }
 
-fn refused(stop: Stop) {
-    word(b"refused");
-    refusal(stop);
-    word(b"\n");
+fn refused(rt: &impl Print, stop: Stop) -> io::Result<()> {
+    word(rt, b"refused")?;
+    refusal(rt, stop)?;
+    word(rt, b"\n")?;
+    Ok(())
 }
 
-fn print_opened(line: &[u8; 94], clues: [i32; 81]) {
+fn print_opened(rt: &impl Print, line: &[u8; 94], clues: [i32; 81]) -> io::Result<()> {
     let opened = Board::new(clues);
     let opening = opened.answer;
     let board = opened.board;
     let masks = board.masks;
     match opening {
-        Check::Refused(stop) => refused(stop),
+        Check::Refused(stop) => refused(rt, stop)?,
         Check::Passed => {
-            word(b"open");
-            number(board::count_clues(&clues) as u64);
-            number(mask_sum(&masks));
-            word(b"\n");
-            print_list(line, board);
+            word(rt, b"open")?;
+            number(rt, board::count_clues(&clues) as u64)?;
+            number(rt, mask_sum(&masks))?;
+            word(rt, b"\n")?;
+            print_list(rt, line, board)?;
         }
     }
+    Ok(())
 }
 
-fn print_case(line: [u8; 94]) {
-    word(&line[..81]);
-    word(b"\n");
+fn print_case(rt: &impl Print, line: [u8; 94]) -> io::Result<()> {
+    word(rt, &line[..81])?;
+    word(rt, b"\n")?;
     let parsed = text::parse_string(&line[..81]);
     let parsing = parsed.answer;
     let clues = parsed.clues;
     match parsing {
-        Check::Refused(stop) => refused(stop),
-        Check::Passed => print_opened(&line, clues),
+        Check::Refused(stop) => refused(rt, stop)?,
+        Check::Passed => print_opened(rt, &line, clues)?,
     }
+    Ok(())
 }
 
 // Whether there was a case to read.
-fn next_case() -> bool {
+fn next_case(rt: &(impl Input + Print)) -> io::Result<bool> {
     let mut line = [0u8; 94];
-    let got = io::read_full(STDIN_FILENO, &mut line);
+    let got = read_full(rt, &mut line)?;
     if got < 94 {
-        return false;
+        return Ok(false);
     }
-    print_case(line);
-    true
+    print_case(rt, line)?;
+    Ok(true)
 }
 
 // At most so many cases.
-fn main() {
+fn main(rt: HostRuntime) -> io::Result<()> {
     let mut left: usize = 1000;
-    while 0 < left && next_case() {
+    while 0 < left && next_case(&rt)? {
         left -= 1;
     }
+    Ok(())
 }

@@ -5,7 +5,9 @@ ghost use Rattle.std.specs.Prelude.{◌≡◌, ◌≤◌, length};
 ghost use Rattle.card.specs.Cards.{card_of, printed};
 ghost use Rattle.output.specs.Lent.{over};
 
-use libc::{STDIN_FILENO, STDOUT_FILENO};
+use reading::read_full;
+use std::io;
+use std::io::Write;
 use stops::Writing;
 
 // What is printed of the bytes that were read, in the first lent bytes, and how many there are.
@@ -19,11 +21,10 @@ fn print(input: &[u8], out: &mut [u8; 256]) -> usize
     count
 }
 
-// One read of a pipe may be short: `read_full` goes on until 4,096 bytes or the end of the input.
-fn main() {
-    let mut input = io::buffer();
-    let read = io::read_full(STDIN_FILENO, &mut input);
+fn main(rt: HostRuntime) -> io::Result<()> {
+    let mut input = [0u8; 4096];
+    let read = read_full(&rt, &mut input)?;
     let mut out = [0u8; 256];
     let count = print(&input[..read], &mut out);
-    io::write_all(STDOUT_FILENO, &out[..count]);
+    io::writer(&rt).write_all(&out[..count])
 }
