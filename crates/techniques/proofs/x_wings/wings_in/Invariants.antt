@@ -1,0 +1,14 @@
+-- `techniques::x_wings::wings_in` meets its contract. The invariant: the digits that are left still make the whole, and of them the masks hold what they held
+-- when the sets were made. Assumes nothing.
+use mathlib.Core.Path.{◌≡◌}
+use Prim.Native.Nat.{ℕ, ◌-◌, ◌≤◌}
+use Rattle.steps.specs.Loops.{each, range, up_to}
+use Rattle.techniques.specs.code.XWings.{wing_digit}
+use Rattle.techniques.proofs.WingsDue.{Alike}
+use Rattle.techniques.proofs.x_wings.wings_in.Given as goal
+
+abbrev pub invariant-loop-digit : goal.invariant-loop-digit
+invariant-loop-digit l = (l.digit ≤ 9) × (each (wing_digit l.givens l.columns) (range (9 - l.digit) l.digit) l.masks ≡ each (wing_digit l.givens l.columns) (up_to 9) l.initial.masks) × ((e : ℕ) → l.digit ≤ e → Alike e l.masks l.initial.masks)
+
+abbrev pub decreases-loop-digit : goal.decreases-loop-digit
+decreases-loop-digit l = 9 - l.digit
