@@ -1,0 +1,16 @@
+-- `locked::claiming_lanes` meets its contract. Assumes nothing.
+use mathlib.Core.Path.{ap, ◌∙◌}
+use mathlib.Core.List.{List}
+use Rattle.steps.specs.Instances.{Instance}
+use Rattle.steps.specs.code.Logs.{log_after}
+use Rattle.locked.proofs.LockedTurns.{claimings-are, claiming-pass}
+use Rattle.locked.proofs.claiming_lanes.Goals as goal
+
+pub returns : goal.returns
+returns c =
+    let a = c.args in
+    let done = c.locked_lanes.ensures in record {
+      masks_after = done.masks_after ∙ claiming-pass a.givens.now a.masks.now;
+      lanes_after = done.lanes_after;
+      log_after = done.log_after ∙ ap (λ (xs : List Instance). log_after a.givens.now xs a.masks.now a.log.now) claimings-are;
+    }
