@@ -12,7 +12,7 @@ use cells::{all_but, lose_places};
 use grid::unit_cell;
 
 // What the lines and places of a search are.
-#[derive(Drop)]
+#[derive(Clone, Copy)]
 pub enum Frame {
     // The cells of a unit, and their digits: Pair.
     Unit(usize),
