@@ -3,7 +3,7 @@ ghost use Rattle.std.specs.Prelude.{◌≡◌, ◌∷◌, ◌+◌, ◌≤◌, �
 ghost use Rattle.steps.specs.Chains.{on_path};
 ghost use Rattle.chains.specs.code.Lists.{trail};
 
-#[derive(Drop)]
+#[derive(Clone, Copy)]
 pub struct Path {
     pub cells: [u8; 7],
     pub length: usize,
