@@ -1,0 +1,32 @@
+-- `step_lists::kinds::exchanged_step` meets its contract. Assumes nothing.
+use mathlib.Core.Path.{sym, ◌∙◌}
+use Prim.Native.Nat.{◌-◌}
+use Rattle.steps.specs.Instances.{exchanged}
+use Rattle.steps.proofs.StepBytes.{CrossParts, cross-parts}
+use Rattle.cells.proofs.Losses.{told_none}
+use Rattle.step_lists.proofs.Named.{after-taken, after-left, exchanged-is}
+use Rattle.step_lists.proofs.kinds.exchanged_step.Goals as goal
+
+pub returns-then-is_cross : goal.returns-then-is_cross
+returns-then-is_cross c =
+    let parts : CrossParts 9 0 c.args.digit c.args.u c.args.v c.args.x c.args.y = (
+    let a = c.args in
+    cross-parts 9 0 a.digit a.u a.v a.x a.y (sym c.is_cross.ensures ∙ c.if-is_cross.true)
+    ) in
+    let a = c.args in
+    let g = a.givens.now in
+    let m = a.masks.now in
+    let w = parts in
+    let e =
+    c.take_cross.ensures.masks_after ∙ exchanged-is g m (a.digit - 1) (a.u - 9) (a.v - 9) a.x a.y
+    ∙ after-taken g m (exchanged (a.digit - 1) (a.u - 9) (a.v - 9) a.x a.y) (sym c.is_cross.ensures ∙ c.if-is_cross.true) in record {
+      masks_after = e;
+      value = c.take_cross.ensures.value;
+    }
+
+pub returns : goal.returns
+returns c =
+    let a = c.args in record {
+      masks_after = after-left a.givens.now a.masks.now (exchanged (a.digit - 1) (a.u - 9) (a.v - 9) a.x a.y) (sym c.is_cross.ensures ∙ c.if-is_cross.false);
+      value = told_none a.masks.now;
+    }
