@@ -14,7 +14,7 @@ mod lists;
 pub mod quiet;
 
 // What a step answers: whether there was progress, or that its number is no step's.
-#[derive(Drop)]
+#[derive(Clone, Copy)]
 pub enum Stepping {
     Made(bool),
     Refused(Stop),
@@ -22,7 +22,7 @@ pub enum Stepping {
 }
 
 // All that a step hands back. What its call does not speak of is false, empty or 0; beside a refusal the board is as it was.
-#[derive(Drop)]
+#[derive(Clone, Copy)]
 pub struct Stepped {
     pub answer: Stepping,
     pub board: Board,
@@ -44,7 +44,7 @@ pub fn step(number: u8, board: Board) -> Stepped
 }
 
 // What `replay` answers: the list was run, or the index of the first byte that is no step number.
-#[derive(Drop)]
+#[derive(Clone, Copy)]
 pub enum Replaying {
     Done,
     Refused(Stop),
@@ -52,7 +52,7 @@ pub enum Replaying {
 }
 
 // The board after a list of steps; zeros where it was not run.
-#[derive(Drop)]
+#[derive(Clone, Copy)]
 pub struct Replayed {
     pub answer: Replaying,
     pub board: Board,

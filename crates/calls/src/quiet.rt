@@ -17,7 +17,7 @@ use passes::{Settling, settle_handed};
 use stops::Check;
 
 // What a step answers and counts; what its call does not speak of is false or 0.
-#[derive(Drop)]
+#[derive(Clone, Copy)]
 pub struct Quiet {
     pub answer: Stepping,
     pub sweeps: usize,

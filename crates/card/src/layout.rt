@@ -10,7 +10,7 @@ use board::Verdict;
 use stops::Stop;
 
 // What a card says; `masks` are those of the settled board.
-#[derive(Drop)]
+#[derive(Clone, Copy)]
 pub struct Card {
     pub clues: usize,
     pub reported: usize,

@@ -8,7 +8,7 @@ use candidates::masks;
 use cells::open_mask;
 
 // The first `count` entries are the list's cells, the first first.
-#[derive(Drop)]
+#[derive(Clone, Copy)]
 pub struct Cells {
     pub cells: [u8; 81],
     pub count: usize,

@@ -15,7 +15,7 @@ use passes::settle;
 use stops::{Check, Stop};
 
 // Points over cells: a whole quotient and the exact remainder.
-#[derive(Drop)]
+#[derive(Clone, Copy)]
 pub struct Figure {
     pub points: usize,
     // The open cells without an entry.
@@ -25,7 +25,7 @@ pub struct Figure {
 }
 
 // What `difficulty` answers.
-#[derive(Drop)]
+#[derive(Clone, Copy)]
 pub enum Rating {
     Is(Figure),
     Refused(Stop),

@@ -24,14 +24,14 @@ use techniques::naked_pairs::naked_pairs;
 use techniques::x_wings::x_wings;
 
 // The board after an elimination, and whether it removed anything; the board as it was beside a refusal.
-#[derive(Drop)]
+#[derive(Clone, Copy)]
 pub struct Eliminated {
     pub answer: Progress,
     pub board: Board,
 }
 
 // The calls that remove candidates.
-#[derive(Drop)]
+#[derive(Clone, Copy)]
 pub enum Elimination {
     NakedPairs,
     BoxLine,

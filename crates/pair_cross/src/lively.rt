@@ -9,7 +9,7 @@ use candidates::masks;
 use lanes::lane_masks;
 
 // The places that at least one, two and three lines hold.
-#[derive(Drop)]
+#[derive(Clone, Copy)]
 pub struct Tally {
     pub once: u16,
     pub twice: u16,

@@ -135,7 +135,7 @@ fn sweep_on(
 }
 
 // What settling counts.
-#[derive(Drop)]
+#[derive(Clone, Copy)]
 pub struct Counts {
     // The last one, which removes nothing, is counted too.
     pub sweeps: usize,
@@ -167,7 +167,7 @@ pub fn settle(
 }
 
 // What settling answers: its sweeps and the candidates that it removed.
-#[derive(Drop)]
+#[derive(Clone, Copy)]
 pub enum Settling {
     Counted(usize, usize),
     Refused(Stop),
@@ -197,7 +197,7 @@ pub fn settle_handed(
 }
 
 // The board that settling leaves, its steps that removed something, and what each of the six passes removed; beside a refusal the board as it was, no step and zeros.
-#[derive(Drop)]
+#[derive(Clone, Copy)]
 pub struct SettledBoard {
     pub answer: Settling,
     pub board: Board,

@@ -13,7 +13,7 @@ use board::fresh::fresh_masks;
 use board::{Board, clues};
 use stops::{Check, Stop, Writing};
 
-#[derive(Drop)]
+#[derive(Clone, Copy)]
 pub enum Form {
     Old,
     New,

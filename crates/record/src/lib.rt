@@ -23,7 +23,7 @@ mod sections;
 mod sets;
 
 // A board that was read; zeros beside a refusal.
-#[derive(Drop)]
+#[derive(Clone, Copy)]
 pub struct RecordRead {
     pub answer: Check,
     pub board: Board,

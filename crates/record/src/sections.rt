@@ -18,7 +18,7 @@ pub enum Section {
 }
 
 // What reading finds: a candidate, or the offset after a section.
-#[derive(Drop)]
+#[derive(Clone, Copy)]
 pub enum Reading {
     At(usize),
     Refused(Stop),

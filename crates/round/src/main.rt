@@ -7,7 +7,7 @@ use rounds::cuts::{State, feed, finish, fresh_state};
 use rounds::tallies::write_summary;
 
 // What a read leaves: whether there may be more.
-#[derive(Drop)]
+#[derive(Clone, Copy)]
 struct Turn {
     state: State,
     more: bool,

@@ -9,7 +9,7 @@ use grid::verify_solution;
 use text::{byte_at, clues_of};
 
 // What is said of an answer.
-#[derive(Drop)]
+#[derive(Clone, Copy)]
 pub enum Checked {
     NoAnswer,
     Wrong,

@@ -16,7 +16,7 @@ use card::lines::{Lines, push};
 use text::byte_at;
 
 // What is known of the line that a piece ended in.
-#[derive(Drop)]
+#[derive(Clone, Copy)]
 pub struct Line {
     // How many of its bytes are kept.
     pub end: usize,
@@ -31,7 +31,7 @@ pub struct Line {
 }
 
 // Between two pieces.
-#[derive(Drop)]
+#[derive(Clone, Copy)]
 pub struct State {
     pub kept: [u8; 256],
     pub line: Line,
@@ -39,7 +39,7 @@ pub struct State {
 }
 
 // What a call did: `used` bytes of the piece are done with, and `count` bytes are to be handed out, of the piece where they are `raw`, else of the lent ones.
-#[derive(Drop)]
+#[derive(Clone, Copy)]
 pub struct Fed {
     pub state: State,
     pub used: usize,
@@ -48,7 +48,7 @@ pub struct Fed {
 }
 
 // What the end of a line leaves, and how many bytes it made.
-#[derive(Drop)]
+#[derive(Clone, Copy)]
 pub struct Ended {
     pub state: State,
     pub count: usize,

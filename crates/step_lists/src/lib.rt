@@ -39,7 +39,7 @@ fn check_count(bytes: usize) -> Check
 }
 
 // The masks after a list of steps; as they were beside a refusal.
-#[derive(Drop)]
+#[derive(Clone, Copy)]
 struct Followed {
     answer: Check,
     masks: [u16; 81],
@@ -70,7 +70,7 @@ fn follow_steps(givens: &[u8; 81], start: [u16; 81], steps: &[u8]) -> Followed
 }
 
 // What the checker hands back: the final board of an accepted list; beside a refusal the board as it was.
-#[derive(Drop)]
+#[derive(Clone, Copy)]
 pub struct CheckedSteps {
     pub answer: Check,
     pub board: Board,

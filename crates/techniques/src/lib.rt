@@ -27,7 +27,7 @@ pub mod singles;
 pub mod x_wings;
 
 // The singles of a board, and the board; no report beside a refusal.
-#[derive(Drop)]
+#[derive(Clone, Copy)]
 pub struct Reported {
     pub answer: Progress,
     pub board: Board,
@@ -35,7 +35,7 @@ pub struct Reported {
 }
 
 // The calls that report singles.
-#[derive(Drop)]
+#[derive(Clone, Copy)]
 pub enum Search {
     Naked,
     Hidden,
@@ -43,7 +43,7 @@ pub enum Search {
 }
 
 // Whether there was progress, and how many reports the lent arrays hold.
-#[derive(Drop)]
+#[derive(Clone, Copy)]
 struct Searched {
     made: bool,
     count: usize,
@@ -117,7 +117,7 @@ fn find_into(
 }
 
 // What a call that reports answers, and how many reports the lent arrays hold.
-#[derive(Drop)]
+#[derive(Clone, Copy)]
 pub struct Reporting {
     pub answer: Progress,
     pub count: usize,
@@ -203,7 +203,7 @@ pub fn apply_advanced_techniques(board: Board) -> Reported
 }
 
 // What `apply_advanced_techniques` says of masks: whether there was progress, and the reports.
-#[derive(Drop)]
+#[derive(Clone, Copy)]
 pub struct Advanced {
     pub made: bool,
     pub reports: Reports,

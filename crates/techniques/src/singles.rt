@@ -12,7 +12,7 @@ use cells::{open_mask, places_of, unit_masks};
 use grid::unit_cell;
 
 // The reported cells and digits, the first first, and how many; unused entries are 0. No call has more than 324.
-#[derive(Drop)]
+#[derive(Clone, Copy)]
 pub struct Reports {
     pub cells: [u8; 324],
     pub digits: [u8; 324],

@@ -14,14 +14,14 @@ use stops::{Check, Stop, Writing};
 pub mod sheets;
 
 // What a byte of a text is: a cell, with its digit or 0 where it is open, or any other byte.
-#[derive(Drop)]
+#[derive(Clone, Copy)]
 enum TextByte {
     Cell(u8),
     Other,
 }
 
 // A text that was read; zeros beside a refusal.
-#[derive(Drop)]
+#[derive(Clone, Copy)]
 pub struct Parsed {
     pub answer: Check,
     pub clues: [i32; 81],

@@ -9,7 +9,7 @@ ghost use Rattle.trial_rounds.specs.Rounds.{clue_of, is_kept, Makes, next_state,
 use stops::{Check, Stop};
 
 // A round that was made; zeros beside a refusal.
-#[derive(Drop)]
+#[derive(Clone, Copy)]
 pub struct TrialRound {
     pub answer: Check,
     pub clues: [i32; 81],
