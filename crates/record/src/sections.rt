@@ -11,7 +11,7 @@ use stops::Stop;
 use text::byte_at;
 
 // A digit for each of some cells, the clues or the entries; or candidates that were removed.
-#[derive(Drop)]
+#[derive(Clone, Copy)]
 pub enum Section {
     Digits,
     Removed,
