@@ -115,6 +115,7 @@ pub fn clues_of(text: &[u8]) -> [i32; 81]
 }
 
 // The clues of a text: stop 1 with a length that is not 81, then stop 2 with the index of the first other byte.
+#[tactic(auto, unfolding(crate::specs::Texts::parse_of))]
 pub fn parse_string(text: &[u8]) -> Parsed
     ensures { (passing (check_answer result.answer) result.clues ≡ parse_of text.now) × (result.clues ≡ value_or no_clues (parse_of text.now)) }
 {
