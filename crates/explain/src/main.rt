@@ -4,13 +4,13 @@
 // What a line says of a step is the list of settling, taken step by step as the checker of step lists does. Each line is made in lent bytes and written out.
 #![tactic(auto)]
 
-use std::io;
 use board::Board;
 use board::entries::fresh_board;
 use board::verdicts::verdict_of;
 use card::layout::verdict_line;
 use card::write_refusal;
 use passes::apply_settling;
+use std::io;
 use stops::Check;
 
 mod drawing;

@@ -8,9 +8,9 @@ use Rattle.difficulty.proofs.points_of.Goals as goal
 pub returns : goal.returns
 returns c =
     let counted : Six c.args.counts = (
-      six c.args.counts (search rules)
+    six c.args.counts (search rules)
     ) in
- sym (counted).points
+    sym (counted).points
 
 pub overflow_mul-result : goal.overflow_mul-result
 overflow_mul-result c = let s = six c.args.counts (search rules) in omega (arith, s.sum, c.requires)

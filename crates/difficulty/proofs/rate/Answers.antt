@@ -12,7 +12,6 @@ use Rattle.difficulty.proofs.rate.Goals as goal
 pub rating_of-requires : goal.rating_of-requires
 rating_of-requires c =
     let counted : let g = c.args.givens.now in c.pass_counts.result ≡ pass_counts g (fresh g) = (
-      c.pass_counts.ensures ∙ ap (pass_counts c.args.givens.now) c.requires.1
+    c.pass_counts.ensures ∙ ap (pass_counts c.args.givens.now) c.requires.1
     ) in
-
     subst (λ (l : List ℕ). summed l ≤ 729) (sym (counted)) (counts-few c.args.givens.now c.requires.0)

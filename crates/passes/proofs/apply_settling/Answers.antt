@@ -15,15 +15,14 @@ pub returns : goal.returns
 unfolding counts_done counts_left
 returns c =
     let clues-size : length c.args.board.clues ≡ 81 = (
-      search rules
+    search rules
     ) in
     let entries-size : length c.args.board.entries ≡ 81 = (
-      search rules
+    search rules
     ) in
     let masks-size : length c.args.board.masks ≡ 81 = (
-      search rules
+    search rules
     ) in
-
     let b = board_of c.args.board in
     let s = c.settle_handed-answer.ensures in
     let steps = c.steps_of.ensures ∙ ap steps_held s.log_after ∙ log-left b (clues-size) (entries-size) (masks-size) in

@@ -25,18 +25,16 @@ sweep_on-sweeps-requires c =
 pub overflow_sub-result : goal.overflow_sub-result
 overflow_sub-result c =
     let left-total : at c.sweep_on-sweeps.new.tally 6 ≡ total c.sweep_on-sweeps.new.masks = (
-      tally-left (pass_counts c.args.givens.now c.args.masks.now) c.sweep_on-sweeps.new.masks c.total-start.result (six c.args.givens.now c.args.masks.now) c.sweep_on-sweeps.ensures.tally_after
+    tally-left (pass_counts c.args.givens.now c.args.masks.now) c.sweep_on-sweeps.new.masks c.total-start.result (six c.args.givens.now c.args.masks.now) c.sweep_on-sweeps.ensures.tally_after
     ) in
-
     let a = c.args in
     omega (arith, left-total, c.total-start.ensures, ap total c.sweep_on-sweeps.ensures.masks_after, settle-fewer a.givens.now 730 a.masks.now)
 
 pub returns : goal.returns
 returns c =
     let left-total : at c.sweep_on-sweeps.new.tally 6 ≡ total c.sweep_on-sweeps.new.masks = (
-      tally-left (pass_counts c.args.givens.now c.args.masks.now) c.sweep_on-sweeps.new.masks c.total-start.result (six c.args.givens.now c.args.masks.now) c.sweep_on-sweeps.ensures.tally_after
+    tally-left (pass_counts c.args.givens.now c.args.masks.now) c.sweep_on-sweeps.new.masks c.total-start.result (six c.args.givens.now c.args.masks.now) c.sweep_on-sweeps.ensures.tally_after
     ) in
-
     let e = c.sweep_on-sweeps.ensures in
     let counted = tally-counts (pass_counts c.args.givens.now c.args.masks.now) c.sweep_on-sweeps.new.masks c.total-start.result (six c.args.givens.now c.args.masks.now) e.tally_after in record {
       sweeps_value = e.value;

@@ -76,14 +76,14 @@ loop-nth-preserved c =
     let m = c.nth_pass.new.masks in
     let noting = noting-on g l.nth l.masks l.log within done.masks_after done.log_after inv.3 in
     let w : (Tally m c.if-left-tally.tally × ◌≡◌ {A = List ℕ × List ℕ} (m, c.if-left-tally.tally) (tally_turn g l.nth (l.masks, l.tally))) × Going g a.masks.now a.idle (l.nth + 1) c.if-left-tally.still m = (
-      elim c.if-left-tally.branch [
-        then-left-tally x ↦
+    elim c.if-left-tally.branch [
+      | then-left-tally x ↦
           let same = pass_same g l.nth l.masks done.masks_after (sym t ∙ x.if-left-tally.true ∙ inv.4.left) in
           (tally-turn g inv.4 l.nth within done.masks_after (inr (same, x.tally-is)), rw x.still-is (going-idle g within below inv.2 done.masks_after same))
       | else-left-tally+else-is_over x ↦
           let other = λ (q : m ≡ l.masks). x.if-left-tally.false (t ∙ ap total q ∙ sym inv.4.left) in
           (tally-turn g inv.4 l.nth within done.masks_after (inl (x.tally-is ∙ x.tally_pass.ensures ∙ ap (λ (n : ℕ). tallied l.nth n l.tally) t)), rw x.still-is (going-changed g within below inv.2 done.masks_after other))
-      ]
+    ]
     ) in
     (omega arith, done.lanes_after, w.1, noting, w.0.0, turn-done (tally_turn g) 6 l.nth within w.0.1 inv.5)
 

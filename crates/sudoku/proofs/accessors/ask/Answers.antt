@@ -2,6 +2,7 @@
 use mathlib.Core.Path.{sym, ap, subst, ◌∙◌}
 use Prim.Native.Nat.{ℕ, zero-le}
 use borrow.Author.Rules.{rules}
+use native.Mathlib.Omega.{arith}
 use lib.IntN.{ℤ, pos}
 use Rattle.grid.specs.Cells.{cells}
 use Rattle.steps.specs.Boards.{givens_of}
@@ -46,8 +47,4 @@ returns-in-2 c =
 
 pub returns-in_default : goal.returns-in_default
 returns-in_default c =
-    let r = c.in_default.rest in
-    let from1 = past zero-le r.0.0.1 in
-    let from2 = past from1 r.0.1 in
-    let from3 = past from2 r.1 in
-    c.of_unknown.ensures ∙ not-asked c.args.question (board_of c.args.board) c.args.cell from3
+    c.of_unknown.ensures ∙ not-asked c.args.question (board_of c.args.board) c.args.cell (omega arith)

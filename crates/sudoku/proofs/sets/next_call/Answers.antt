@@ -13,10 +13,9 @@ use Rattle.sudoku.proofs.sets.next_call.Goals as goal
 
 pub returns-in-Digit : goal.returns-in-Digit
 returns-in-Digit c =
-    let given = c.found-1.given in
-    let back : to_z w32 (of_z w32 given.0.0) ≡ given.0.0 = search rules in
-    c.of_digit.ensures ∙ ap (λ (z : ℤ). four (pos 0) (pos given.0.1.0.current) z (pos given.0.1.0.mask)) back
-    ∙ sym (ap (λ (x : NextCandidate). next_code c.args.mask c.args.place (next_answer x)) given.1)
+    let back : to_z w32 (of_z w32 c.in-Digit.digit) ≡ c.in-Digit.digit = search rules in
+    c.of_digit.ensures ∙ ap (λ (z : ℤ). four (pos 0) (pos c.in-Digit.rest.current) z (pos c.in-Digit.rest.mask)) back
+    ∙ sym (ap (λ (x : NextCandidate). next_code c.args.mask c.args.place (next_answer x)) c.in-Digit.is)
     ∙ ap (next_code c.args.mask c.args.place) c.next-found.ensures ∙ stepped c.args.mask c.args.place
 
 pub returns-in-Done : goal.returns-in-Done

@@ -66,7 +66,7 @@ returns-in-7 c =
 
 pub returns-in-8 : goal.returns-in-8
 returns-in-8 c =
-    let v = to_z-of_z (record { sfits = c.of_test.type_inv }) ∙ c.of_test.ensures ∙ ap test_number c.is_empty.ensures in
+    let v = to_z-of_z {w = w64} (record { sfits = c.of_test.type_inv }) ∙ c.of_test.ensures ∙ ap test_number c.is_empty.ensures in
     c.of_given-in-8.ensures ∙ ap (λ (v : ℤ). given v c.args.mask) v
     ∙ called 8 c.args.call c.args.mask c.args.digit c.in-8.is
 
@@ -82,16 +82,4 @@ returns-in-10 c =
 
 pub returns-in_default : goal.returns-in_default
 returns-in_default c =
-    let r = c.in_default.rest in
-    let from1 = past zero-le r.0.0.0.0.0.0.0.0.0.0.1 in
-    let from2 = past from1 r.0.0.0.0.0.0.0.0.0.1 in
-    let from3 = past from2 r.0.0.0.0.0.0.0.0.1 in
-    let from4 = past from3 r.0.0.0.0.0.0.0.1 in
-    let from5 = past from4 r.0.0.0.0.0.0.1 in
-    let from6 = past from5 r.0.0.0.0.0.1 in
-    let from7 = past from6 r.0.0.0.0.1 in
-    let from8 = past from7 r.0.0.0.1 in
-    let from9 = past from8 r.0.0.1 in
-    let from10 = past from9 r.0.1 in
-    let from11 = past from10 r.1 in
-    c.of_unknown.ensures ∙ not-called c.args.call c.args.mask c.args.digit from11
+    c.of_unknown.ensures ∙ not-called c.args.call c.args.mask c.args.digit (omega arith)

@@ -50,7 +50,7 @@ pub of_stepping-requires : goal.of_stepping-requires
 of_stepping-requires c =
     let a = c.args in
     let full = c.whole.ensures in
-    let tells = c.Quiet-step.ensures.0 in
+    let tells = c.quiet_step-done.ensures.tells_back in
     let fits = quiet-fits (handed a.clues.now a.entries.now a.masks.now) full.0 full.1 full.2 a.number in
     (subst (λ (k : ℕ). SFits w64 (pos k)) (sym tells.sweeps) fits.0, subst (λ (k : ℕ). SFits w64 (pos k)) (sym tells.removed) fits.1)
 
@@ -58,9 +58,9 @@ pub returns : goal.returns
 returns c =
     let a = c.args in
     let b = handed a.clues.now a.entries.now a.masks.now in
-    let r = c.Quiet-step.result in
-    let tells = c.Quiet-step.ensures.0 in (
+    let r = c.quiet_step-done.result in
+    let tells = c.quiet_step-done.ensures.tells_back in (
       c.of_stepping.ensures ∙ coded a.number b r tells,
-      c.Quiet-step.ensures.1,
+      c.quiet_step-done.ensures.masks_after,
       c.clear_reports.ensures ∙ bytes a.number b r tells a.reports.now,
     )

@@ -30,6 +30,41 @@ use Rattle.sudoku.proofs.Numbers.{four_same}
 use Rattle.sudoku.proofs.StepNumbers.{parts-bytes}
 use Rattle.sudoku.proofs.step_calls.reporting.Goals as goal
 
+-- the four numbers from the flag or stop and the number of reports
+abbrev progress_code : Answer Bool → ℕ → List ℤ
+progress_code (gives flag) n = four (pos 0) (pos 0) (test_number flag) (pos n)
+progress_code (stop s) n = refused s 0
+
+coded : (a : Answer Outcome) → progress_code (map (λ o. o.flag) a) (length (value_or [] (map (λ o. o.reports) a))) ≡ reported_code a
+coded (gives o) = refl
+coded (stop t) = refl
+
+-- what a call answers over its board, and its reports
+module _ (s : Search) (b : S.Board) where
+  abbrev said : Answer Outcome
+  said = answer (search_call s) b
+
+  abbrev reports : List Report
+  reports = value_or [] (map (λ o. o.reports) said)
+
+  module _ {xs ys : List ℕ} {n : ℕ} (found : stored xs ys n ≡ append reports (stored (replicate 324 0) (replicate 324 0) 0)) where
+    list : stored xs ys n ≡ reports_of reports
+    list = found ∙ stands reports (answered-few s b)
+
+    count : n ≡ length reports
+    unfolding reports_of
+    count = ap (λ (q : Reports). q.count) list
+
+    fits : SFits w64 (pos n)
+    fits = place-fits (omega (arith, count, answered-few s b))
+
+    module _ {f : Answer Bool} (flag : f ≡ map (λ o. o.flag) said) where
+      code : progress_code f n ≡ reported_code said
+      code = ap₂ progress_code flag count ∙ coded said
+
+      bytes : (lent : List ℕ) → parts_kept (some f) (report_bytes (stored xs ys n)) lent ≡ value_or lent (map outcome_bytes said)
+      bytes lent = ap₂ (λ (q : Reports) (f : Answer Bool). parts_kept (some f) (report_bytes q) lent) list flag ∙ parts-bytes (some said) lent
+
 pub overflow_cast-answer : goal.overflow_cast-answer
 overflow_cast-answer c =
     let a = c.args in
@@ -40,9 +75,9 @@ returns-in-Made c =
     let a = c.args in
     let b = handed a.clues.now a.entries.now a.masks.now in
     let e = c.report_handed-done.ensures in
-    let flag = ap progress_answer (sym c.in-Made.is) ∙ e.0 in (
-      four_same refl refl (to_z-of_z (record { sfits = c.of_test.type_inv }) ∙ c.of_test.ensures) (to_z_pos w64 (fits a.search b e.1.0).sfits)
-          ∙ code a.search b e.1.0 flag,
-      e.1.1,
-      c.put_bytes.ensures ∙ bytes a.search b e.1.0 flag a.reports.now,
+    let flag = ap progress_answer (sym c.in-Made.is) ∙ e.answer_value in (
+      four_same refl refl (to_z-of_z {w = w64} (record { sfits = c.of_test.type_inv }) ∙ c.of_test.ensures) (to_z_pos w64 (fits a.search b e.count_after).sfits)
+          ∙ code a.search b e.count_after flag,
+      e.masks_after,
+      c.put_bytes.ensures ∙ bytes a.search b e.count_after flag a.reports.now,
     )

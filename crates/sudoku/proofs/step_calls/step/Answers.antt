@@ -57,5 +57,4 @@ pub returns-in_default : goal.returns-in_default
 returns-in_default c =
     let a = c.args in
     let b = handed a.clues.now a.entries.now a.masks.now in
-    let r = c.in_default.rest in
-    told a.number b a.reports.now (quiet-step-is b r.0.0.1 r.0.1 r.1) c.quiet.ensures
+    told a.number b a.reports.now (quiet-step-is b (λ e. omega arith) (λ e. omega arith) (λ e. omega arith)) c.quiet.ensures
