@@ -26,11 +26,11 @@ returns c =
 
     let b = board_of c.args.board in
     let s = c.settle_handed-answer.ensures in
-    let steps = c.steps_of.ensures ∙ ap steps_held s.1.1.0 ∙ log-left b (clues-size) (entries-size) (masks-size) in
+    let steps = c.steps_of.ensures ∙ ap steps_held s.log_after ∙ log-left b (clues-size) (entries-size) (masks-size) in
     record {
-      counts = s.0;
-      board = ap (with_masks b) s.1.0 ∙ board-left b;
+      counts = s.result_value;
+      board = ap (with_masks b) s.masks_after ∙ board-left b;
       steps = ap (λ (x : Steps). x.bytes) steps;
       step_count = ap (λ (x : Steps). x.count) steps;
-      passes = s.1.1.1;
+      passes = s.counts_after;
     }

@@ -10,11 +10,13 @@ use Rattle.steps.specs.Passes.{settle}
 use Rattle.steps.proofs.Difficulty.{six-counts}
 use Rattle.passes.proofs.Sweeping.{settle-fewer}
 use Rattle.passes.proofs.Tallies.{tally-start, tally-counts, tally-left}
+use mathlib.Core.List.{List}
+use Prim.Native.Nat.{ℕ}
 use Rattle.passes.proofs.settle.Goals as goal
 
-six : (s : tie.Start) → length (pass_counts s.args.givens.now s.args.masks.now) ≡ 6
+six : (g m : List ℕ) → length (pass_counts g m) ≡ 6
 unfolding pass_counts
-six s = let g = s.args.givens.now in let m = s.args.masks.now in six-counts g (settle g m).sweeps m
+six g m = six-counts g (settle g m).sweeps m
 
 pub sweep_on-sweeps-requires : goal.sweep_on-sweeps-requires
 sweep_on-sweeps-requires c =
@@ -22,8 +24,8 @@ sweep_on-sweeps-requires c =
 
 pub overflow_sub-result : goal.overflow_sub-result
 overflow_sub-result c =
-    let left-total : at c.sweep_on-sweeps.new.masks.1.1.0 6 ≡ total c.sweep_on-sweeps.new.masks.0 = (
-      tally-left (pass_counts c.args.givens.now c.args.masks.now) c.sweep_on-sweeps.new.masks.0 c.total-start.result (six c) c.sweep_on-sweeps.ensures.tally_after
+    let left-total : at c.sweep_on-sweeps.new.tally 6 ≡ total c.sweep_on-sweeps.new.masks = (
+      tally-left (pass_counts c.args.givens.now c.args.masks.now) c.sweep_on-sweeps.new.masks c.total-start.result (six c.args.givens.now c.args.masks.now) c.sweep_on-sweeps.ensures.tally_after
     ) in
 
     let a = c.args in
@@ -31,15 +33,15 @@ overflow_sub-result c =
 
 pub returns : goal.returns
 returns c =
-    let left-total : at c.sweep_on-sweeps.new.masks.1.1.0 6 ≡ total c.sweep_on-sweeps.new.masks.0 = (
-      tally-left (pass_counts c.args.givens.now c.args.masks.now) c.sweep_on-sweeps.new.masks.0 c.total-start.result (six c) c.sweep_on-sweeps.ensures.tally_after
+    let left-total : at c.sweep_on-sweeps.new.tally 6 ≡ total c.sweep_on-sweeps.new.masks = (
+      tally-left (pass_counts c.args.givens.now c.args.masks.now) c.sweep_on-sweeps.new.masks c.total-start.result (six c.args.givens.now c.args.masks.now) c.sweep_on-sweeps.ensures.tally_after
     ) in
 
     let e = c.sweep_on-sweeps.ensures in
-    let counted = tally-counts (pass_counts c.args.givens.now c.args.masks.now) c.sweep_on-sweeps.new.masks.0 c.total-start.result (six c) e.1.1.1 in record {
-      sweeps_value = e.0;
+    let counted = tally-counts (pass_counts c.args.givens.now c.args.masks.now) c.sweep_on-sweeps.new.masks c.total-start.result (six c.args.givens.now c.args.masks.now) e.tally_after in record {
+      sweeps_value = e.value;
       removed_value = ap₂ ◌-◌ c.total-start.ensures (left-total);
-      masks_after = e.1.0;
-      log_after = e.1.1.0;
+      masks_after = e.masks_after;
+      log_after = e.log_after;
       counts_after = counted;
     }

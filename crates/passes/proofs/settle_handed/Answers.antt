@@ -51,11 +51,11 @@ returns-in-Passed c =
     let m = a.masks.now in
     let s = c.settle-done.ensures in
     let same = c.givens_of-givens.ensures in
-    let sweeps = s.0 ∙ ap (λ (g : List ℕ). (settle g m).sweeps) same in
-    let masks = s.1.1.0 ∙ ap (λ (g : List ℕ). (settle g m).left) same in
+    let sweeps = s.sweeps_value ∙ ap (λ (g : List ℕ). (settle g m).sweeps) same in
+    let masks = s.masks_after ∙ ap (λ (g : List ℕ). (settle g m).left) same in
     let e = answers settling_call b (told c.check_given.ensures c.in-Passed.is) in record {
-      result_value = ap₂ counted sweeps (s.1.0 ∙ ap (removed_by m) masks) ∙ ap (map counts_of) e;
+      result_value = ap₂ counted sweeps (s.removed_value ∙ ap (removed_by m) masks) ∙ ap (map counts_of) e;
       masks_after = masks ∙ ap (masks_back b) e;
-      log_after = s.1.1.1.0 ∙ ap (λ (g : List ℕ). log_after g (settling_instances g m) m a.log.now) same ∙ ap (log_back b a.log.now) e;
-      counts_after = s.1.1.1.1 ∙ ap (λ (g : List ℕ). pass_counts g m) same ∙ ap (counts_back b a.counts.now) e;
+      log_after = s.log_after ∙ ap (λ (g : List ℕ). log_after g (settling_instances g m) m a.log.now) same ∙ ap (log_back b a.log.now) e;
+      counts_after = s.counts_after ∙ ap (λ (g : List ℕ). pass_counts g m) same ∙ ap (counts_back b a.counts.now) e;
     }

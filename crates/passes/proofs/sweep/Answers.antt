@@ -16,40 +16,18 @@ use Rattle.steps.proofs.StepLogs.{log-done, log-over}
 use Rattle.cells.proofs.LogLengths.{log-kept}
 use Rattle.lanes.specs.code.Lanes.{laid}
 use Rattle.passes.specs.code.Tallies.{tallied, tally_with, Tally}
+use Rattle.passes.specs.code.Rounds.{nth_kind}
 use Rattle.passes.proofs.Finished.{over-settled}
 use Rattle.passes.proofs.Rounds.{pass_instances, sweep-blocks, Going, going_start, going-idle, going-changed, swept-early, swept-over, left-silent, swept-end}
 use Rattle.passes.proofs.Tallies.{tally_turn, pass-fewer, pass_same, sweep-tally, swept-tally, left-uncounted, tally-turn}
 use Rattle.passes.proofs.sweep.Goals as goal
+use Rattle.passes.proofs.sweep.Goals.{then-left-tally, else-left-tally+else-is_over}
 
--- a pass of the loop
-module _ (p : tie.After-nth-pass invariant-loop decreases-loop) where
-  abbrev turn : tie.At-loop invariant-loop decreases-loop
-  turn = p.before.before.before.before.before.before
-
-  abbrev g : List ℕ
-  g = turn.before.before.args.givens.now
-
-  within : turn.loop.nth < 6
-  within = p.before.before.before.before.before.loop-test.taken
-
-  -- the passes in a row are not six yet
-  still-below : turn.loop.still < 6
-  still-below = omega (arith, turn.loop.inv.2.few, p.before.before.before.before.if1.left)
-
-  -- what it leaves, counted
-  fewer : {left : ℕ} → left ≡ total p.nth-pass.last.1.0 → left ≤ at turn.loop.tally 6
-  fewer e = omega (arith, e, ap total p.nth-pass.ensures.0, pass-fewer g turn.loop.nth turn.loop.masks, turn.loop.inv.4.left)
-
-  same : {left : ℕ} → left ≡ total p.nth-pass.last.1.0 → left ≡ at turn.loop.tally 6 → p.nth-pass.last.1.0 ≡ turn.loop.masks
-  same e t = pass_same g turn.loop.nth turn.loop.masks p.nth-pass.ensures.0 (sym e ∙ t ∙ turn.loop.inv.4.left)
-
-  other : {left : ℕ} → left ≡ total p.nth-pass.last.1.0 → left ≢ at turn.loop.tally 6 → p.nth-pass.last.1.0 ≢ turn.loop.masks
-  other e d q = d (e ∙ ap total q ∙ sym turn.loop.inv.4.left)
-
-  -- the log
-  noting : log_after g (for (range (6 - (turn.loop.nth + 1)) (turn.loop.nth + 1)) (pass_instances g)) p.nth-pass.last.1.0 p.nth-pass.last.1.1.0 ≡ log_after g sweep_instances turn.before.before.args.masks.now turn.before.before.args.log.now
-  unfolding pass
-  noting = log-done g (pass_instances g) 6 turn.loop.nth turn.loop.masks turn.loop.log within p.nth-pass.ensures.0 p.nth-pass.ensures.1.1 turn.loop.inv.3
+-- a pass of the loop, in the log
+noting-on : (g : List ℕ) (nth : ℕ) (m l : List ℕ) {m₁ l₁ whole : List ℕ} → nth < 6 → m₁ ≡ pass g (nth_kind nth) m → l₁ ≡ log_after g (pass_instances g nth) m l
+    → log_after g (for (range (6 - nth) nth) (pass_instances g)) m l ≡ whole → log_after g (for (range (6 - (nth + 1)) (nth + 1)) (pass_instances g)) m₁ l₁ ≡ whole
+unfolding pass
+noting-on g nth m l within left noted whole = log-done g (pass_instances g) 6 nth m l within left noted whole
 
 pub loop-nth-init : goal.loop-nth-init
 loop-nth-init c =
@@ -76,39 +54,62 @@ returns-then-still-eq6 c =
 
 pub tally_pass-requires : goal.tally_pass-requires
 tally_pass-requires c =
-    (within c, fewer c c.total-left.ensures, (turn c).loop.invariant.4.few)
-
-pub returns-then-is_over : goal.returns-then-is_over
-returns-then-is_over c =
-    let t = c.total-left.ensures in
-    let l = (turn c).loop in
-    let a = (turn c).args in
+    let l = c.loop-nth in
+    let inv = l.invariant in
+    let a = c.args in
+    let g = a.givens.now in
     let done = c.nth_pass.ensures in
-    let next : l.nth + 1 ≤ 6 = omega (arith, within c) in
-    let tally = tally-turn (g c) l.inv.4 l.nth (within c) done.0 (inl (c.tally_pass.ensures ∙ ap (λ (n : ℕ). tallied l.nth n l.tally) t)) in
-    let going = going-changed (g c) (within c) (still-below c) l.inv.2 done.0 (other c t c.if-left-tally.false) in
-    let settled = over-settled (g c) c.nth_pass.new.masks.0 _ done.1.0 (sym c.is_over.ensures ∙ c.if-is_over.true) in
-    let swept = swept-over (g c) next going settled refl (omega arith) in
-    let noted = sym (left-silent (g c) next going swept _) ∙ noting c in
-    let counted = sym (left-uncounted (g c) tally.0 (range (6 - (l.nth + 1)) (l.nth + 1)) (going.rest ∙ sym swept.swept)) ∙ turn-done (tally_turn (g c)) 6 l.nth (within c) tally.1 l.inv.5 in record {
-      swept = swept;
-      lanes_after = done.1.0;
-      log_after = noted;
-      tally = tally.0;
-      tally_after = swept-tally (g c) a.masks.now a.tally.now counted;
-    }
+    let t = c.total-left.ensures in
+    let within : l.nth < 6 = omega arith in
+    (within, omega (arith, t, ap total done.masks_after, pass-fewer g l.nth l.masks, inv.4.left), inv.4.few)
 
 pub loop-nth-preserved : goal.loop-nth-preserved
 loop-nth-preserved c =
-    let t = c.total-left.ensures in
-    let l = (turn c).loop in
+    let l = c.loop-nth in
+    let inv = l.invariant in
+    let a = c.args in
+    let g = a.givens.now in
     let done = c.nth_pass.ensures in
-    let w =
-    ⊎_elim {C = (Tally c.nth_pass.new.masks.0 c.if-left-tally.tally × ◌≡◌ {A = List ℕ × List ℕ} (c.nth_pass.new.masks.0, c.if-left-tally.tally) (tally_turn (g c) l.nth (l.masks, l.tally))) × Going (g c) (turn c).args.masks.now (turn c).args.idle (l.nth + 1) c.if-left-tally.still c.nth_pass.new.masks.0}
-    (λ x. (tally-turn (g c) l.inv.4 l.nth (within c) done.0 (inr (same c t x.0.taken, x.1)), rw x.2 (going-idle (g c) (within c) (still-below c) l.inv.2 done.0 (same c t x.0.taken))))
-    (λ x. (tally-turn (g c) l.inv.4 l.nth (within c) done.0 (inl (x.7 ∙ x.2.ensures ∙ ap (λ (n : ℕ). tallied l.nth n l.tally) t)), rw x.8 (going-changed (g c) (within c) (still-below c) l.inv.2 done.0 (other c t x.0.left))))
-    c.if-left-tally.branch in
-    (omega arith, done.1.0, w.1, noting c, w.0.0, turn-done (tally_turn (g c)) 6 l.nth (within c) w.0.1 l.inv.5)
+    let t = c.total-left.ensures in
+    let within : l.nth < 6 = omega arith in
+    let below : l.still < 6 = omega (arith, inv.2.few, c.if-still-eq6.false) in
+    let m = c.nth_pass.new.masks in
+    let noting = noting-on g l.nth l.masks l.log within done.masks_after done.log_after inv.3 in
+    let w : (Tally m c.if-left-tally.tally × ◌≡◌ {A = List ℕ × List ℕ} (m, c.if-left-tally.tally) (tally_turn g l.nth (l.masks, l.tally))) × Going g a.masks.now a.idle (l.nth + 1) c.if-left-tally.still m = (
+      elim c.if-left-tally.branch [
+        then-left-tally x ↦
+          let same = pass_same g l.nth l.masks done.masks_after (sym t ∙ x.if-left-tally.true ∙ inv.4.left) in
+          (tally-turn g inv.4 l.nth within done.masks_after (inr (same, x.tally-is)), rw x.still-is (going-idle g within below inv.2 done.masks_after same))
+      | else-left-tally+else-is_over x ↦
+          let other = λ (q : m ≡ l.masks). x.if-left-tally.false (t ∙ ap total q ∙ sym inv.4.left) in
+          (tally-turn g inv.4 l.nth within done.masks_after (inl (x.tally-is ∙ x.tally_pass.ensures ∙ ap (λ (n : ℕ). tallied l.nth n l.tally) t)), rw x.still-is (going-changed g within below inv.2 done.masks_after other))
+      ]
+    ) in
+    (omega arith, done.lanes_after, w.1, noting, w.0.0, turn-done (tally_turn g) 6 l.nth within w.0.1 inv.5)
+
+pub returns-then-is_over : goal.returns-then-is_over
+returns-then-is_over c =
+    let l = c.loop-nth in
+    let inv = l.invariant in
+    let a = c.args in
+    let g = a.givens.now in
+    let done = c.nth_pass.ensures in
+    let t = c.total-left.ensures in
+    let within : l.nth < 6 = omega arith in
+    let below : l.still < 6 = omega (arith, inv.2.few, c.if-still-eq6.false) in
+    let noting = noting-on g l.nth l.masks l.log within done.masks_after done.log_after inv.3 in
+    let next : l.nth + 1 ≤ 6 = omega arith in
+    let tally = tally-turn g inv.4 l.nth within done.masks_after (inl (c.tally_pass.ensures ∙ ap (λ (n : ℕ). tallied l.nth n l.tally) t)) in
+    let going = going-changed g within below inv.2 done.masks_after (λ q. c.if-left-tally.false (t ∙ ap total q ∙ sym inv.4.left)) in
+    let settled = over-settled g c.nth_pass.new.masks _ done.lanes_after (sym c.is_over.ensures ∙ c.if-is_over.true) in
+    let swept = swept-over g next going settled refl (omega arith) in
+    let counted = sym (left-uncounted g tally.0 (range (6 - (l.nth + 1)) (l.nth + 1)) (going.rest ∙ sym swept.swept)) ∙ turn-done (tally_turn g) 6 l.nth within tally.1 inv.5 in record {
+      swept = swept;
+      lanes_after = done.lanes_after;
+      log_after = sym (left-silent g next going swept _) ∙ noting;
+      tally = tally.0;
+      tally_after = swept-tally g a.masks.now a.tally.now counted;
+    }
 
 pub returns : goal.returns
 returns c =

@@ -26,26 +26,24 @@ unfolding tally_with
 returns-then-idle-eq6 c =
     let g = c.args.givens.now in
     let swept = c.sweep-idle.ensures in
-    let s = settle-stops g c.loop-sweeps.sweeps c.loop-sweeps.masks (omega arith) swept.0 c.if-idle-eq6.true in
-    let noted = log-stops g c.loop-sweeps.sweeps c.loop-sweeps.masks (omega arith) swept.0 c.loop-sweeps.log swept.1.1.0 c.loop-sweeps.invariant.6 c.if-idle-eq6.true in
-    let tally = swept.1.1.1 in
-    let counted = counts-stop g c.loop-sweeps.sweeps c.loop-sweeps.masks (omega arith) swept.0 c.loop-sweeps.invariant.7 tally.1 c.loop-sweeps.invariant.8 c.if-idle-eq6.true in record {
+    let s = settle-stops g c.loop-sweeps.sweeps c.loop-sweeps.masks (omega arith) swept.swept c.if-idle-eq6.true in
+    let noted = log-stops g c.loop-sweeps.sweeps c.loop-sweeps.masks (omega arith) swept.swept c.loop-sweeps.log swept.log_after c.loop-sweeps.invariant.6 c.if-idle-eq6.true in
+    let counted = counts-stop g c.loop-sweeps.sweeps c.loop-sweeps.masks (omega arith) swept.swept c.loop-sweeps.invariant.7 swept.tally_after c.loop-sweeps.invariant.8 c.if-idle-eq6.true in record {
       value = omega (arith, ap (λ (x : Sweeps). x.sweeps) s, c.loop-sweeps.invariant.4);
       masks_after = sym (ap (λ (x : Sweeps). x.left) s) ∙ c.loop-sweeps.invariant.5;
       log_after = noted;
-      tally_after = counts-over g tally.0 counted;
+      tally_after = counts-over g swept.tally counted;
     }
 
 pub loop-sweeps-preserved : goal.loop-sweeps-preserved
 loop-sweeps-preserved c =
     let g = c.args.givens.now in
     let swept = c.sweep-idle.ensures in
-    let below : c.sweep-idle.result < 6 = omega (arith, swept.0.few, c.if-idle-eq6.false) in
-    let s = settle_goes g c.loop-sweeps.sweeps c.loop-sweeps.masks (omega arith) swept.0 below in
-    let noted = log-goes g c.loop-sweeps.sweeps c.loop-sweeps.masks (omega arith) swept.0 c.loop-sweeps.log swept.1.1.0 c.loop-sweeps.invariant.6 below in
-    let tally = swept.1.1.1 in
-    let counted = counts-go g c.loop-sweeps.sweeps c.loop-sweeps.masks (omega arith) swept.0 c.loop-sweeps.invariant.7 tally.1 c.loop-sweeps.invariant.8 below in
-    (omega arith, swept.1.0, below, (swept.0.goes below).1, omega (arith, ap (λ (x : Sweeps). x.sweeps) s, c.loop-sweeps.invariant.4), sym (ap (λ (x : Sweeps). x.left) s) ∙ c.loop-sweeps.invariant.5, noted, tally.0, counted)
+    let below : c.sweep-idle.result < 6 = omega (arith, swept.swept.few, c.if-idle-eq6.false) in
+    let s = settle_goes g c.loop-sweeps.sweeps c.loop-sweeps.masks (omega arith) swept.swept below in
+    let noted = log-goes g c.loop-sweeps.sweeps c.loop-sweeps.masks (omega arith) swept.swept c.loop-sweeps.log swept.log_after c.loop-sweeps.invariant.6 below in
+    let counted = counts-go g c.loop-sweeps.sweeps c.loop-sweeps.masks (omega arith) swept.swept c.loop-sweeps.invariant.7 swept.tally_after c.loop-sweeps.invariant.8 below in
+    (omega arith, swept.lanes_after, below, (swept.swept.goes below).1, omega (arith, ap (λ (x : Sweeps). x.sweeps) s, c.loop-sweeps.invariant.4), sym (ap (λ (x : Sweeps). x.left) s) ∙ c.loop-sweeps.invariant.5, noted, swept.tally, counted)
 
 pub returns : goal.returns
 unfolding tally_with
