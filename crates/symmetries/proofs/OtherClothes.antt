@@ -2,7 +2,6 @@
 use mathlib.Core.Path.{◌≡◌, refl, sym, ap, ◌∙◌, subst}
 use mathlib.Core.Bool.{true}
 use mathlib.Core.List.{List, [], ◌∷◌}
-use Prim.Native.Nat.{◌-◌}
 use lib.IntN.{ℤ}
 use Rattle.steps.specs.Boards.{Board, givens, Admissible}
 use Rattle.steps.specs.Calls.{Clues, Entries, Call, settling_call, without_chain, outcome, left, run, opened_with}

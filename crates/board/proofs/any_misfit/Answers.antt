@@ -1,13 +1,8 @@
-use mathlib.Core.Path.{◌≡◌, refl}
-use mathlib.Core.Bool.{◌||◌}
-use Prim.Native.Nat.{◌-◌}
+use mathlib.Core.Path.{refl}
 use native.Mathlib.Omega.{arith}
-use borrow.Author.Rules.{rules}
 use Rattle.grid.specs.Cells.{cells}
-use Rattle.grid.specs.Lists.{range}
 use Rattle.steps.specs.Boards.{at, given}
-use Rattle.steps.specs.Loops.{first}
-use Rattle.board.specs.code.Checks.{misfit_of, first_misfit, is_found}
+use Rattle.board.specs.code.Checks.{misfit_of}
 use Rattle.board.proofs.Flags.{flag-on, flag-end}
 use Rattle.board.proofs.any_misfit.Goals as goal
 

@@ -1,15 +1,11 @@
 -- `board::any_misfit` meets its contract. Assumes nothing.
-use mathlib.Core.Path.{◌≡◌, refl}
+use mathlib.Core.Path.{◌≡◌}
 use mathlib.Core.Bool.{◌||◌}
 use Prim.Native.Nat.{◌-◌}
-use native.Mathlib.Omega.{arith}
-use borrow.Author.Rules.{rules}
-use Rattle.grid.specs.Cells.{cells}
 use Rattle.grid.specs.Lists.{range}
 use Rattle.steps.specs.Boards.{at, given}
 use Rattle.steps.specs.Loops.{first}
 use Rattle.board.specs.code.Checks.{misfit_of, first_misfit, is_found}
-use Rattle.board.proofs.Flags.{flag-on, flag-end}
 use Rattle.board.proofs.any_misfit.Given as goal
 
 abbrev pub invariant-loop-cell : goal.invariant-loop-cell

@@ -1,6 +1,5 @@
 -- `board::check_given` meets its contract. Assumes nothing.
 use mathlib.Core.Path.{◌∙◌}
-use borrow.Author.Rules.{rules}
 use Rattle.board.specs.Boards.{handed}
 use Rattle.board.proofs.Checks.{checks}
 use Rattle.board.proofs.check_given.Goals as goal

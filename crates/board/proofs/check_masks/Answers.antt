@@ -1,16 +1,9 @@
-use mathlib.Core.Path.{◌≡◌, refl}
-use Prim.Native.Nat.{◌-◌}
+use mathlib.Core.Path.{refl}
 use native.Mathlib.Omega.{arith}
-use borrow.Author.Rules.{rules}
 use Rattle.grid.specs.Cells.{cells}
-use Rattle.grid.specs.Lists.{range}
-use Rattle.steps.specs.Boards.{at, given}
-use Rattle.steps.specs.Loops.{first}
 use Rattle.stops.specs.declared.Stop.TheVariants.{BadMask}
 use Rattle.stops.proofs.Answers.{found-stop, none_found}
-use Rattle.board.specs.code.Checks.{misfit_of, first_misfit}
 use Rattle.steps.proofs.Searches.{found, passed, ended}
-use Rattle.board.proofs.Flags.{unflagged}
 use Rattle.board.proofs.check_masks.Goals as goal
 
 pub loop-cell-init : goal.loop-cell-init

@@ -1,17 +1,10 @@
 -- `board::check_masks` meets its contract. Assumes nothing.
-use mathlib.Core.Path.{◌≡◌, refl}
+use mathlib.Core.Path.{◌≡◌}
 use Prim.Native.Nat.{◌-◌}
-use native.Mathlib.Omega.{arith}
-use borrow.Author.Rules.{rules}
-use Rattle.grid.specs.Cells.{cells}
 use Rattle.grid.specs.Lists.{range}
 use Rattle.steps.specs.Boards.{at, given}
 use Rattle.steps.specs.Loops.{first}
-use Rattle.stops.specs.declared.Stop.TheVariants.{BadMask}
-use Rattle.stops.proofs.Answers.{found-stop, none_found}
 use Rattle.board.specs.code.Checks.{misfit_of, first_misfit}
-use Rattle.steps.proofs.Searches.{found, passed, ended}
-use Rattle.board.proofs.Flags.{unflagged}
 use Rattle.board.proofs.check_masks.Given as goal
 
 abbrev pub invariant-loop-cell : goal.invariant-loop-cell

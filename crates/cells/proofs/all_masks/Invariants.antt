@@ -1,11 +1,8 @@
 -- `cells::all_masks` meets its contract. The invariant: the places that are left still make the nine masks. Assumes nothing.
-use mathlib.Core.Path.{◌≡◌, refl, ap, ◌∙◌}
+use mathlib.Core.Path.{◌≡◌}
 use Prim.Native.Nat.{◌-◌}
-use native.Mathlib.Omega.{arith}
-use borrow.Author.Rules.{rules}
-use lib.ListN.{replicate}
 use Rattle.grid.specs.Units.{unit_cell}
-use Rattle.grid.proofs.Fills.{filled, fill_start, fill_on, fill_end}
+use Rattle.grid.proofs.Fills.{filled}
 use Rattle.cells.specs.code.Places.{mask_at, all_masks}
 use Rattle.cells.proofs.all_masks.Given as goal
 

@@ -1,12 +1,9 @@
 -- `cells::changed` meets its contract. The invariant: the flag is up, or the cells that are left differ, exactly where the masks do. Assumes nothing.
-use mathlib.Core.Path.{◌≡◌, refl, sym, ◌∙◌}
+use mathlib.Core.Path.{◌≡◌}
 use mathlib.Core.Bool.{not, ◌||◌}
 use Prim.Native.Nat.{◌-◌, ◌≤◌}
-use native.Mathlib.Omega.{arith}
-use borrow.Author.Rules.{rules}
 use lib.ListN.{length, drop}
 use Rattle.steps.specs.Boards.{same_masks}
-use Rattle.cells.proofs.Whole.{changed-on, changed-end}
 use Rattle.cells.proofs.changed.Given as goal
 
 abbrev pub invariant-loop-cell : goal.invariant-loop-cell

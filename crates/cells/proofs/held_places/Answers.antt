@@ -2,7 +2,6 @@
 use mathlib.Core.Path.{ap, ◌∙◌}
 use mathlib.Core.List.{List}
 use Prim.Native.Nat.{ℕ}
-use borrow.Author.Rules.{rules}
 use Rattle.cells.specs.code.Places.{spots_in, held_places}
 use Rattle.cells.proofs.held_places.Goals as goal
 

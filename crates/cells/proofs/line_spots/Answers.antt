@@ -1,11 +1,10 @@
-use mathlib.Core.Path.{◌≡◌, refl, ap, ◌∙◌}
+use mathlib.Core.Path.{refl, ap, ◌∙◌}
 use mathlib.Core.List.{List}
-use Prim.Native.Nat.{ℕ, ◌+◌, ◌-◌}
+use Prim.Native.Nat.{ℕ}
 use native.Mathlib.Omega.{arith}
-use borrow.Author.Rules.{rules}
 use lib.ListN.{replicate}
-use Rattle.grid.proofs.Fills.{filled, fill_start, fill_on, fill_end}
-use Rattle.cells.specs.code.Places.{unit_masks, spots_in, line_spots}
+use Rattle.grid.proofs.Fills.{fill_start, fill_on, fill_end}
+use Rattle.cells.specs.code.Places.{spots_in, line_spots}
 use Rattle.cells.proofs.HeldPlaces.{spots-past}
 use Rattle.cells.proofs.line_spots.Goals as goal
 

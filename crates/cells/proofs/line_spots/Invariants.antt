@@ -1,13 +1,8 @@
 -- `cells::line_spots` meets its contract. The invariant: the lines that are left still make the nine masks. Assumes nothing.
-use mathlib.Core.Path.{◌≡◌, refl, ap, ◌∙◌}
-use mathlib.Core.List.{List}
-use Prim.Native.Nat.{ℕ, ◌+◌, ◌-◌}
-use native.Mathlib.Omega.{arith}
-use borrow.Author.Rules.{rules}
-use lib.ListN.{replicate}
-use Rattle.grid.proofs.Fills.{filled, fill_start, fill_on, fill_end}
+use mathlib.Core.Path.{◌≡◌}
+use Prim.Native.Nat.{◌+◌, ◌-◌}
+use Rattle.grid.proofs.Fills.{filled}
 use Rattle.cells.specs.code.Places.{unit_masks, spots_in, line_spots}
-use Rattle.cells.proofs.HeldPlaces.{spots-past}
 use Rattle.cells.proofs.line_spots.Given as goal
 
 abbrev pub invariant-loop-line : goal.invariant-loop-line

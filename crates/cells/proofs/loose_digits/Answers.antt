@@ -1,14 +1,10 @@
-use mathlib.Core.Path.{◌≡◌, refl, ap, ◌∙◌}
-use mathlib.Core.List.{List}
-use Prim.Native.Nat.{ℕ, ◌-◌, ◌≤◌}
+use mathlib.Core.Path.{refl, ap, ◌∙◌}
 use native.Mathlib.Omega.{arith}
-use borrow.Author.Rules.{rules}
 use lib.Bits.{bit_and}
 use Rattle.candidates.specs.Masks.{union}
 use Rattle.grid.proofs.Lists.{turn-done, turns-over}
 use Rattle.steps.specs.Boards.{at}
-use Rattle.steps.specs.Loops.{each, range}
-use Rattle.cells.specs.code.Places.{door_at, loose_digits}
+use Rattle.cells.specs.code.Places.{loose_digits}
 use Rattle.cells.proofs.loose_digits.Invariants.{turn}
 use Rattle.cells.proofs.loose_digits.Goals as goal
 

@@ -1,20 +1,14 @@
 -- `cells::lose_places` meets its contract. The invariant: the places that are left still make the whole loss, and the flag is up where the masks have changed. Assumes nothing.
-use mathlib.Core.Path.{◌≡◌, refl, sym, ap, ◌∙◌}
-use mathlib.Core.Logic.{⊎_elim}
+use mathlib.Core.Path.{◌≡◌}
 use mathlib.Core.Bool.{cond}
 use mathlib.Core.List.{List}
 use Prim.Native.Nat.{ℕ, ◌-◌, ◌≤◌}
-use native.Mathlib.Omega.{arith}
-use borrow.Author.Rules.{rules}
 use Rattle.candidates.specs.Masks.{has}
-use Rattle.candidates.proofs.Tests.{cond-true, cond-false}
 use Rattle.grid.specs.Units.{unit_cell}
-use Rattle.grid.proofs.Lists.{turn-done, turns-over}
 use Rattle.steps.specs.Boards.{is_open}
 use Rattle.steps.specs.Loops.{each, range}
-use Rattle.steps.specs.Passes.{changed}
 use Rattle.cells.specs.code.Places.{lose_in, lose_places}
-use Rattle.cells.proofs.Losses.{Went, went-none, went_on, went-cell}
+use Rattle.cells.proofs.Losses.{Went}
 use Rattle.cells.proofs.lose_places.Given as goal
 
 -- one turn of the loop

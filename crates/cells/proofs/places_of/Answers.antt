@@ -1,9 +1,7 @@
 use mathlib.Core.Path.{◌≡◌, refl, sym, ap, ◌∙◌}
-use mathlib.Core.Logic.{⊎_elim}
 use mathlib.Core.Bool.{Bool}
-use Prim.Native.Nat.{ℕ, ◌+◌, ◌-◌, ◌≤◌}
+use Prim.Native.Nat.{ℕ, ◌+◌}
 use native.Mathlib.Omega.{arith}
-use borrow.Author.Rules.{rules}
 use Rattle.candidates.specs.Masks.{has, union, gather}
 use Rattle.candidates.proofs.Membership.{place-single, gather-here, gather-not}
 use Rattle.steps.specs.Boards.{at}
@@ -32,8 +30,11 @@ loop-place-preserved c = (omega arith, found)
 
     found : c.if-has_digit.found ≡ gather test (i + 1)
     found =
-        elim c.if-has_digit.branch [ then-has_digit w ↦ w.found-is ∙ w.join-found.ensures ∙ ap (λ (x : ℕ). union x w.digit_mask.result) sofar ∙ ap (union (gather test i)) (w.digit_mask.ensures ∙ place-single i (omega arith))
-        ∙ gather-here test i (sym tested ∙ w.if-has_digit.true) | else-has_digit w ↦ w.found-is ∙ sofar ∙ gather-not test i (sym tested ∙ w.if-has_digit.false) ]
+        elim c.if-has_digit.branch [
+          | then-has_digit w ↦ w.found-is ∙ w.join-found.ensures ∙ ap (λ (x : ℕ). union x w.digit_mask.result) sofar ∙ ap (union (gather test i)) (w.digit_mask.ensures ∙ place-single i (omega arith))
+              ∙ gather-here test i (sym tested ∙ w.if-has_digit.true)
+          | else-has_digit w ↦ w.found-is ∙ sofar ∙ gather-not test i (sym tested ∙ w.if-has_digit.false)
+        ]
 
 pub returns : goal.returns
 unfolding spots_in

@@ -1,22 +1,19 @@
-use mathlib.Core.Path.{◌≡◌}
-use Prim.Native.Nat.{◌+◌, ◌-◌, ◌*◌, ◌≤◌}
+use Prim.Native.Nat.{◌≤◌}
 use native.Mathlib.Omega.{arith}
 use mir.Syntax.{w16}
 use mir.Val.{Fits}
 use borrow.Author.Rules.{rules}
 use lib.Count.{ones-le}
-use lib.ListN.{length, get_or, drop}
-use Rattle.steps.specs.Boards.{total}
+use lib.ListN.{get_or}
 use Rattle.cells.proofs.Whole.{total-on, total-end}
 use Rattle.cells.proofs.total.Goals as goal
 
 pub loop-cell-preserved : goal.loop-cell-preserved
 loop-cell-preserved c =
     let few : c.digit_count.result ≤ 16 = (
-      let small : Fits w16 (get_or c.args.masks c.loop-cell.cell 0) = search rules in
+    let small : Fits w16 (get_or c.args.masks c.loop-cell.cell 0) = search rules in
     omega (arith, c.digit_count.ensures, ones-le 16 _ small.fits)
     ) in
-
     let inv = c.loop-cell.invariant in
     let on = total-on c.args.masks c.loop-cell.cell (omega arith) in
     (inv.0, omega arith, omega (arith, few), omega (arith, c.digit_count.ensures, on, inv.3))

@@ -1,14 +1,8 @@
 -- `cells::total` meets its contract. The invariant: what is counted and what is left are all candidates. Assumes nothing.
 use mathlib.Core.Path.{◌≡◌}
 use Prim.Native.Nat.{◌+◌, ◌-◌, ◌*◌, ◌≤◌}
-use native.Mathlib.Omega.{arith}
-use mir.Syntax.{w16}
-use mir.Val.{Fits}
-use borrow.Author.Rules.{rules}
-use lib.Count.{ones-le}
-use lib.ListN.{length, get_or, drop}
+use lib.ListN.{length, drop}
 use Rattle.steps.specs.Boards.{total}
-use Rattle.cells.proofs.Whole.{total-on, total-end}
 use Rattle.cells.proofs.total.Given as goal
 
 abbrev pub invariant-loop-cell : goal.invariant-loop-cell

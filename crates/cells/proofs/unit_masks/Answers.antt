@@ -1,10 +1,7 @@
-use mathlib.Core.Path.{◌≡◌, refl, ap, ◌∙◌}
-use Prim.Native.Nat.{◌-◌}
+use mathlib.Core.Path.{refl, ap, ◌∙◌}
 use native.Mathlib.Omega.{arith}
-use borrow.Author.Rules.{rules}
 use lib.ListN.{replicate}
-use Rattle.grid.specs.Units.{unit_cell}
-use Rattle.grid.proofs.Fills.{filled, fill_start, fill_on, fill_end}
+use Rattle.grid.proofs.Fills.{fill_start, fill_on, fill_end}
 use Rattle.cells.specs.code.Places.{open_mask, unit_masks}
 use Rattle.cells.proofs.unit_masks.Goals as goal
 

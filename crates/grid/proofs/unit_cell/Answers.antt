@@ -1,6 +1,5 @@
 -- `grid::unit_cell` meets its contract: what is worked out is the table. Assumes nothing.
 use mathlib.Core.Path.{sym}
-use borrow.Author.Rules.{rules}
 use Rattle.grid.proofs.Units.{past-unit, row-cell, col-cell, box-cell, past-cell}
 use Rattle.grid.proofs.unit_cell.Goals as goal
 

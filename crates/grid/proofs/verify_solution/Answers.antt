@@ -1,9 +1,5 @@
 use mathlib.Core.Path.{refl, ◌∙◌}
-use mathlib.Core.Bool.{true}
-use Prim.Native.Nat.{◌*◌, ◌-◌, ◌≤◌}
 use native.Mathlib.Omega.{arith}
-use borrow.Author.Tests.{not-true, not-false}
-use Rattle.grid.specs.code.Standing.{Standing}
 use Rattle.grid.proofs.Marks.{one-pass}
 use Rattle.grid.proofs.Standing.{standing-start, standing-yes, stays-no}
 use Rattle.grid.proofs.verify_solution.Goals as goal

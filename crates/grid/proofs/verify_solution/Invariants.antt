@@ -1,12 +1,7 @@
 -- `grid::verify_solution` meets its contract. The invariant: the numbers of the first bands are fine, and the array has the marks after them. Assumes nothing.
-use mathlib.Core.Path.{refl, ◌∙◌}
 use mathlib.Core.Bool.{true}
 use Prim.Native.Nat.{◌*◌, ◌-◌, ◌≤◌}
-use native.Mathlib.Omega.{arith}
-use borrow.Author.Tests.{not-true, not-false}
 use Rattle.grid.specs.code.Standing.{Standing}
-use Rattle.grid.proofs.Marks.{one-pass}
-use Rattle.grid.proofs.Standing.{standing-start, standing-yes, stays-no}
 use Rattle.grid.proofs.verify_solution.Given as goal
 
 abbrev pub invariant-loop-band : goal.invariant-loop-band

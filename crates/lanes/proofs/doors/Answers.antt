@@ -1,12 +1,8 @@
-use mathlib.Core.Path.{◌≡◌, refl}
-use mathlib.Core.Bool.{cond}
-use Prim.Native.Nat.{◌-◌}
+use mathlib.Core.Path.{refl}
 use native.Mathlib.Omega.{arith}
 use lib.ListN.{replicate}
-use Rattle.grid.proofs.Fills.{filled, fill_start, fill_on, fill_end}
-use Rattle.steps.specs.Boards.{is_open}
+use Rattle.grid.proofs.Fills.{fill_start, fill_on, fill_end}
 use Rattle.lanes.specs.code.Lanes.{doors_of}
-use borrow.Author.Rules.{rules}
 use Rattle.lanes.proofs.doors.Goals as goal
 
 pub loop-cell-init : goal.loop-cell-init

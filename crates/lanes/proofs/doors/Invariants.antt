@@ -1,13 +1,10 @@
 -- `lanes::doors` meets its contract. The invariant: the cells that are left still make the whole. Assumes nothing.
-use mathlib.Core.Path.{◌≡◌, refl}
+use mathlib.Core.Path.{◌≡◌}
 use mathlib.Core.Bool.{cond}
 use Prim.Native.Nat.{◌-◌}
-use native.Mathlib.Omega.{arith}
-use lib.ListN.{replicate}
-use Rattle.grid.proofs.Fills.{filled, fill_start, fill_on, fill_end}
+use Rattle.grid.proofs.Fills.{filled}
 use Rattle.steps.specs.Boards.{is_open}
 use Rattle.lanes.specs.code.Lanes.{doors_of}
-use borrow.Author.Rules.{rules}
 use Rattle.lanes.proofs.doors.Given as goal
 
 abbrev pub invariant-loop-cell : goal.invariant-loop-cell

@@ -1,13 +1,7 @@
-use mathlib.Core.Path.{◌≡◌, refl}
-use mathlib.Core.List.{List}
-use Prim.Native.Nat.{ℕ, ◌-◌, ◌≤◌}
+use mathlib.Core.Path.{refl}
 use native.Mathlib.Omega.{arith}
-use Rattle.candidates.specs.Masks.{union}
 use Rattle.grid.proofs.Lists.{turn-done, turns-over}
-use Rattle.steps.specs.Boards.{at}
-use Rattle.steps.specs.Loops.{each, range}
 use Rattle.lanes.specs.code.Lanes.{joined_sets}
-use borrow.Author.Rules.{rules}
 use Rattle.lanes.proofs.join_sets.Invariants.{turn}
 use Rattle.lanes.proofs.join_sets.Goals as goal
 

@@ -1,14 +1,11 @@
 -- `lanes::join_sets` meets its contract. The invariant: the sets that are left still make the whole. Assumes nothing.
-use mathlib.Core.Path.{◌≡◌, refl}
+use mathlib.Core.Path.{◌≡◌}
 use mathlib.Core.List.{List}
 use Prim.Native.Nat.{ℕ, ◌-◌, ◌≤◌}
-use native.Mathlib.Omega.{arith}
 use Rattle.candidates.specs.Masks.{union}
-use Rattle.grid.proofs.Lists.{turn-done, turns-over}
 use Rattle.steps.specs.Boards.{at}
 use Rattle.steps.specs.Loops.{each, range}
 use Rattle.lanes.specs.code.Lanes.{joined_sets}
-use borrow.Author.Rules.{rules}
 use Rattle.lanes.proofs.join_sets.Given as goal
 
 abbrev pub turn : List ℕ → ℕ → ℕ → ℕ

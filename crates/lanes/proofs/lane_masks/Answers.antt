@@ -1,9 +1,8 @@
-use mathlib.Core.Path.{◌≡◌, refl}
-use Prim.Native.Nat.{◌-◌}
+use mathlib.Core.Path.{refl}
 use native.Mathlib.Omega.{arith}
 use lib.ListN.{replicate}
-use Rattle.grid.proofs.Fills.{filled, fill_start, fill_on, fill_end}
-use Rattle.lanes.specs.code.Lanes.{lane_at, lane_masks}
+use Rattle.grid.proofs.Fills.{fill_start, fill_on, fill_end}
+use Rattle.lanes.specs.code.Lanes.{lane_masks}
 use Rattle.lanes.proofs.lane_masks.Goals as goal
 
 pub loop-place-init : goal.loop-place-init

@@ -1,9 +1,7 @@
 -- `lanes::lane_masks` meets its contract. The invariant: the places that are left still make the whole. Assumes nothing.
-use mathlib.Core.Path.{◌≡◌, refl}
+use mathlib.Core.Path.{◌≡◌}
 use Prim.Native.Nat.{◌-◌}
-use native.Mathlib.Omega.{arith}
-use lib.ListN.{replicate}
-use Rattle.grid.proofs.Fills.{filled, fill_start, fill_on, fill_end}
+use Rattle.grid.proofs.Fills.{filled}
 use Rattle.lanes.specs.code.Lanes.{lane_at, lane_masks}
 use Rattle.lanes.proofs.lane_masks.Given as goal
 

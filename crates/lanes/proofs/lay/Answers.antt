@@ -1,6 +1,4 @@
-use Prim.Native.Nat.{◌*◌, ◌-◌, ◌≤◌}
 use native.Mathlib.Omega.{arith}
-use Rattle.lanes.specs.code.Lanes.{Partly}
 use Rattle.lanes.proofs.Spots.{partly-start, partly-to, partly-end}
 use Rattle.lanes.proofs.lay.Goals as goal
 

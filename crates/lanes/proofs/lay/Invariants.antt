@@ -1,8 +1,6 @@
 -- `lanes::lay` meets its contract. The invariant: the rows before this one are laid out. Assumes nothing.
 use Prim.Native.Nat.{◌*◌, ◌-◌, ◌≤◌}
-use native.Mathlib.Omega.{arith}
 use Rattle.lanes.specs.code.Lanes.{Partly}
-use Rattle.lanes.proofs.Spots.{partly-start, partly-to, partly-end}
 use Rattle.lanes.proofs.lay.Given as goal
 
 abbrev pub invariant-loop-row : goal.invariant-loop-row

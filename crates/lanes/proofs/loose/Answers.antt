@@ -1,9 +1,8 @@
-use mathlib.Core.Path.{◌≡◌, refl}
-use Prim.Native.Nat.{◌+◌, ◌-◌}
+use mathlib.Core.Path.{refl}
 use native.Mathlib.Omega.{arith}
 use lib.ListN.{replicate}
-use Rattle.grid.proofs.Fills.{filled, fill_start, fill_on, fill_end}
-use Rattle.lanes.specs.code.Lanes.{loose_of, loose_sets}
+use Rattle.grid.proofs.Fills.{fill_start, fill_on, fill_end}
+use Rattle.lanes.specs.code.Lanes.{loose_sets}
 use Rattle.lanes.proofs.loose.Goals as goal
 
 pub loop-nth-init : goal.loop-nth-init

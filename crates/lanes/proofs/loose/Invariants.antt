@@ -1,9 +1,7 @@
 -- `lanes::loose` meets its contract. The invariant: the lanes that are left still make the whole. Assumes nothing.
-use mathlib.Core.Path.{◌≡◌, refl}
+use mathlib.Core.Path.{◌≡◌}
 use Prim.Native.Nat.{◌+◌, ◌-◌}
-use native.Mathlib.Omega.{arith}
-use lib.ListN.{replicate}
-use Rattle.grid.proofs.Fills.{filled, fill_start, fill_on, fill_end}
+use Rattle.grid.proofs.Fills.{filled}
 use Rattle.lanes.specs.code.Lanes.{loose_of, loose_sets}
 use Rattle.lanes.proofs.loose.Given as goal
 

@@ -1,13 +1,8 @@
-use mathlib.Core.Path.{◌≡◌, refl, ap, ◌∙◌}
-use mathlib.Core.List.{List}
-use Prim.Native.Nat.{ℕ, ◌-◌, ◌≤◌}
+use mathlib.Core.Path.{refl, ap, ◌∙◌}
 use native.Mathlib.Omega.{arith}
-use lib.Bits.{bit_and}
 use Rattle.candidates.specs.Masks.{union}
 use Rattle.grid.proofs.Lists.{turn-done, turns-over}
-use Rattle.steps.specs.Loops.{each, range}
-use Rattle.lanes.specs.code.Lanes.{lane_at, loose_of}
-use borrow.Author.Rules.{rules}
+use Rattle.lanes.specs.code.Lanes.{loose_of}
 use Rattle.lanes.proofs.loose_lane.Invariants.{turn}
 use Rattle.lanes.proofs.loose_lane.Goals as goal
 

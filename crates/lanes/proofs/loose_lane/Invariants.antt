@@ -1,14 +1,11 @@
 -- `lanes::loose_lane` meets its contract. The invariant: the places that are left still make the whole. Assumes nothing.
-use mathlib.Core.Path.{◌≡◌, refl, ap, ◌∙◌}
+use mathlib.Core.Path.{◌≡◌}
 use mathlib.Core.List.{List}
 use Prim.Native.Nat.{ℕ, ◌-◌, ◌≤◌}
-use native.Mathlib.Omega.{arith}
 use lib.Bits.{bit_and}
 use Rattle.candidates.specs.Masks.{union}
-use Rattle.grid.proofs.Lists.{turn-done, turns-over}
 use Rattle.steps.specs.Loops.{each, range}
 use Rattle.lanes.specs.code.Lanes.{lane_at, loose_of}
-use borrow.Author.Rules.{rules}
 use Rattle.lanes.proofs.loose_lane.Given as goal
 
 abbrev pub turn : List ℕ → List ℕ → ℕ → ℕ → ℕ → ℕ

@@ -1,7 +1,4 @@
-use mathlib.Core.Path.{◌≡◌, subst}
-use Prim.Native.Nat.{ℕ, ◌+◌, ◌*◌, ◌-◌, ◌≤◌}
 use native.Mathlib.Omega.{arith}
-use Rattle.lanes.specs.code.Lanes.{Partly}
 use Rattle.lanes.proofs.Spots.{partly-on}
 use Rattle.lanes.proofs.put_row.Goals as goal
 

@@ -1,9 +1,6 @@
 -- `lanes::put_row` meets its contract. The invariant: the cells before this one are laid out. Assumes nothing.
-use mathlib.Core.Path.{◌≡◌, subst}
-use Prim.Native.Nat.{ℕ, ◌+◌, ◌*◌, ◌-◌, ◌≤◌}
-use native.Mathlib.Omega.{arith}
+use Prim.Native.Nat.{◌+◌, ◌*◌, ◌-◌, ◌≤◌}
 use Rattle.lanes.specs.code.Lanes.{Partly}
-use Rattle.lanes.proofs.Spots.{partly-on}
 use Rattle.lanes.proofs.put_row.Given as goal
 
 abbrev pub invariant-loop-col : goal.invariant-loop-col

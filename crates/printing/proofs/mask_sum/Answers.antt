@@ -1,9 +1,6 @@
-use mathlib.Core.Path.{◌≡◌, refl, sym, ap, ◌∙◌}
-use Prim.Native.Nat.{ℕ, suc, ◌+◌, ◌-◌, ◌≤◌}
+use mathlib.Core.Path.{◌≡◌, ap, ◌∙◌}
 use native.Mathlib.Omega.{arith}
-use borrow.Author.Rules.{rules}
-use lib.ListN.{get_or}
-use Rattle.printing.specs.code.Sums.{folded, sum_of}
+use Rattle.printing.specs.code.Sums.{sum_of}
 use Rattle.printing.proofs.mask_sum.Goals as goal
 
 pub returns : goal.returns

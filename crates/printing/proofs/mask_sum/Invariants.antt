@@ -1,10 +1,7 @@
 -- `printing::mask_sum` meets its contract. Assumes nothing.
-use mathlib.Core.Path.{◌≡◌, refl, sym, ap, ◌∙◌}
-use Prim.Native.Nat.{ℕ, suc, ◌+◌, ◌-◌, ◌≤◌}
-use native.Mathlib.Omega.{arith}
-use borrow.Author.Rules.{rules}
-use lib.ListN.{get_or}
-use Rattle.printing.specs.code.Sums.{folded, sum_of}
+use mathlib.Core.Path.{◌≡◌}
+use Prim.Native.Nat.{◌-◌, ◌≤◌}
+use Rattle.printing.specs.code.Sums.{sum_of}
 use Rattle.printing.proofs.mask_sum.Given as goal
 
 abbrev pub invariant-loop-cell : goal.invariant-loop-cell

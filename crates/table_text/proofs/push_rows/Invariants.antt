@@ -1,17 +1,11 @@
 -- `table_text::push_rows` meets its contract. The invariant: the rows that are left still make the whole. Assumes nothing.
-use mathlib.Core.Path.{◌≡◌, ap, ◌∙◌}
+use mathlib.Core.Path.{◌≡◌}
 use Prim.Native.Nat.{ℕ, ◌-◌, ◌≤◌}
-use native.Mathlib.Nat.{sub-zero}
-use native.Mathlib.Omega.{arith}
-use borrow.Author.Rules.{rules}
-use Rattle.grid.proofs.Lists.{turn-done, turns-over}
-use Rattle.grid.specs.declared.scopes.Scope.{Scope}
-use Rattle.steps.specs.Loops.{each, for, range, up_to}
+use Rattle.steps.specs.Loops.{each, for, range}
 use Rattle.table_text.specs.Tables.{row_line}
 use Rattle.table_text.specs.declared.Table.{Table}
 use Rattle.output.specs.code.Tapes.{Tape, tape, append}
 use Rattle.table_text.specs.code.Pushes.{scope_of, in_row, rows_of}
-use Rattle.table_text.proofs.Texts.{rows-each}
 use Rattle.table_text.proofs.push_rows.Given as goal
 
 -- one turn of the loop

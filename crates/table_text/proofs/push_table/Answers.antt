@@ -1,5 +1,4 @@
 -- `table_text::push_table` meets its contract. Assumes nothing.
-use borrow.Author.Rules.{rules}
 use Rattle.output.specs.code.Tapes.{tape}
 use Rattle.table_text.specs.code.Pushes.{rows_of}
 use Rattle.table_text.proofs.Texts.{table-joined}

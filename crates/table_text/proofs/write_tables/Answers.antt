@@ -3,7 +3,6 @@ use mathlib.Core.Path.{ap, ◌∙◌}
 use mathlib.Core.List.{List}
 use Prim.Native.Nat.{ℕ}
 use native.Mathlib.Omega.{arith}
-use borrow.Author.Rules.{rules}
 use Rattle.table_text.specs.Tables.{table_lines, units_header, peers_header, tables_text}
 use Rattle.table_text.specs.declared.Table.TheVariants as table
 use Rattle.output.specs.code.Tapes.{Tape, tape, append}

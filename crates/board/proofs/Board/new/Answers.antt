@@ -1,6 +1,5 @@
 -- `board::Board::new` meets its contract. Assumes nothing.
 use mathlib.Core.Path.{ap}
-use borrow.Author.Rules.{rules}
 use Rattle.stops.specs.Answer.{Answer, passing}
 use Rattle.steps.specs.Calls.{opened}
 use Rattle.board.specs.Boards.{open_of}

@@ -1,6 +1,5 @@
 -- `board::Board::with_entries` meets its contract. Assumes nothing.
 use mathlib.Core.Path.{ap, ap₂, ◌∙◌}
-use borrow.Author.Rules.{rules}
 use Rattle.stops.specs.Answer.{Answer, passing, stop_at, then}
 use Rattle.stops.specs.declared.Stop.TheVariants.{BadClue, BadEntry}
 use Rattle.stops.proofs.Answers.{map-then}

@@ -1,17 +1,11 @@
-use mathlib.Core.Path.{◌≡◌, refl, ap, ◌∙◌}
-use mathlib.Core.Bool.{◌||◌}
-use Prim.Native.Nat.{◌-◌}
+use mathlib.Core.Path.{refl, ap, ◌∙◌}
 use native.Mathlib.Omega.{arith}
-use borrow.Author.Rules.{rules}
 use lib.IntN.{pos}
 use lib.ListN.{get_or}
 use mir.Facts.{to_z-of_z}
 use mir.Syntax.{w32}
 use Rattle.grid.specs.Cells.{cells}
-use Rattle.grid.specs.Lists.{range}
-use Rattle.steps.specs.Calls.{bad_clue, first_bad_clue}
-use Rattle.steps.specs.Loops.{first}
-use Rattle.board.specs.code.Checks.{is_found}
+use Rattle.steps.specs.Calls.{bad_clue}
 use Rattle.board.proofs.Flags.{flag-on, flag-end}
 use Rattle.board.proofs.clues.any_bad.Goals as goal
 

@@ -1,19 +1,13 @@
 -- `board::clues::any_bad` meets its contract. Assumes nothing.
-use mathlib.Core.Path.{◌≡◌, refl, ap, ◌∙◌}
+use mathlib.Core.Path.{◌≡◌}
 use mathlib.Core.Bool.{◌||◌}
 use Prim.Native.Nat.{◌-◌}
-use native.Mathlib.Omega.{arith}
-use borrow.Author.Rules.{rules}
 use lib.IntN.{pos}
 use lib.ListN.{get_or}
-use mir.Facts.{to_z-of_z}
-use mir.Syntax.{w32}
-use Rattle.grid.specs.Cells.{cells}
 use Rattle.grid.specs.Lists.{range}
 use Rattle.steps.specs.Calls.{bad_clue, first_bad_clue}
 use Rattle.steps.specs.Loops.{first}
 use Rattle.board.specs.code.Checks.{is_found}
-use Rattle.board.proofs.Flags.{flag-on, flag-end}
 use Rattle.board.proofs.clues.any_bad.Given as goal
 
 abbrev pub invariant-loop-cell : goal.invariant-loop-cell

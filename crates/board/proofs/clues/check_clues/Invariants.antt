@@ -1,20 +1,11 @@
 -- `board::clues::check_clues` meets its contract. Assumes nothing.
-use mathlib.Core.Path.{◌≡◌, refl, ap, ◌∙◌}
+use mathlib.Core.Path.{◌≡◌}
 use Prim.Native.Nat.{◌-◌}
-use native.Mathlib.Omega.{arith}
-use borrow.Author.Rules.{rules}
 use lib.IntN.{pos}
 use lib.ListN.{get_or}
-use mir.Facts.{to_z-of_z}
-use mir.Syntax.{w32}
-use Rattle.grid.specs.Cells.{cells}
 use Rattle.grid.specs.Lists.{range}
-use Rattle.stops.specs.declared.Stop.TheVariants.{BadClue}
-use Rattle.stops.proofs.Answers.{found-stop, none_found}
 use Rattle.steps.specs.Calls.{bad_clue, first_bad_clue}
 use Rattle.steps.specs.Loops.{first}
-use Rattle.steps.proofs.Searches.{found, passed, ended}
-use Rattle.board.proofs.Flags.{unflagged}
 use Rattle.board.proofs.clues.check_clues.Given as goal
 
 abbrev pub invariant-loop-cell : goal.invariant-loop-cell

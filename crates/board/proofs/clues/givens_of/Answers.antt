@@ -1,14 +1,12 @@
-use mathlib.Core.Path.{◌≡◌, refl, ap, ◌∙◌}
-use Prim.Native.Nat.{◌-◌}
+use mathlib.Core.Path.{refl, ap, ◌∙◌}
 use native.Mathlib.Omega.{arith}
-use borrow.Author.Rules.{rules}
 use lib.IntN.{pos}
 use lib.ListN.{get_or, replicate}
 use mir.Facts.{to_z-of_z}
 use mir.Syntax.{w32}
 use Rattle.grid.specs.Cells.{cells}
 use Rattle.steps.specs.Boards.{digit_of, givens_of}
-use Rattle.grid.proofs.Fills.{filled, fill_start, fill_on, fill_end}
+use Rattle.grid.proofs.Fills.{fill_start, fill_on, fill_end}
 use Rattle.board.proofs.clues.givens_of.Goals as goal
 
 pub loop-cell-init : goal.loop-cell-init

@@ -1,15 +1,10 @@
 -- `board::clues::givens_of` meets its contract. Assumes nothing.
-use mathlib.Core.Path.{◌≡◌, refl, ap, ◌∙◌}
+use mathlib.Core.Path.{◌≡◌}
 use Prim.Native.Nat.{◌-◌}
-use native.Mathlib.Omega.{arith}
-use borrow.Author.Rules.{rules}
 use lib.IntN.{pos}
-use lib.ListN.{get_or, replicate}
-use mir.Facts.{to_z-of_z}
-use mir.Syntax.{w32}
-use Rattle.grid.specs.Cells.{cells}
+use lib.ListN.{get_or}
 use Rattle.steps.specs.Boards.{digit_of, givens_of}
-use Rattle.grid.proofs.Fills.{filled, fill_start, fill_on, fill_end}
+use Rattle.grid.proofs.Fills.{filled}
 use Rattle.board.proofs.clues.givens_of.Given as goal
 
 abbrev pub invariant-loop-cell : goal.invariant-loop-cell

@@ -1,19 +1,13 @@
 -- `board::entries::any_bad_entry` meets its contract. Assumes nothing.
-use mathlib.Core.Path.{◌≡◌, refl, ap₂, ◌∙◌}
+use mathlib.Core.Path.{◌≡◌}
 use mathlib.Core.Bool.{◌||◌}
 use Prim.Native.Nat.{◌-◌}
-use native.Mathlib.Omega.{arith}
-use borrow.Author.Rules.{rules}
 use lib.IntN.{pos}
 use lib.ListN.{get_or}
-use mir.Facts.{to_z-of_z}
-use mir.Syntax.{w32}
-use Rattle.grid.specs.Cells.{cells}
 use Rattle.grid.specs.Lists.{range}
 use Rattle.steps.specs.Calls.{bad_entry, first_bad_entry}
 use Rattle.steps.specs.Loops.{first}
 use Rattle.board.specs.code.Checks.{is_found}
-use Rattle.board.proofs.Flags.{flag-on, flag-end}
 use Rattle.board.proofs.entries.any_bad_entry.Given as goal
 
 abbrev pub invariant-loop-cell : goal.invariant-loop-cell

@@ -4,7 +4,6 @@ use mathlib.Core.Bool.{true, false, not}
 use mathlib.Core.List.{List}
 use Prim.Native.Nat.{ℕ}
 use native.Mathlib.Omega.{arith}
-use borrow.Author.Rules.{rules}
 use borrow.Author.Tests.{le-leb, lt-leb, eq-eqb, ne_eqb}
 use lib.Dec.{leb}
 use lib.IntN.{ℤ, pos}
@@ -49,43 +48,39 @@ returns-then-cell-gt80 c = five _ _ _ _ (le-leb 81 c.args.cell (omega arith))
 pub returns-then-given_digit-eq0 : goal.returns-then-given_digit-eq0
 returns-then-given_digit-eq0 c =
     let digit : c.given_digit.result ≡ digit_of c.args.digit = (
-      c.given_digit.ensures ∙ ap digit_of (to_z-of_z c.ranges.digit)
+    c.given_digit.ensures ∙ ap digit_of (to_z-of_z c.ranges.digit)
     ) in
-
     ap refused_with (to_z-of_z c.ranges.digit)
     ∙ four _ _ _ _ (lt-leb 81 c.args.cell (omega arith)) (eq-eqb (digit_of c.args.digit) 0 (sym (digit) ∙ c.if-given_digit-eq0.true))
 
 pub returns-then-has_digit : goal.returns-then-has_digit
 returns-then-has_digit c =
     let digit : c.given_digit.result ≡ digit_of c.args.digit = (
-      c.given_digit.ensures ∙ ap digit_of (to_z-of_z c.ranges.digit)
+    c.given_digit.ensures ∙ ap digit_of (to_z-of_z c.ranges.digit)
     ) in
     let some : no_digit c.args.digit ≡ false = (
-      ne_eqb (digit_of c.args.digit) 0 (λ e. c.if-given_digit-eq0.false (digit ∙ e))
+    ne_eqb (digit_of c.args.digit) 0 (λ e. c.if-given_digit-eq0.false (digit ∙ e))
     ) in
-
     twelve _ _ _ _ (lt-leb 81 c.args.cell (omega arith)) (some) (sym c.has_digit.ensures ∙ c.if-has_digit.true)
 
 pub returns-then-has_digit-2 : goal.returns-then-has_digit-2
 returns-then-has_digit-2 c =
     let digit : c.given_digit.result ≡ digit_of c.args.digit = (
-      c.given_digit.ensures ∙ ap digit_of (to_z-of_z c.ranges.digit)
+    c.given_digit.ensures ∙ ap digit_of (to_z-of_z c.ranges.digit)
     ) in
     let some : no_digit c.args.digit ≡ false = (
-      ne_eqb (digit_of c.args.digit) 0 (λ e. c.if-given_digit-eq0.false (digit ∙ e))
+    ne_eqb (digit_of c.args.digit) 0 (λ e. c.if-given_digit-eq0.false (digit ∙ e))
     ) in
-
     thirteen _ _ _ _ (lt-leb 81 c.args.cell (omega arith)) (some) (sym c.has_digit.ensures ∙ c.if-has_digit.false)
     (sym c.has_digit-2.ensures ∙ c.if-has_digit-2.true)
 
 pub returns : goal.returns
 returns c =
     let digit : c.given_digit.result ≡ digit_of c.args.digit = (
-      c.given_digit.ensures ∙ ap digit_of (to_z-of_z c.ranges.digit)
+    c.given_digit.ensures ∙ ap digit_of (to_z-of_z c.ranges.digit)
     ) in
     let some : no_digit c.args.digit ≡ false = (
-      ne_eqb (digit_of c.args.digit) 0 (λ e. c.if-given_digit-eq0.false (digit ∙ e))
+    ne_eqb (digit_of c.args.digit) 0 (λ e. c.if-given_digit-eq0.false (digit ∙ e))
     ) in
-
     entered _ _ _ _ (lt-leb 81 c.args.cell (omega arith)) (some) (sym c.has_digit.ensures ∙ c.if-has_digit.false)
     (sym c.has_digit-2.ensures ∙ c.if-has_digit-2.false)

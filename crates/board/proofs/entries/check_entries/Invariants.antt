@@ -1,20 +1,11 @@
 -- `board::entries::check_entries` meets its contract. Assumes nothing.
-use mathlib.Core.Path.{◌≡◌, refl, ap₂, ◌∙◌}
+use mathlib.Core.Path.{◌≡◌}
 use Prim.Native.Nat.{◌-◌}
-use native.Mathlib.Omega.{arith}
-use borrow.Author.Rules.{rules}
 use lib.IntN.{pos}
 use lib.ListN.{get_or}
-use mir.Facts.{to_z-of_z}
-use mir.Syntax.{w32}
-use Rattle.grid.specs.Cells.{cells}
 use Rattle.grid.specs.Lists.{range}
-use Rattle.stops.specs.declared.Stop.TheVariants.{BadEntry}
-use Rattle.stops.proofs.Answers.{found-stop, none_found}
 use Rattle.steps.specs.Calls.{bad_entry, first_bad_entry}
 use Rattle.steps.specs.Loops.{first}
-use Rattle.steps.proofs.Searches.{found, passed, ended}
-use Rattle.board.proofs.Flags.{unflagged}
 use Rattle.board.proofs.entries.check_entries.Given as goal
 
 abbrev pub invariant-loop-cell : goal.invariant-loop-cell

@@ -1,6 +1,5 @@
 -- `board::entries::enter` meets its contract. Assumes nothing.
 use mathlib.Core.Path.{sym, ap, ◌∙◌}
-use borrow.Author.Rules.{rules}
 use lib.IntN.{ℤ}
 use lib.ListN.{set}
 use mir.Facts.{to_z-of_z}

@@ -1,6 +1,5 @@
 -- `board::entries::fresh_board` meets its contract. Assumes nothing.
 use mathlib.Core.Path.{ap, ◌∙◌}
-use borrow.Author.Rules.{rules}
 use Rattle.steps.specs.Boards.{fresh}
 use Rattle.steps.specs.Calls.{opened_with}
 use Rattle.board.specs.Boards.{handed}

@@ -1,5 +1,4 @@
 -- `board::entries::rub_out` meets its contract. Assumes nothing.
-use borrow.Author.Rules.{rules}
 use lib.IntN.{pos}
 use lib.ListN.{set}
 use Rattle.steps.specs.Entries.{rub_out}

@@ -1,15 +1,9 @@
 -- `board::fresh::fresh_masks` meets its contract. Assumes nothing.
-use mathlib.Core.Path.{◌≡◌, ap, ◌∙◌}
-use mathlib.Core.List.{List}
-use Prim.Native.Nat.{ℕ, ◌-◌, ◌≤◌}
-use native.Mathlib.Omega.{arith}
-use borrow.Author.Rules.{rules}
-use lib.ListN.{replicate}
+use mathlib.Core.Path.{◌≡◌}
+use Prim.Native.Nat.{◌-◌, ◌≤◌}
 use Rattle.grid.specs.Lists.{each, range}
-use Rattle.grid.proofs.Lists.{turn-done, turns-over}
 use Rattle.steps.specs.Boards.{fresh}
 use Rattle.board.specs.code.Fresh.{fresh_row}
-use Rattle.board.proofs.Taken.{fresh-rows}
 use Rattle.board.proofs.fresh.fresh_masks.Given as goal
 
 abbrev pub invariant-loop-row : goal.invariant-loop-row

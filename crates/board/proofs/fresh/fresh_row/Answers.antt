@@ -1,14 +1,9 @@
-use mathlib.Core.Path.{◌≡◌, refl, ap, ◌∙◌}
-use mathlib.Core.List.{List}
-use Prim.Native.Nat.{ℕ, ◌-◌, ◌≤◌}
+use mathlib.Core.Path.{refl, ap, ◌∙◌}
 use native.Mathlib.Omega.{arith}
-use borrow.Author.Rules.{rules}
 use lib.ListN.{set}
 use Rattle.grid.specs.Cells.{cell}
-use Rattle.grid.specs.Lists.{each, range}
 use Rattle.grid.proofs.Lists.{turn-done, turns-over}
 use Rattle.steps.specs.Boards.{given}
-use Rattle.grid.specs.Marks.{seen}
 use Rattle.board.specs.code.Fresh.{fresh_mask, fresh_row}
 use Rattle.board.proofs.fresh.fresh_row.Invariants.{turn}
 use Rattle.board.proofs.fresh.fresh_row.Goals as goal

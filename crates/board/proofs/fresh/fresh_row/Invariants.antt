@@ -1,13 +1,10 @@
 -- `board::fresh::fresh_row` meets its contract. The invariant: the cells that are left still make the whole row. Assumes nothing.
-use mathlib.Core.Path.{◌≡◌, refl, ap, ◌∙◌}
+use mathlib.Core.Path.{◌≡◌}
 use mathlib.Core.List.{List}
 use Prim.Native.Nat.{ℕ, ◌-◌, ◌≤◌}
-use native.Mathlib.Omega.{arith}
-use borrow.Author.Rules.{rules}
 use lib.ListN.{set}
 use Rattle.grid.specs.Cells.{cell}
 use Rattle.grid.specs.Lists.{each, range}
-use Rattle.grid.proofs.Lists.{turn-done, turns-over}
 use Rattle.steps.specs.Boards.{given}
 use Rattle.grid.specs.Marks.{seen}
 use Rattle.board.specs.code.Fresh.{fresh_mask, fresh_row}

@@ -1,13 +1,10 @@
 use mathlib.Core.Path.{◌≡◌, refl, sym, ap, ◌∙◌}
-use mathlib.Core.Logic.{⊎_elim}
 use mathlib.Core.List.{List}
-use Prim.Native.Nat.{ℕ, ◌-◌, ◌≤◌}
+use Prim.Native.Nat.{ℕ}
 use native.Mathlib.Omega.{arith}
-use borrow.Author.Rules.{rules}
 use borrow.Author.Tests.{eq-eqb, ne_eqb}
 use Rattle.candidates.proofs.Tests.{cond-true, cond-false}
 use Rattle.grid.specs.Cells.{cell}
-use Rattle.grid.specs.Lists.{each, range}
 use Rattle.grid.specs.Marks.{join_units}
 use Rattle.grid.proofs.Lists.{turn-done, turns-over}
 use Rattle.steps.specs.Boards.{given, given_mask, is_open}
@@ -38,8 +35,11 @@ loop-col-preserved c =
     joined : c.if-digit-ne0.sets ≡ join_given g r k s
     joined =
         unfold join_given in
-        elim c.if-digit-ne0.branch [ then-digit-ne0 w ↦ w.sets-is ∙ w.join_units.ensures ∙ ap (λ (x : ℕ). join_units (cell r k) x s) w.given_mask.ensures
-        ∙ sym (cond-false (is_open g (cell r k)) s (join_units (cell r k) (given_mask g (cell r k)) s) (ne_eqb (given g (cell r k)) 0 w.if-digit-ne0.true)) | else-digit-ne0 w ↦ w.sets-is ∙ sym (cond-true (is_open g (cell r k)) s (join_units (cell r k) (given_mask g (cell r k)) s) (eq-eqb (given g (cell r k)) 0 w.if-digit-ne0.false)) ]
+        elim c.if-digit-ne0.branch [
+          | then-digit-ne0 w ↦ w.sets-is ∙ w.join_units.ensures ∙ ap (λ (x : ℕ). join_units (cell r k) x s) w.given_mask.ensures
+              ∙ sym (cond-false (is_open g (cell r k)) s (join_units (cell r k) (given_mask g (cell r k)) s) (ne_eqb (given g (cell r k)) 0 w.if-digit-ne0.true))
+          | else-digit-ne0 w ↦ w.sets-is ∙ sym (cond-true (is_open g (cell r k)) s (join_units (cell r k) (given_mask g (cell r k)) s) (eq-eqb (given g (cell r k)) 0 w.if-digit-ne0.false))
+        ]
 
 pub returns : goal.returns
 returns c = turns-over _ 9 c.loop-col.col c.loop-col-test.false c.loop-col.invariant.1

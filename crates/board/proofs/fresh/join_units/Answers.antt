@@ -1,6 +1,5 @@
 -- `board::fresh::join_units` meets its contract. Assumes nothing.
 use mathlib.Core.Path.{◌∙◌}
-use borrow.Author.Rules.{rules}
 use Rattle.grid.proofs.Marks.{joined-three}
 use Rattle.board.proofs.fresh.join_units.Goals as goal
 

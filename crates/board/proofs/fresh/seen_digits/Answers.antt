@@ -1,6 +1,5 @@
 -- `board::fresh::seen_digits` meets its contract. Assumes nothing.
 use mathlib.Core.Path.{◌∙◌}
-use borrow.Author.Rules.{rules}
 use Rattle.grid.proofs.Marks.{seen-three}
 use Rattle.board.proofs.fresh.seen_digits.Goals as goal
 

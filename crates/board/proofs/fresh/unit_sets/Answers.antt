@@ -1,9 +1,7 @@
-use mathlib.Core.Path.{◌≡◌, refl}
-use Prim.Native.Nat.{◌-◌, ◌≤◌}
+use mathlib.Core.Path.{refl}
 use native.Mathlib.Omega.{arith}
-use Rattle.grid.specs.Lists.{each, range}
 use Rattle.grid.proofs.Lists.{turn-done, turns-over}
-use Rattle.board.specs.code.Fresh.{join_row, unit_sets}
+use Rattle.board.specs.code.Fresh.{unit_sets}
 use Rattle.board.proofs.fresh.unit_sets.Goals as goal
 
 pub loop-row-init : goal.loop-row-init

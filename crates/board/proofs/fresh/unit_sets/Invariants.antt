@@ -1,9 +1,7 @@
 -- `board::fresh::unit_sets` meets its contract. Assumes nothing.
-use mathlib.Core.Path.{◌≡◌, refl}
+use mathlib.Core.Path.{◌≡◌}
 use Prim.Native.Nat.{◌-◌, ◌≤◌}
-use native.Mathlib.Omega.{arith}
 use Rattle.grid.specs.Lists.{each, range}
-use Rattle.grid.proofs.Lists.{turn-done, turns-over}
 use Rattle.board.specs.code.Fresh.{join_row, unit_sets}
 use Rattle.board.proofs.fresh.unit_sets.Given as goal
 

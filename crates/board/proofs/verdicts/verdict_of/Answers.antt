@@ -1,11 +1,10 @@
 use mathlib.Core.Path.{◌≡◌, refl, sym, ap, ◌∙◌}
-use mathlib.Core.Logic.{◌≢◌, ⊎_elim}
+use mathlib.Core.Logic.{◌≢◌}
 use mathlib.Core.Bool.{Bool, true, false, cond, not, ◌&&◌, and-true, and-false, true≢false}
 use mathlib.Core.List.{List}
 use Prim.Native.Nat.{ℕ, ◌+◌, ◌-◌, ◌≤◌, ◌<◌}
 use native.Mathlib.Omega.{arith}
-use borrow.Author.Rules.{rules}
-use borrow.Author.Tests.{eq-eqb, ne_eqb, not-true, not-false}
+use borrow.Author.Tests.{eq-eqb, ne_eqb}
 use lib.Dec.{eqb}
 use lib.IntN.{ℤ, pos}
 use lib.ListN.{set, replicate}
@@ -87,8 +86,8 @@ pub loop-cell-preserved : goal.loop-cell-preserved
 loop-cell-preserved c =
     let l = c.loop-cell.invariant in
     elim c.match-single_candidate.branch [
-      in-Several w ↦ rw w.digits-is (several l (omega arith) (single-tells _ (sym w.in-Several.is ∙ c.single_candidate.ensures)) w.finished-is)
-    | in-Digit w ↦ digit l (omega arith) (sym w.in-Digit.is ∙ c.single_candidate.ensures) w.digits-is w.finished-is
+      | in-Several w ↦ rw w.digits-is (several l (omega arith) (single-tells _ (sym w.in-Several.is ∙ c.single_candidate.ensures)) w.finished-is)
+      | in-Digit w ↦ digit l (omega arith) (sym w.in-Digit.is ∙ c.single_candidate.ensures) w.digits-is w.finished-is
     ]
 
 pub returns-then-not-finished : goal.returns-then-not-finished

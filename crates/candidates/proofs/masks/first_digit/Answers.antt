@@ -1,5 +1,4 @@
-use Rattle.std.proofs.Common.{◌≡◌, ℕ, ◌+◌, ◌-◌, ◌/◌, ◌^◌, ◌≤◌, ◌<◌, sym, ap, arith}
-use Rattle.candidates.specs.Masks.{first_place}
+use Rattle.std.proofs.Common.{ℕ, ◌+◌, ◌/◌, ◌^◌, sym, ap, arith}
 use Rattle.candidates.proofs.Counts.{first-end, first-shifted, lowest-le}
 use Rattle.candidates.proofs.masks.first_digit.Goals as goal
 

@@ -1,6 +1,5 @@
 -- `cells::meets::lose_met` meets its contract. Assumes nothing.
 use mathlib.Core.Path.{sym, ◌∙◌}
-use borrow.Author.Rules.{rules}
 use Rattle.cells.proofs.Meetings.{met-lost, met-kept}
 use Rattle.cells.proofs.Losses.{told_none}
 use Rattle.cells.proofs.meets.lose_met.Goals as goal

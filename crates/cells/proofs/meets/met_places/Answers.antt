@@ -1,7 +1,6 @@
 -- `cells::meets::met_places` meets its contract: the table of the source is the one of the definition. Assumes nothing.
 use mathlib.Core.Path.{refl, sym}
 use mathlib.Core.List.{[], ◌∷◌}
-use borrow.Author.Rules.{rules}
 use lib.ListN.{get_or-eq_default}
 use Rattle.cells.specs.code.Meets.{met_places}
 use Rattle.cells.proofs.meets.met_places.Goals as goal

@@ -1,6 +1,5 @@
 -- `cells::meets::outside` meets its contract. Assumes nothing.
 use mathlib.Core.Path.{ap, ◌∙◌}
-use borrow.Author.Rules.{rules}
 use Rattle.candidates.specs.Masks.{minus}
 use Rattle.cells.specs.code.Meets.{met_places, outside}
 use Rattle.cells.proofs.meets.outside.Goals as goal

@@ -1,12 +1,9 @@
-use mathlib.Core.Path.{◌≡◌, refl, ap₂}
-use mathlib.Core.List.{List, map}
-use Prim.Native.Nat.{ℕ, ◌-◌}
+use mathlib.Core.Path.{refl, ap₂}
+use mathlib.Core.List.{List}
+use Prim.Native.Nat.{ℕ}
 use native.Mathlib.Omega.{arith}
-use borrow.Author.Rules.{rules}
 use lib.ListN.{replicate, length-replicate}
-use Rattle.grid.proofs.Fills.{filled, fill_start, fill_on, fill_end}
-use Rattle.steps.specs.Boards as boards
-use Rattle.steps.specs.Loops.{up_to}
+use Rattle.grid.proofs.Fills.{fill_start, fill_on, fill_end}
 use Rattle.cells.specs.code.Notes.{steps_held}
 use Rattle.cells.specs.declared.notes.Steps.{Steps}
 use Rattle.cells.proofs.notes.steps_of.Goals as goal

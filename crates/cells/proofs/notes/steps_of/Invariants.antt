@@ -1,15 +1,10 @@
 -- `cells::notes::steps_of` meets its contract. The invariant: the bytes that are left still make the whole. Assumes nothing.
-use mathlib.Core.Path.{◌≡◌, refl, ap₂}
-use mathlib.Core.List.{List, map}
-use Prim.Native.Nat.{ℕ, ◌-◌}
-use native.Mathlib.Omega.{arith}
-use borrow.Author.Rules.{rules}
-use lib.ListN.{replicate, length-replicate}
-use Rattle.grid.proofs.Fills.{filled, fill_start, fill_on, fill_end}
+use mathlib.Core.Path.{◌≡◌}
+use mathlib.Core.List.{map}
+use Prim.Native.Nat.{◌-◌}
+use Rattle.grid.proofs.Fills.{filled}
 use Rattle.steps.specs.Boards as boards
 use Rattle.steps.specs.Loops.{up_to}
-use Rattle.cells.specs.code.Notes.{steps_held}
-use Rattle.cells.specs.declared.notes.Steps.{Steps}
 use Rattle.cells.proofs.notes.steps_of.Given as goal
 
 abbrev pub invariant-loop-at : goal.invariant-loop-at

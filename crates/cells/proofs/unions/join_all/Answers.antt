@@ -1,12 +1,6 @@
-use mathlib.Core.Path.{◌≡◌, refl}
-use mathlib.Core.List.{List}
-use Prim.Native.Nat.{ℕ, ◌-◌, ◌≤◌}
+use mathlib.Core.Path.{refl}
 use native.Mathlib.Omega.{arith}
-use borrow.Author.Rules.{rules}
-use Rattle.candidates.specs.Masks.{union}
 use Rattle.grid.proofs.Lists.{turn-done, turns-over}
-use Rattle.steps.specs.Boards.{at}
-use Rattle.steps.specs.Loops.{each, range}
 use Rattle.cells.specs.code.Unions.{joined}
 use Rattle.cells.proofs.unions.join_all.Invariants.{turn}
 use Rattle.cells.proofs.unions.join_all.Goals as goal

@@ -1,13 +1,7 @@
-use mathlib.Core.Path.{◌≡◌, refl, ap, ◌∙◌}
-use mathlib.Core.Bool.{cond}
-use mathlib.Core.List.{List}
-use Prim.Native.Nat.{ℕ, ◌-◌, ◌≤◌}
+use mathlib.Core.Path.{refl, ap, ◌∙◌}
 use native.Mathlib.Omega.{arith}
-use borrow.Author.Rules.{rules}
-use Rattle.candidates.specs.Masks.{has, union}
+use Rattle.candidates.specs.Masks.{union}
 use Rattle.grid.proofs.Lists.{turn-done, turns-over}
-use Rattle.steps.specs.Boards.{at}
-use Rattle.steps.specs.Loops.{each, range}
 use Rattle.cells.specs.code.Unions.{joined_at}
 use Rattle.cells.proofs.unions.join_places.Invariants.{turn}
 use Rattle.cells.proofs.unions.join_places.Goals as goal

@@ -1,13 +1,8 @@
-use mathlib.Core.Path.{◌≡◌, refl, ap, ◌∙◌}
-use mathlib.Core.List.{List}
-use Prim.Native.Nat.{ℕ, ◌-◌, ◌≤◌}
+use mathlib.Core.Path.{refl, ap, ◌∙◌}
 use native.Mathlib.Omega.{arith}
-use borrow.Author.Rules.{rules}
 use Rattle.candidates.specs.Masks.{union}
 use Rattle.grid.proofs.Lists.{turn-done, turns-over}
-use Rattle.steps.specs.Boards.{at}
-use Rattle.steps.specs.Loops.{each, range}
-use Rattle.cells.specs.code.Unions.{several_in, several_of}
+use Rattle.cells.specs.code.Unions.{several_of}
 use Rattle.cells.proofs.unions.several.Invariants.{turn}
 use Rattle.cells.proofs.unions.several.Goals as goal
 

@@ -1,10 +1,7 @@
-use mathlib.Core.Path.{◌≡◌, refl, sym, ap, ◌∙◌}
-use Prim.Native.Nat.{◌-◌, ◌≤◌}
+use mathlib.Core.Path.{refl, sym, ap, ◌∙◌}
 use native.Mathlib.Omega.{arith}
-use borrow.Author.Rules.{rules}
 use Rattle.candidates.specs.Masks.{union}
-use Rattle.steps.specs.Loops.{range}
-use Rattle.cells.specs.code.Unions.{shared_from, shared_of}
+use Rattle.cells.specs.code.Unions.{shared_of}
 use Rattle.cells.proofs.Shared.{shared-on, shared-end}
 use Rattle.cells.proofs.unions.shared.Goals as goal
 

@@ -1,12 +1,8 @@
 -- `cells::unions::shared` meets its contract. The invariant: the places that are left still make the whole. Assumes nothing.
-use mathlib.Core.Path.{◌≡◌, refl, sym, ap, ◌∙◌}
+use mathlib.Core.Path.{◌≡◌}
 use Prim.Native.Nat.{◌-◌, ◌≤◌}
-use native.Mathlib.Omega.{arith}
-use borrow.Author.Rules.{rules}
-use Rattle.candidates.specs.Masks.{union}
 use Rattle.steps.specs.Loops.{range}
 use Rattle.cells.specs.code.Unions.{shared_from, shared_of}
-use Rattle.cells.proofs.Shared.{shared-on, shared-end}
 use Rattle.cells.proofs.unions.shared.Given as goal
 
 abbrev pub invariant-loop-place : goal.invariant-loop-place

@@ -3,7 +3,6 @@ use mathlib.Core.Path.{ap, ◌∙◌}
 use Prim.Native.Nat.{◌+◌}
 use Rattle.grid.specs.Marks.{join_at}
 use Rattle.grid.proofs.Marks.{joined-three}
-use borrow.Author.Rules.{rules}
 use Rattle.grid.proofs.verifier.join_units.Goals as goal
 
 pub returns : goal.returns

@@ -1,11 +1,7 @@
 -- `grid::verifier::mark_band` meets its contract. The invariant: the numbers of the first 3 * band + row rows are fine, and the array has the marks after them. Assumes nothing.
-use mathlib.Core.Path.{refl}
 use mathlib.Core.Bool.{true}
 use Prim.Native.Nat.{◌+◌, ◌*◌, ◌-◌, ◌≤◌}
-use native.Mathlib.Omega.{arith}
-use borrow.Author.Tests.{not-true, not-false}
 use Rattle.grid.specs.code.Standing.{Standing}
-use Rattle.grid.proofs.Standing.{standing-yes, standing-no}
 use Rattle.grid.proofs.verifier.mark_band.Given as goal
 
 abbrev pub invariant-loop-row : goal.invariant-loop-row

@@ -4,7 +4,6 @@ use Prim.Native.Nat.{ℕ}
 use lib.ListN.{get_or}
 use Rattle.candidates.specs.Masks.{union}
 use Rattle.grid.proofs.Marks.{seen-three}
-use borrow.Author.Rules.{rules}
 use Rattle.grid.proofs.verifier.seen_digits.Goals as goal
 
 pub returns : goal.returns

@@ -1,13 +1,7 @@
-use mathlib.Core.Path.{◌≡◌, refl, sym, ◌∙◌}
-use mathlib.Core.Logic.{⊎_elim}
-use Prim.Native.Nat.{◌-◌, ◌≤◌}
+use mathlib.Core.Path.{refl, sym, ◌∙◌}
 use native.Mathlib.Omega.{arith}
-use borrow.Author.Rules.{rules}
 use Rattle.grid.specs.code.Scopes.{in_scope}
-use Rattle.steps.specs.Loops.{range, select}
-use Rattle.table_text.specs.Tables.{numbers}
-use Rattle.output.specs.code.Tapes.{tape, append}
-use Rattle.table_text.specs.code.Pushes.{entries, in_row}
+use Rattle.output.specs.code.Tapes.{tape}
 use Rattle.table_text.proofs.Numbers.{whole, taken, passed, row-over}
 use Rattle.table_text.proofs.rows.push_cells.Goals.{else-in_scope, then-in_scope}
 use Rattle.table_text.proofs.rows.push_cells.Goals as goal

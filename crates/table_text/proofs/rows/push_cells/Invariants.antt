@@ -1,15 +1,11 @@
 -- `table_text::rows::push_cells` meets its contract. The invariant: the cells that are left still make the row. Assumes nothing.
-use mathlib.Core.Path.{◌≡◌, refl, sym, ◌∙◌}
-use mathlib.Core.Logic.{⊎_elim}
+use mathlib.Core.Path.{◌≡◌}
 use Prim.Native.Nat.{◌-◌, ◌≤◌}
-use native.Mathlib.Omega.{arith}
-use borrow.Author.Rules.{rules}
 use Rattle.grid.specs.code.Scopes.{in_scope}
 use Rattle.steps.specs.Loops.{range, select}
 use Rattle.table_text.specs.Tables.{numbers}
 use Rattle.output.specs.code.Tapes.{tape, append}
 use Rattle.table_text.specs.code.Pushes.{entries, in_row}
-use Rattle.table_text.proofs.Numbers.{whole, taken, passed, row-over}
 use Rattle.table_text.proofs.rows.push_cells.Given as goal
 
 abbrev pub invariant-loop-cell : goal.invariant-loop-cell

@@ -2,7 +2,6 @@
 use mathlib.Core.Path.{sym, ap, ◌∙◌}
 use mathlib.Core.Bool.{Bool}
 use mathlib.Core.List.{[], ◌∷◌}
-use borrow.Author.Rules.{rules}
 use Rattle.output.specs.Decimals.{decimal}
 use Rattle.output.specs.code.Tapes.{tape, append}
 use Rattle.table_text.specs.code.Pushes.{entry}

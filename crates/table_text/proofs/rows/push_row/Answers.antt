@@ -1,6 +1,5 @@
 -- `table_text::rows::push_row` meets its contract. Assumes nothing.
 use mathlib.Core.Path.{◌∙◌}
-use borrow.Author.Rules.{rules}
 use Rattle.output.specs.code.Tapes.{tape}
 use Rattle.table_text.specs.code.Pushes.{in_row}
 use Rattle.output.proofs.Tapes.{append-one}

@@ -2,7 +2,6 @@
 use mathlib.Core.Path.{sym, ap, ◌∙◌}
 use mathlib.Core.List.{List, [], ◌∷◌}
 use Prim.Native.Nat.{ℕ, ◌/◌, ◌%◌}
-use borrow.Author.Rules.{rules}
 use Rattle.output.specs.Decimals.{digit_byte}
 use Rattle.output.proofs.Decimals.{decimal-one}
 use Rattle.output.specs.code.Tapes.{tape, append}

@@ -1,10 +1,5 @@
-use mathlib.Core.Path.{◌≡◌, refl}
-use Prim.Native.Nat.{◌-◌}
-use native.Mathlib.Omega.{arith}
-use borrow.Author.Rules.{rules}
-use lib.ListN.{length, drop}
 use Rattle.grid.proofs.Lists.{member-done, members-over}
-use Rattle.output.specs.code.Tapes.{tape, pushed, append}
+use Rattle.output.specs.code.Tapes.{pushed, append}
 use Rattle.table_text.proofs.words.push_word.Goals as goal
 
 pub loop-i-preserved : goal.loop-i-preserved

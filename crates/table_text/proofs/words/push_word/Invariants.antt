@@ -1,11 +1,8 @@
 -- `table_text::words::push_word` meets its contract. The invariant: the bytes from i on still make all of the word. Assumes nothing.
-use mathlib.Core.Path.{◌≡◌, refl}
+use mathlib.Core.Path.{◌≡◌}
 use Prim.Native.Nat.{◌-◌}
-use native.Mathlib.Omega.{arith}
-use borrow.Author.Rules.{rules}
 use lib.ListN.{length, drop}
-use Rattle.grid.proofs.Lists.{member-done, members-over}
-use Rattle.output.specs.code.Tapes.{tape, pushed, append}
+use Rattle.output.specs.code.Tapes.{tape, append}
 use Rattle.table_text.proofs.words.push_word.Given as goal
 
 abbrev pub invariant-loop-i : goal.invariant-loop-i
