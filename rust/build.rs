@@ -10,7 +10,7 @@ fn main() {
     let archive = folder.join("libsudoku.a");
     println!("cargo:rerun-if-changed={}", archive.display());
     if !archive.is_file() {
-        panic!("{} is missing: run `rt staticlib sudoku` at the repository's root, or name its folder in SUDOKU_LIB_DIR", archive.display());
+        panic!("{} is missing: run `tools/build.sh sudoku` at the repository's root, or name its folder in SUDOKU_LIB_DIR", archive.display());
     }
     println!("cargo:rustc-link-search=native={}", folder.display());
     println!("cargo:rustc-link-lib=static=sudoku");

@@ -4,13 +4,14 @@
     python3 tools/believed.py          prints the table
     python3 tools/believed.py --check  fails where docs/PROOFS.md has another one
 
-Both fail where a file of specs/ is not in the list, or imports from specs/code/ or from proofs/: a reader who believes the files of the table needs no others.
-A line of definitions is no import, no comment and not blank. Files of specs/code/ need no belief and are left out.
+Both fail where a file of specs/ is not in the list, or imports from a crate's specs/code/ or proofs/: a reader who believes the files of the table needs no
+others but the kit's. A line of definitions is no import, no comment and not blank. Files of specs/code/ need no belief and are left out.
 """
 import os
 import re
 import sys
 
+ROOT = os.path.dirname(os.path.dirname(os.path.abspath(__file__)))
 ORDER = [
     ("stops/specs/Stops", "the paper's table of stops"),
     ("stops/specs/Answer", "answers: a value or a stop, and one call after the other"),
@@ -95,7 +96,8 @@ ORDER = [
     ("sudoku/specs/Ratings", "the export of the difficulty figure"),
 ]
 PASSED_OVER = re.compile(r"\s*($|--|use |pub use |unfoldable pub use |pub mod |mod )")
-UNBELIEVED = re.compile(r"\s*(unfoldable )?(pub )?use Rattle·\S*\.(specs\.code|proofs)\b")
+CRATES = "|".join(sorted(os.listdir(os.path.join(ROOT, "crates"))))
+UNBELIEVED = re.compile(rf"\s*(unfoldable )?(pub )?use Rattle\.({CRATES})\.(specs\.code|proofs)\b")
 
 
 def lines(path):
@@ -111,8 +113,7 @@ def check_imports(path):
 
 
 def main():
-    root = os.path.dirname(os.path.dirname(os.path.abspath(__file__)))
-    os.chdir(root)
+    os.chdir(ROOT)
     believed, code = set(), 0
     for folder, _, files in os.walk("crates"):
         for name in files:

@@ -117,7 +117,7 @@ def main():
     os.chdir(root)
     os.environ.setdefault("CARGO_TARGET_DIR", os.path.join(root, "target/cargo"))
     os.environ.setdefault("CARGO_HOME", os.path.join(root, "target/cargo-home"))
-    run(["rt", "staticlib", "sudoku"], stdout=sys.stderr)
+    run(["tools/build.sh", "sudoku"], stdout=sys.stderr)
     run(["cargo", "build", "--release", "--offline", "--locked", "--manifest-path", "host/Cargo.toml", "--bin", "measure"], stdout=sys.stderr)
     program = os.path.join(os.environ["CARGO_TARGET_DIR"], "release/measure")
     if files:

@@ -1,5 +1,5 @@
 #!/usr/bin/env bash
-# Tries the program report, on the archive that `rt staticlib sudoku` has made: its pages and lines against what tools/report.py makes of the same rounds.
+# Tries the program report, on the archive that `tools/build.sh sudoku` has made: its pages and lines against what tools/report.py makes of the same rounds.
 # Where HTML Tidy is at hand, it must have nothing to say of a page. What cannot be tried is said in a line. Its own tests
 # are run with those of the Rust package.
 set -euo pipefail

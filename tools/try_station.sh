@@ -1,5 +1,5 @@
 #!/usr/bin/env bash
-# Tries the engine from other languages, on the archive that `rt staticlib sudoku` has made: the example station as C, as C++ and as Rust against
+# Tries the engine from other languages, on the archive that `tools/build.sh sudoku` has made: the example station as C, as C++ and as Rust against
 # examples/station/expected, and the tests of the Rust package and of the Python module. What cannot be tried is said in a line.
 set -euo pipefail
 cd "$(dirname "$0")/.."

@@ -2,8 +2,8 @@
 # Tries wrong answers on the contracts: the edits of tools/wrong_answers/CRATE together with those that the gate keeps in
 # crates/CRATE/must-fail, by `rt must-fail` on a copy of the repository.
 # Usage: tools/wrong_answers.sh [CRATE..]    (none named: every crate that has a folder here)
-# For each edit it prints where the refusal stands; all that the prover said is kept in target/wrong_answers/CRATE/NAME.log.
-# Status 0 only if every edit is refused, and none because the proof's text no longer fits the code.
+# For each edit it prints where the refusal stands; what rt said of a crate's edits is kept in target/wrong_answers/CRATE.log.
+# Status 0 only if every edit is refused, and none only because a proof file names what the edit took away.
 set -euo pipefail
 shopt -s nullglob
 cd "$(dirname "$0")/.."
@@ -13,46 +13,65 @@ fi
 
 room=$(mktemp -d)
 trap 'rm -rf "$room"' EXIT
-cp -R crates crates.txt "$room/"
-[ ! -d target ] || cp -R target "$room/"
-# `rt must-fail` tries the edits of the crates below too: only those of this crate stand in the copy.
-rm -rf "$room"/crates/*/must-fail
+cp crates.txt "$room/"
+[ ! -f HANDLES ] || cp HANDLES "$room/"
+for crate in crates/*/; do
+    mkdir -p "$room/$crate"
+    for part in src specs proofs; do
+        [ ! -d "$crate$part" ] || cp -R "$crate$part" "$room/$crate"
+    done
+done
+mkdir -p target/wrong_answers
 
-# The functions and laws whose facts failed, without what only follows from them.
-places() { # LOG
-    {
-        sed -n '/was not admitted/d; s|^\(proofs/\)\{0,1\}\([^ :]*\):[0-9]*:[0-9]*: error: `\([^`]*\)`.*|\2 \3|p' "$1" | sed 's|/Proof\.antt||'
-        sed -n 's,^fn [a-z_]*::\([^ ]*\): no proof: .*`search` does not close `\([^`]*\)`.*,\1 \2,p' "$1"
-    } | awk '!seen[$0]++ && n++ < 4 { printf "%s%s", sep, $0; sep = ", " }'
+# place CRATE MESSAGE: the function or law and the goal of it that failed
+place() {
+    local said='([^ :]+):([0-9]+):[0-9]+: (error: |it is not proved that [^(]*\()`([^`]*)`'
+    if [[ ! $2 =~ $said ]]; then
+        printf '%s' "$2"
+        return
+    fi
+    local file=${BASH_REMATCH[1]#./} line=${BASH_REMATCH[2]} goal=${BASH_REMATCH[4]} at
+    case $file in
+        proofs/*) at=$(printf '%s' "${file#proofs/}" | sed -E 's,/(Answers|Invariants|Proof)\.antt$,,') ;;
+        *)
+            at=$(sed -nE "1,${line}s/^ *(pub )?(extern \"C\" )?fn ([a-z0-9_]+).*/\3/p" "crates/$1/$file" | tail -n 1)
+            file=${file#src/}
+            file=${file%.rt}
+            [ "$file" = lib ] || [ "$file" = main ] || at=$file/$at
+            ;;
+    esac
+    printf '%s %s' "$at" "$goal"
 }
 
-tried=0 refused=0 unfit=0
+tried=0 refused=0 named=0 limited=0
 for crate; do
-    set="$room/crates/$crate/must-fail"
-    mkdir "$set"
-    cp "tools/wrong_answers/$crate"/*.edit "crates/$crate/must-fail"/*.edit "$set/"
-    (cd "$room" && rt must-fail "$crate") >"$room/said" 2>&1 </dev/null || true
-    kept=target/wrong_answers/$crate
-    rm -rf "$kept"
-    mkdir -p "$kept"
-    for edit in "$set"/*.edit; do
-        name=$(basename "$edit" .edit)
-        copy=$room/target/must-fail/$crate/$name
-        log=$kept/$name.log
+    mkdir "$room/crates/$crate/must-fail"
+    edits=("tools/wrong_answers/$crate"/*.edit "crates/$crate/must-fail"/*.edit)
+    cp "${edits[@]}" "$room/crates/$crate/must-fail/"
+    log=target/wrong_answers/$crate.log
+    (cd "$room" && rt must-fail "$crate") >"$log" 2>&1 </dev/null || true
+    for edit in "${edits[@]}"; do
+        name=$(basename "$edit")
         tried=$((tried + 1))
-        if ! grep -Fq "must-fail $crate/$name: refused" "$room/said"; then
-            grep -F "must-fail $crate/$name:" "$room/said" || echo "$crate/$name: NOT TRIED"
-            continue
-        fi
-        refused=$((refused + 1))
-        sed "s|$copy/||g" "$copy/.log" >"$log"
-        echo "$crate/$name: refused at $(places "$log")"
-        if grep -Eq 'error: .*(not in scope|that can be named from here|this pattern needs a function|type has [0-9]+ components|has no field|expected type `tie\.Need)' "$log"; then
-            unfit=$((unfit + 1))
-            echo "$crate/$name: THE PROOF'S TEXT NO LONGER FITS: find another edit"
-        fi
+        said=$(sed -n "s|^rt: must-fail $crate/$name: ||p" "$log")
+        case $said in
+            'refused, as it must be'*) refused=$((refused + 1)) ;;
+        esac
+        case $said in
+            '') echo "$crate/$name: NOT TRIED" ;;
+            *'(only because a proof file names what the edit took away'*)
+                named=$((named + 1))
+                echo "$crate/$name: REFUSED ONLY BY A NAME: find another edit: ${said#*): }"
+                ;;
+            *'(only by a limit of the prover'*)
+                limited=$((limited + 1))
+                echo "$crate/$name: refused only by a limit of the prover: ${said#*): }"
+                ;;
+            'refused, as it must be: '*) echo "$crate/$name: refused at $(place "$crate" "${said#*: }")" ;;
+            *) echo "$crate/$name: $said" ;;
+        esac
     done
-    rm -rf "$set"
+    rm -rf "$room/crates/$crate/must-fail"
 done
-echo "$tried tried, $refused refused, $unfit of them because the proof's text no longer fits"
-[ "$tried" -eq "$refused" ] && [ "$unfit" -eq 0 ]
+echo "$tried tried, $refused refused, $limited of them only by a limit of the prover, $named only because a proof file names what the edit took away"
+[ "$tried" -eq "$refused" ] && [ "$named" -eq 0 ]

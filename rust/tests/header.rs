@@ -106,7 +106,7 @@ fn the_exports_are_those_of_the_header() {
     let (exported, declared, header) = (exported(), declared(), header());
     assert_eq!(exported["sudoku_run"], ["const u8", "usize", "const i32 81", "const i32 81", "mut u16 81", "mut i64 4", ""]);
     assert_eq!((exported["sudoku_verify"].join(", "), exported["sudoku_abi"].join(", ")), ("const i32 81, bool".to_string(), "u32".to_string()));
-    assert_eq!(exported.len(), EXPORTED.matches("#[no_mangle]").count());
+    assert_eq!(exported.len(), EXPORTED.matches("#[unsafe(no_mangle)]").count());
     assert_eq!(declared, exported);
     assert_eq!(header, exported);
 }
