@@ -1,11 +1,11 @@
 // The candidates of a board as a drawn grid: nine rows of pencil marks, all cells as wide as the widest, with rulings between the boxes.
 ghost use Rattle.std.specs.Prelude.{◌<◌};
 
-use std::io;
 use crate::lines;
 use crate::losses::push_digits;
 use candidates::masks;
 use card::lines::{Lines, push, push_word};
+use std::io;
 
 // How many marks the widest cell has, one at least.
 fn widest(masks: &[u16; 81]) -> usize {
@@ -54,7 +54,8 @@ fn push_three(line: &mut Lines, at: usize, masks: &[u16; 81], cell: usize, width
 }
 
 fn print_row(rt: &impl Print, masks: &[u16; 81], row: usize, width: usize) -> io::Result<()>
-    requires { row < 9 } {
+    requires { row < 9 }
+{
     let mut line = lines::empty();
     let left = push_three(&mut line, 0, masks, 9 * row, width);
     let middle = push_three(&mut line, left, masks, 9 * row + 3, width);
@@ -84,7 +85,8 @@ fn print_ruling(rt: &impl Print, width: usize) -> io::Result<()> {
 
 // A ruling, and three rows from this one on.
 fn print_band(rt: &impl Print, masks: &[u16; 81], row: usize, width: usize) -> io::Result<()>
-    requires { row < 7 } {
+    requires { row < 7 }
+{
     print_ruling(rt, width)?;
     print_row(rt, masks, row, width)?;
     print_row(rt, masks, row + 1, width)?;

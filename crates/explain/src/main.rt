@@ -4,21 +4,21 @@
 // What a line says of a step is the list of settling, taken step by step as the checker of step lists does. Each line is made in lent bytes and written out.
 #![tactic(auto)]
 
-use std::io;
 use board::Board;
 use board::entries::fresh_board;
 use board::verdicts::verdict_of;
 use card::layout::verdict_line;
 use card::write_refusal;
 use passes::apply_settling;
+use std::io;
 use stops::Check;
 
 mod drawing;
 mod figures;
+mod input;
 mod lines;
 mod losses;
 mod names;
-mod reading;
 mod steps;
 
 fn refuse(rt: &impl Print, answer: Check) -> io::Result<()> {
@@ -49,7 +49,7 @@ fn explain(rt: &impl Print, board: Board) -> io::Result<()> {
 }
 
 fn main(rt: HostRuntime) -> io::Result<()> {
-    let parsed = reading::read_clues(&rt)?;
+    let parsed = input::read_clues(&rt)?;
     let answer = parsed.answer;
     let clues = parsed.clues;
     let Check::Passed = answer else {

@@ -2,7 +2,6 @@
 // checker accepts.
 ghost use Rattle.std.specs.Prelude.{◌<◌};
 
-use std::io;
 use crate::lines;
 use crate::losses::push_losses;
 use crate::names::push_step;
@@ -10,6 +9,7 @@ use board::Board;
 use board::entries::givens_of;
 use card::lines::{Lines, push, push_number};
 use cells::notes::Steps;
+use std::io;
 use step_lists::kinds::take_at;
 
 fn wide(byte: u8) -> usize {
@@ -36,8 +36,15 @@ fn push_title(line: &mut Lines, bytes: &[u8; 4374], index: usize) -> usize
 }
 
 // A step is taken, and its line written out.
-fn print_step(rt: &impl Print, givens: &[u8; 81], masks: &mut [u16; 81], bytes: &[u8; 4374], index: usize) -> io::Result<()>
-    requires { index < 729 } {
+fn print_step(
+    rt: &impl Print,
+    givens: &[u8; 81],
+    masks: &mut [u16; 81],
+    bytes: &[u8; 4374],
+    index: usize,
+) -> io::Result<()>
+    requires { index < 729 }
+{
     let before = *masks;
     take_at(givens, masks, bytes, 6 * index);
     let mut line = lines::empty();
