@@ -6,11 +6,11 @@
 // number, its flag, a checksum of the masks after it, and each report, its cell and its digit.
 #![tactic(auto)]
 
-use std::io;
-use reading::read_full;
 use board::Board;
 use calls::Stepping;
 use printing::{mask_sum, number, refusal, word};
+use reading::read_full;
+use std::io;
 use stops::{Check, Stop};
 use techniques::singles::Reports;
 
