@@ -2,8 +2,8 @@
 // text, `.` for open. tools/trial_check.py makes the file `stdout` from the words of document 02, and knows nothing of this crate.
 #![tactic(auto)]
 
-use std::io;
 use printing::{number, refusal, word};
+use std::io;
 use stops::Check;
 use trial_rounds::trial_round;
 
@@ -13,7 +13,13 @@ const STARTS: [u32; 10] = [
 
 const PERCENTAGES: [u32; 10] = [0, 1, 25, 50, 75, 99, 100, 101, 2147483648, 4294967295];
 
-fn show(rt: &impl Print, name: u64, solution: &[i32; 81], start: u32, percentage: u32) -> io::Result<()> {
+fn show(
+    rt: &impl Print,
+    name: u64,
+    solution: &[i32; 81],
+    start: u32,
+    percentage: u32,
+) -> io::Result<()> {
     let round = trial_round(start, percentage, solution);
     let answer = round.answer;
     let clues = round.clues;
