@@ -3,10 +3,10 @@
 // tools/board_check.py makes the file `stdout` from the paper's words, and knows nothing of this crate.
 #![tactic(auto)]
 
-use std::io;
 use board::entries::Pencilled;
 use board::{Board, BoardVerdict, CellMask, Counting, Verdict, clues, entries};
 use printing::{fold, mask_sum, number, refusal, word};
+use std::io;
 use stops::{Check, Stop, Writing};
 
 const NUMBERS: [i32; 7] = [-2147483648, -1, 0, 1, 9, 10, 2147483647];
@@ -51,7 +51,14 @@ fn clue_sum(grid: &[i32; 81]) -> u64 {
     byte_sum(&clues::givens_of(grid))
 }
 
-fn checked(rt: &impl Print, name: &[u8], a: u64, b: u64, answer: Check, value: u64) -> io::Result<()> {
+fn checked(
+    rt: &impl Print,
+    name: &[u8],
+    a: u64,
+    b: u64,
+    answer: Check,
+    value: u64,
+) -> io::Result<()> {
     match answer {
         Check::Passed => line(rt, name, a, b, value)?,
         Check::Refused(stop) => refused(rt, name, a, b, stop)?,
