@@ -2,12 +2,12 @@
 // a text or clue numbers with the stop and what stands beside it, `step NUMBER FLAG REMOVED` by step numbers, a mask by its cell.
 #![tactic(auto)]
 
-use std::io;
 use board::entries::{Pencilled, enter, rub_out};
 use board::{Board, BoardVerdict, CellMask, Counting, Verdict};
 use calls::{Stepping, step};
 use printing::{number, refusal, word};
 use record::{move_back, move_record, write_record};
+use std::io;
 use stops::{Check, Stop, Writing};
 
 fn end(rt: &impl Print) -> io::Result<()> {
@@ -264,7 +264,11 @@ fn filled(rt: &impl Print) -> io::Result<()> {
     verify(rt, b"P6 verify 0", with_clue(a, 80, 0))?;
     verify(rt, b"P6 verify 10", with_clue(a, 80, 10))?;
     verify(rt, b"P6 verify -2147483648", with_clue(a, 80, -2147483648))?;
-    verify(rt, b"P6 verify exchanged", with_clue(with_clue(a, 0, 2), 1, 1))?;
+    verify(
+        rt,
+        b"P6 verify exchanged",
+        with_clue(with_clue(a, 0, 2), 1, 1),
+    )?;
     Ok(())
 }
 
