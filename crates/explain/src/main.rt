@@ -15,10 +15,10 @@ use stops::Check;
 
 mod drawing;
 mod figures;
-mod input;
 mod lines;
 mod losses;
 mod names;
+mod reading;
 mod steps;
 
 fn refuse(rt: &impl Print, answer: Check) -> io::Result<()> {
@@ -49,7 +49,7 @@ fn explain(rt: &impl Print, board: Board) -> io::Result<()> {
 }
 
 fn main(rt: HostRuntime) -> io::Result<()> {
-    let parsed = input::read_clues(&rt)?;
+    let parsed = reading::read_clues(&rt)?;
     let answer = parsed.answer;
     let clues = parsed.clues;
     let Check::Passed = answer else {

@@ -8,8 +8,8 @@
 
 use board::Board;
 use calls::Stepping;
+use input::read_full;
 use printing::{mask_sum, number, refusal, word};
-use reading::read_full;
 use std::io;
 use stops::{Check, Stop};
 use techniques::singles::Reports;

@@ -5,7 +5,7 @@ ghost use Rattle.std.specs.Prelude.{◌≡◌, ◌≤◌, length};
 ghost use Rattle.card.specs.Cards.{card_of, printed};
 ghost use Rattle.output.specs.Lent.{over};
 
-use reading::read_full;
+use input::read_full;
 use std::io;
 use std::io::Write;
 use stops::Writing;

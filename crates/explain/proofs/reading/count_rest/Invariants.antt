@@ -1,6 +1,6 @@
 -- What was counted, with a piece for each turn that is left, is no more than a piece a turn from the start on.
 use Rattle.std.proofs.Common.{◌≤◌, ◌+◌, ◌*◌}
-use Rattle.explain.proofs.input.count_rest.Given as goal
+use Rattle.explain.proofs.reading.count_rest.Given as goal
 
 abbrev pub decreases-loop-turns : goal.decreases-loop-turns
 decreases-loop-turns g l = l.turns

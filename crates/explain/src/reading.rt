@@ -2,7 +2,7 @@
 // 4,096 bytes are kept; what comes after them is counted.
 ghost use Rattle.std.specs.Prelude.{◌≤◌, ◌<◌, IfOk};
 
-use reading::read_full;
+use input::read_full;
 use std::io;
 use stops::{Check, Stop};
 use text::sheets::parse_sheet;

@@ -1,6 +1,6 @@
 -- The bytes keep their length, and no more are read than there are.
 use Rattle.std.proofs.Common.{length, ◌-◌, ◌≤◌}
-use Rattle.reading.proofs.read_full.Given as goal
+use Rattle.input.proofs.read_full.Given as goal
 
 abbrev pub invariant-loop-done : goal.invariant-loop-done
 invariant-loop-done g l = l.done ≤ length l.bytes
