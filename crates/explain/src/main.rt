@@ -19,7 +19,7 @@ mod lines;
 mod losses;
 mod names;
 mod reading;
-mod steps;
+mod step_lines;
 
 fn refuse(rt: &impl Print, answer: Check) -> io::Result<()> {
     let mut line = lines::empty();
@@ -40,7 +40,7 @@ fn explain(rt: &impl Print, board: Board) -> io::Result<()> {
     let after = apply_settling(board);
     let settled = after.board;
     let masks = settled.masks;
-    steps::print_steps(rt, board, after.steps)?;
+    step_lines::print_steps(rt, board, after.steps)?;
     lines::write_line(rt, lines::empty(), 0)?;
     drawing::print_grid(rt, &masks)?;
     figures::print_difficulty(rt, board)?;
@@ -49,7 +49,7 @@ fn explain(rt: &impl Print, board: Board) -> io::Result<()> {
 }
 
 fn main(rt: HostRuntime) -> io::Result<()> {
-    let parsed = reading::read_clues(&rt)?;
+    let parsed = reading::read_clues(&rt);
     let answer = parsed.answer;
     let clues = parsed.clues;
     let Check::Passed = answer else {

@@ -1,9 +1,8 @@
 // Standard input as the sheet reader takes it (document 02, F-2), unless its first line is one of a round: then that line's grid. No more than a sheet's
 // 4,096 bytes are kept; what comes after them is counted.
-ghost use Rattle.std.specs.Prelude.{◌≤◌, ◌<◌, IfOk};
+ghost use Rattle.std.specs.Prelude.{◌≤◌, ◌<◌};
 
 use input::read_full;
-use std::io;
 use stops::{Check, Stop};
 use text::sheets::parse_sheet;
 use text::{Parsed, byte_at, parse_string};
@@ -73,47 +72,46 @@ fn is_round_line(text: &[u8]) -> bool {
 }
 
 // How many bytes come next: fewer than 4,096 where the input ends.
-fn pass_over(rt: &impl Input) -> io::Result<u64>
-    ensures { IfOk result (λ n. n ≤ 4096) }
+fn pass_over(rt: &impl Input) -> u64
+    ensures { result ≤ 4096 }
 {
     let mut piece = [0u8; 4096];
-    let read = read_full(rt, &mut piece)?;
-    Ok(read as u64)
+    read_full(rt, &mut piece) as u64
 }
 
 // How many bytes come until the input ends. A proved loop has to end, and nothing says that an input does: it counts its turns down, from a number
 // that no run uses up.
-fn count_rest(rt: &impl Input) -> io::Result<u64>
-    ensures { IfOk result (λ n. n ≤ 4611686018427387904) }
+fn count_rest(rt: &impl Input) -> u64
+    ensures { result ≤ 4611686018427387904 }
 {
     let mut count: u64 = 0;
     let mut turns: u64 = 1125899906842624;
     while 0 < turns {
-        let read = pass_over(rt)?;
+        let read = pass_over(rt);
         count += read;
         if read < 4096 {
-            return Ok(count);
+            return count;
         }
         turns -= 1;
     }
-    Ok(count)
+    count
 }
 
 // The clues of the round's line or of the sheet, or the sheet reader's stop: for 10 the whole length is counted.
-pub fn read_clues(rt: &impl Input) -> io::Result<Parsed> {
+pub fn read_clues(rt: &impl Input) -> Parsed {
     let mut sheet = [0u8; 4096];
-    let read = read_full(rt, &mut sheet)?;
+    let read = read_full(rt, &mut sheet);
     if is_round_line(&sheet[..read]) {
-        return Ok(first_cells(&sheet[..read]));
+        return first_cells(&sheet[..read]);
     }
     if read == 4096 {
-        let rest = count_rest(rt)?;
+        let rest = count_rest(rt);
         if 0 < rest {
-            return Ok(Parsed {
+            return Parsed {
                 answer: Check::Refused(Stop::SheetLength((4096 + rest) as i64)),
                 clues: [0; 81],
-            });
+            };
         }
     }
-    Ok(parse_sheet(&sheet[..read]))
+    parse_sheet(&sheet[..read])
 }

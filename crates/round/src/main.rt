@@ -21,6 +21,10 @@ fn write_first(to: &mut impl Write, bytes: &[u8], count: usize) -> io::Result<()
     Ok(())
 }
 
+fn write_made(to: &mut impl Write, out: &[u8; 256], count: usize) -> io::Result<()> {
+    write_first(to, out, count)
+}
+
 // The bytes to hand out stand in the piece where they are `raw`, else in `out`.
 fn hand_out(
     rt: &impl Print,
@@ -32,7 +36,7 @@ fn hand_out(
     if raw {
         return write_first(&mut io::writer(rt), piece, count);
     }
-    write_first(&mut io::writer(rt), out, count)
+    write_made(&mut io::writer(rt), out, count)
 }
 
 // All lines of a piece. Each turn uses a byte at least.
@@ -50,10 +54,13 @@ fn feed_piece(rt: &impl Print, state: State, piece: &[u8]) -> io::Result<State> 
     Ok(now)
 }
 
-// One read.
+// One read. A read that fails ends the input.
 fn read_some(rt: &(impl Input + Print), state: State) -> io::Result<Turn> {
     let mut piece = [0u8; 65536];
-    let count = rt.reader().read(&mut piece)?;
+    let count = match rt.reader().read(&mut piece) {
+        Ok(count) => count,
+        Err(_) => 0,
+    };
     if count == 0 {
         return Ok(Turn { state, more: false });
     }
@@ -82,9 +89,9 @@ fn read_all(rt: &(impl Input + Print)) -> io::Result<State> {
 fn main(rt: HostRuntime) -> io::Result<()> {
     let mut out = [0u8; 256];
     let ended = finish(read_all(&rt)?, &mut out);
-    write_first(&mut io::writer(&rt), &out, ended.count)?;
+    write_made(&mut io::writer(&rt), &out, ended.count)?;
     let last = ended.state;
     let tally = last.tally;
     let count = write_summary(tally, &mut out);
-    write_first(&mut rt.stderr(), &out, count)
+    write_made(&mut rt.stderr(), &out, count)
 }

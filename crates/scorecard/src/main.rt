@@ -23,7 +23,7 @@ fn print(input: &[u8], out: &mut [u8; 256]) -> usize
 
 fn main(rt: HostRuntime) -> io::Result<()> {
     let mut input = [0u8; 4096];
-    let read = read_full(&rt, &mut input)?;
+    let read = read_full(&rt, &mut input);
     let mut out = [0u8; 256];
     let count = print(&input[..read], &mut out);
     io::writer(&rt).write_all(&out[..count])
