@@ -1,23 +1,24 @@
 -- The candidate set (module 1): what each call answers, from the digits of the set.
 use Rattle.std.specs.Prelude.{◌≡◌, ◌↔◌, Bool, true, false, cond, List, [], ◌∷◌, ℕ, zero, suc, ◌+◌, ◌-◌, min, eqb, ltb, ℤ, pos, negsuc}
+use Rattle.std.specs.Prelude as rust
+use Rattle.std.specs.Prelude.{Some, None}
 use Rattle.std.proofs.Math.Option.{Option, none, some}
 use Rattle.stops.specs.Answer.{Answer, gives, stop}
 use Rattle.stops.specs.declared.Stop.TheVariants.{BadDigit}
 use Rattle.candidates.specs.Masks.{low_nine, has, minus, union, count, single, first_place, lowest, One, More}
+use Rattle.candidates.specs.declared.SudokuCandidateIter.{SudokuCandidateIter}
 use Rattle.candidates.specs.declared.SingleCandidate.{SingleCandidate}
 use Rattle.candidates.specs.declared.SingleCandidate.TheVariants as only
-use Rattle.candidates.specs.declared.NextCandidate.{NextCandidate}
-use Rattle.candidates.specs.declared.NextCandidate.TheVariants as next
-use Rattle.candidates.specs.declared.NewSet.{NewSet}
-use Rattle.candidates.specs.declared.NewSet.TheVariants as new
-use Rattle.candidates.specs.declared.Presence.{Presence}
-use Rattle.candidates.specs.declared.Presence.TheVariants as presence
 
 -- the place of a digit, 0 to 8 for 1 to 9; 9 for a number that is no digit
 abbrev pub place : ℤ → ℕ
 place (pos zero) = 9
 place (pos (suc n)) = min n 9
 place (negsuc n) = 9
+
+-- the same where there is one
+abbrev pub place_if : ℤ → rust.Option ℕ
+place_if z = cond (ltb (place z) 9) (Some (place z)) None
 
 -- stop 4, "digit outside 1 to 9", with the digit beside it
 abbrev pub at_digit : {A : Type 0} → ℤ → A → Answer A
@@ -28,15 +29,6 @@ abbrev pub where_digit : ℤ → ℕ → ℕ → ℕ
 where_digit z new old = cond (ltb (place z) 9) new old
 
 -- ---- what the paper calls each case of an answer
-
-abbrev pub new_answer : NewSet → Answer ℕ
-new_answer (new.Set s) = gives s.mask
-new_answer (new.Refused s) = stop s
-
-abbrev pub presence_answer : Presence → Answer Bool
-presence_answer presence.Present = gives true
-presence_answer presence.Absent = gives false
-presence_answer (presence.Refused s) = stop s
 
 -- a digit or none, which is what 01 says: "empty and several both count as none"
 abbrev pub only_answer : SingleCandidate → Option ℤ
@@ -50,9 +42,9 @@ digit_or0 (some z) = z
 digit_or0 none = pos 0
 
 -- a digit, and the mask and the place that the iterator goes on with
-abbrev pub next_answer : NextCandidate → Option (ℤ × ℕ × ℕ)
-next_answer (next.Digit z rest) = some (z, rest.mask, rest.current)
-next_answer next.Done = none
+abbrev pub next_answer : rust.Option ℤ → SudokuCandidateIter → Option (ℤ × ℕ × ℕ)
+next_answer (Some z) rest = some (z, rest.mask, rest.current)
+next_answer None rest = none
 
 -- ---- the calls
 

@@ -1,22 +1,26 @@
 // The set's calls on a bare mask and a digit as a caller gives it, which may be any signed number.
 ghost use Rattle.std.specs.Prelude.{◌≡◌, ◌+◌, min, pos};
-ghost use Rattle.stops.specs.Answer.{check_answer};
-ghost use Rattle.candidates.specs.Sets.{place, presence_answer, contains_of, insert_of, inserted, removed};
+ghost use Rattle.stops.specs.Answer.{answer_of};
+ghost use Rattle.candidates.specs.Sets.{at_digit, place, place_if, contains_of, insert_of, inserted, removed};
 
-use crate::{Presence, masks};
-use stops::{Check, Stop};
+use crate::masks;
+use stops::Stop;
 
-// The place of a digit: 0 to 8, and 9 for a number outside 1 to 9.
-pub fn place_of(digit: i32) -> usize
-    ensures { result ≡ place digit }
+// The place of a digit, 0 to 8; none for a number outside 1 to 9.
+pub fn place_of(digit: i32) -> Option<usize>
+    ensures { result ≡ place_if digit }
 {
-    if digit < 1 {
-        return 9;
+    if digit < 1 || 9 < digit {
+        return None;
     }
-    if 9 < digit {
-        return 9;
-    }
-    digit as usize - 1
+    Some(digit as usize - 1)
+}
+
+// The same, or stop 4 with the digit.
+pub fn checked_place(digit: i32) -> Result<usize, Stop>
+    ensures { answer_of result ≡ at_digit digit (place digit) }
+{
+    place_of(digit).ok_or(Stop::BadDigit(digit))
 }
 
 // The digit at a place; places past the mask's 16 count as 16.
@@ -29,47 +33,36 @@ pub fn digit_at(place: usize) -> i32
     (place + 1) as i32
 }
 
-pub fn presence(mask: u16, digit: i32) -> Presence
-    ensures { presence_answer result ≡ contains_of mask digit }
+// Whether the digit is there.
+pub fn presence(mask: u16, digit: i32) -> Result<bool, Stop>
+    ensures { answer_of result ≡ contains_of mask digit }
 {
-    let place = place_of(digit);
-    if 9 <= place {
-        return Presence::Refused(Stop::BadDigit(digit));
-    }
-    if masks::has_digit(mask % 512, place) {
-        return Presence::Present;
-    }
-    Presence::Absent
+    Ok(masks::has_digit(mask % 512, checked_place(digit)?))
 }
 
-pub fn insertion(digit: i32) -> Check
-    ensures { check_answer result ≡ insert_of digit }
+pub fn insertion(digit: i32) -> Result<(), Stop>
+    ensures { answer_of result ≡ insert_of digit }
 {
-    let place = place_of(digit);
-    if 9 <= place {
-        return Check::Refused(Stop::BadDigit(digit));
-    }
-    Check::Passed
+    checked_place(digit)?;
+    Ok(())
 }
 
 // The mask after `insert`; a bad digit leaves it as it is, higher bits too.
 pub fn with_digit(mask: u16, digit: i32) -> u16
     ensures { result ≡ inserted mask digit }
 {
-    let place = place_of(digit);
-    if 9 <= place {
-        return mask;
+    match place_of(digit) {
+        Some(place) => masks::join(mask % 512, masks::digit_mask(place)),
+        None => mask,
     }
-    masks::join(mask % 512, masks::digit_mask(place))
 }
 
 // The mask after `remove`, likewise.
 pub fn without_digit(mask: u16, digit: i32) -> u16
     ensures { result ≡ removed mask digit }
 {
-    let place = place_of(digit);
-    if 9 <= place {
-        return mask;
+    match place_of(digit) {
+        Some(place) => masks::lose(mask % 512, masks::digit_mask(place)),
+        None => mask,
     }
-    masks::lose(mask % 512, masks::digit_mask(place))
 }

@@ -2,13 +2,14 @@
 // The passes work on bare masks by the functions of `masks`; the set is the same masks with the calls of the Rust.
 #![tactic(auto)]
 
-ghost use Rattle.std.specs.Prelude.{◌≡◌, eqb};
+ghost use Rattle.std.specs.Prelude.{◌≡◌, ◌-◌, eqb};
+ghost use Rattle.std.specs.Iterator.{at_most};
 ghost use Rattle.candidates.specs.Masks.{low_nine, count};
-ghost use Rattle.stops.specs.Answer.{check_answer};
-ghost use Rattle.candidates.specs.Sets.{new_answer, presence_answer, next_answer};
+ghost use Rattle.stops.specs.Answer.{answer_of, map};
+ghost use Rattle.candidates.specs.Sets.{next_answer};
 ghost use Rattle.candidates.specs.Sets.{single_of, contains_of, insert_of, inserted, removed, single_candidate_of, next_of};
 
-use stops::{Check, Stop};
+use stops::Stop;
 
 pub mod digits;
 pub mod lent;
@@ -20,21 +21,6 @@ pub struct SudokuCandidateSet {
     pub mask: u16,
 }
 
-// What `single` answers.
-#[derive(Clone, Copy)]
-pub enum NewSet {
-    Set(SudokuCandidateSet),
-    Refused(Stop),
-}
-
-// What `contains` and `remove` answer: whether the digit is there, or was.
-#[derive(Clone, Copy)]
-pub enum Presence {
-    Present,
-    Absent,
-    Refused(Stop),
-}
-
 // What `single_candidate` answers.
 #[derive(Clone, Copy)]
 pub enum SingleCandidate {
@@ -43,18 +29,11 @@ pub enum SingleCandidate {
     Several,
 }
 
-// The digits of `mask` at place `current` and above.
+// The digits of `mask` at place `current` and above, rising.
 #[derive(Clone, Copy)]
 pub struct SudokuCandidateIter {
     pub mask: u16,
     pub current: u8,
-}
-
-// What `next` answers: a digit and the iterator after it.
-#[derive(Clone, Copy)]
-pub enum NextCandidate {
-    Digit(i32, SudokuCandidateIter),
-    Done,
 }
 
 impl SudokuCandidateSet {
@@ -74,20 +53,16 @@ impl SudokuCandidateSet {
         Self { mask: Self::ALL }
     }
 
-    pub fn single(digit: i32) -> NewSet
-        ensures { new_answer result ≡ single_of digit }
+    pub fn single(digit: i32) -> Result<Self, Stop>
+        ensures { map (λ set. set.mask) (answer_of result) ≡ single_of digit }
     {
-        let place = digits::place_of(digit);
-        if 9 <= place {
-            return NewSet::Refused(Stop::BadDigit(digit));
-        }
-        NewSet::Set(Self {
-            mask: masks::digit_mask(place),
+        Ok(Self {
+            mask: masks::digit_mask(digits::checked_place(digit)?),
         })
     }
 
-    pub fn contains(self, digit: i32) -> Presence
-        ensures { presence_answer result ≡ contains_of self.mask digit }
+    pub fn contains(self, digit: i32) -> Result<bool, Stop>
+        ensures { answer_of result ≡ contains_of self.mask digit }
     {
         digits::presence(self.mask, digit)
     }
@@ -127,16 +102,16 @@ impl SudokuCandidateSet {
         }
     }
 
-    pub fn insert(&mut self, digit: i32) -> Check
-        ensures { (check_answer result ≡ insert_of digit) × (self.new.mask ≡ inserted self.old.mask digit) }
+    pub fn insert(&mut self, digit: i32) -> Result<(), Stop>
+        ensures { (answer_of result ≡ insert_of digit) × (self.new.mask ≡ inserted self.old.mask digit) }
     {
         self.mask = digits::with_digit(self.mask, digit);
         digits::insertion(digit)
     }
 
     // Says whether the digit was there.
-    pub fn remove(&mut self, digit: i32) -> Presence
-        ensures { (presence_answer result ≡ contains_of self.old.mask digit) × (self.new.mask ≡ removed self.old.mask digit) }
+    pub fn remove(&mut self, digit: i32) -> Result<bool, Stop>
+        ensures { (answer_of result ≡ contains_of self.old.mask digit) × (self.new.mask ≡ removed self.old.mask digit) }
     {
         let mask = self.mask;
         self.mask = digits::without_digit(mask, digit);
@@ -150,21 +125,19 @@ impl SudokuCandidateSet {
     }
 }
 
-impl SudokuCandidateIter {
-    pub fn next(self) -> NextCandidate
-        ensures { next_answer result ≡ next_of self.mask self.current }
-    {
-        let from = self.current as usize;
-        let place = masks::first_digit(self.mask, from);
+impl Iterator for SudokuCandidateIter {
+    type Item = i32;
+
+    ghost next_gives = { λ before digit after. next_answer digit after ≡ next_of before.mask before.current };
+
+    ghost remaining = { λ left. at_most (9 - left.current) };
+
+    fn next(&mut self) -> Option<i32> {
+        let place = masks::first_digit(self.mask, self.current as usize);
         if 9 <= place {
-            return NextCandidate::Done;
+            return None;
         }
-        NextCandidate::Digit(
-            digits::digit_at(place),
-            SudokuCandidateIter {
-                mask: self.mask,
-                current: (place + 1) as u8,
-            },
-        )
+        self.current = (place + 1) as u8;
+        Some(digits::digit_at(place))
     }
 }

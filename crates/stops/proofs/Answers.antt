@@ -6,9 +6,8 @@ use native.Mathlib.Omega.{arith}
 use lib.IntN.{ℤ}
 use mir.Syntax.{w64}
 use mir.Val.{to_z}
-use Rattle.stops.specs.Answer.{Answer, gives, stop, map, then, passing, stop_at, check_answer}
-use Rattle.stops.specs.declared.Check.{Check}
-use Rattle.stops.specs.declared.Check.TheVariants.{Refused}
+use Rattle.stops.specs.Answer.{Answer, gives, stop, map, then, passing, stop_at, answer_of}
+use Rattle.std.specs.Prelude.{Result, Ok, Err}
 use Rattle.stops.specs.declared.Stop.{Stop}
 use Rattle.stops.proofs.Numbers.{small}
 
@@ -31,8 +30,8 @@ map-then h (gives x) f = refl
 map-then h (stop s) f = refl
 
 -- a check c that answers k, and which of its cases it is
-pub told : {c d : Check} {k : Answer (Unit {0})} → check_answer c ≡ k → c ≡ d → check_answer d ≡ k
-told e is = ap check_answer (sym is) ∙ e
+pub told : {A : Type 0} {c d : Result A Stop} {k : Answer A} → answer_of c ≡ k → c ≡ d → answer_of d ≡ k
+told e is = ap answer_of (sym is) ∙ e
 
 -- a number that a search found, as the code holds it
 pub found-stop : (case : ℤ → Stop) {n : ℕ} {r : Option ℕ} → n < 2 ^ 63 → some n ≡ r → stop (case (to_z w64 n)) ≡ stop_at case r
@@ -42,9 +41,9 @@ pub none_found : (case : ℤ → Stop) {r : Option ℕ} → none ≡ r → gives
 none_found case e = ap (stop_at case) e
 
 -- what stands beside a check that answers k
-module _ {A : Type 0} (c : Check) {k : Answer (Unit {0})} (e : check_answer c ≡ k) where
-  pub refused-beside : {s : Stop} → c ≡ Refused s → (x y : A) → passing (check_answer c) x ≡ passing k y
-  refused-beside is x y = ap (λ (d : Check). passing (check_answer d) x) is ∙ ap (λ (a : Answer (Unit {0})). passing a y) (told e is)
+module _ {A : Type 0} (c : Result (Unit {0}) Stop) {k : Answer (Unit {0})} (e : answer_of c ≡ k) where
+  pub refused-beside : {s : Stop} → c ≡ Err s → (x y : A) → passing (answer_of c) x ≡ passing k y
+  refused-beside is x y = ap (λ (d : Result (Unit {0}) Stop). passing (answer_of d) x) is ∙ ap (λ (a : Answer (Unit {0})). passing a y) (told e is)
 
-  pub passed-beside : {x y : A} → x ≡ y → passing (check_answer c) x ≡ passing k y
-  passed-beside {x} {y} same = ap (passing (check_answer c)) same ∙ ap (λ (a : Answer (Unit {0})). passing a y) e
+  pub passed-beside : {x y : A} → x ≡ y → passing (answer_of c) x ≡ passing k y
+  passed-beside {x} {y} same = ap (passing (answer_of c)) same ∙ ap (λ (a : Answer (Unit {0})). passing a y) e

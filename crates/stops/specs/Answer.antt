@@ -1,13 +1,8 @@
--- What a call answers: its value, or a stop. Each enum of the engine that answers has one definition into this type, and the contracts speak through it.
-use Rattle.std.specs.Prelude.{Bool, ℕ, ℤ, pos}
+-- What a call answers: its value, or a stop. What the engine returns is a `Result` of the value and the stop; `answer_of` is that as an answer, and the contracts speak through it.
+use Rattle.std.specs.Prelude.{ℕ, ℤ, pos, Result, Ok, Err, Some, None}
+use Rattle.std.specs.Prelude as rust
 use Rattle.std.proofs.Math.Option.{Option, none, some}
 use Rattle.stops.specs.declared.Stop.{Stop}
-use Rattle.stops.specs.declared.Check.{Check}
-use Rattle.stops.specs.declared.Check.TheVariants as check
-use Rattle.stops.specs.declared.Progress.{Progress}
-use Rattle.stops.specs.declared.Progress.TheVariants as progress
-use Rattle.stops.specs.declared.Writing.{Writing}
-use Rattle.stops.specs.declared.Writing.TheVariants as writing
 
 pub data Answer (A : Type 0) : Type 0 where
   gives : A → Answer A
@@ -37,16 +32,12 @@ abbrev pub stop_at : (ℤ → Stop) → Option ℕ → Answer (Unit {0})
 stop_at case none = gives tt
 stop_at case (some n) = stop (case (pos n))
 
--- ---- the enums that several crates answer with
+-- what a call of the engine returns, as an answer
+abbrev pub answer_of : {A : Type 0} → Result A Stop → Answer A
+answer_of (Ok a) = gives a
+answer_of (Err s) = stop s
 
-abbrev pub check_answer : Check → Answer (Unit {0})
-check_answer check.Passed = gives tt
-check_answer (check.Refused s) = stop s
-
-abbrev pub writing_answer : Writing → Answer ℕ
-writing_answer (writing.Written n) = gives n
-writing_answer (writing.Refused s) = stop s
-
-abbrev pub progress_answer : Progress → Answer Bool
-progress_answer (progress.Made f) = gives f
-progress_answer (progress.Refused s) = stop s
+-- what a search of the engine returns, as an option of the definitions
+abbrev pub found_of : {A : Type 0} → rust.Option A → Option A
+found_of (Some a) = some a
+found_of None = none

@@ -1,8 +1,7 @@
-// The stops (refusals) of the paper's table and of document 02, one enum for all calls: "A refusal hands back only number and detail".
+// The stops (refusals) of the paper's table and of document 02, one error type for all calls: "A refusal hands back only number and detail".
 #![tactic(auto)]
 
 ghost use Rattle.std.specs.Prelude.{◌≡◌};
-ghost use Rattle.stops.specs.Answer.{check_answer, passing, then, writing_answer};
 ghost use Rattle.stops.specs.Stops.{row_of};
 
 // A place or a length stands beside its stop as an `i64`, the type that `detail` answers in; a caller's own digit, cell or percentage as it was handed in.
@@ -52,27 +51,6 @@ pub enum Stop {
     BadSolution,
     // A board with no open cell without an entry, which has no difficulty; nothing stands beside it.
     NoOpenCell,
-}
-
-// What a call answers whose value stands beside the answer.
-#[derive(Clone, Copy)]
-pub enum Check {
-    Passed,
-    Refused(Stop),
-}
-
-// What a writer answers: how many bytes it wrote.
-#[derive(Clone, Copy)]
-pub enum Writing {
-    Written(usize),
-    Refused(Stop),
-}
-
-// What a call answers that may make progress: whether it did.
-#[derive(Clone, Copy)]
-pub enum Progress {
-    Made(bool),
-    Refused(Stop),
 }
 
 // The paper's number of a stop.
@@ -132,25 +110,5 @@ pub fn detail(stop: Stop) -> i64
         Stop::BadPercentage(percentage) => percentage as i64,
         Stop::BadSolution => 0,
         Stop::NoOpenCell => 0,
-    }
-}
-
-// One check after the other: the first refusal stands.
-pub fn then(first: Check, second: Check) -> Check
-    ensures { check_answer result ≡ then (check_answer first) (λ _. check_answer second) }
-{
-    match first {
-        Check::Refused(stop) => Check::Refused(stop),
-        Check::Passed => second,
-    }
-}
-
-// What a writer answers that is checked first.
-pub fn written(check: Check, count: usize) -> Writing
-    ensures { writing_answer result ≡ passing (check_answer check) count }
-{
-    match check {
-        Check::Refused(stop) => Writing::Refused(stop),
-        Check::Passed => Writing::Written(count),
     }
 }
