@@ -1,5 +1,5 @@
 -- What a call hands back once its board is checked. Assumes nothing.
-use mathlib.Core.Path.{◌≡◌, refl, sym, ap, ap₂, ◌∙◌}
+use mathlib.Core.Path.{◌≡◌, sym, ap, ◌∙◌}
 use mathlib.Core.Bool.{true, false, cond}
 use mathlib.Core.List.{List, [], ◌∷◌}
 use Prim.Native.Nat.{ℕ, suc, ◌+◌, ◌-◌, ◌<◌, ◌≤◌}
@@ -7,8 +7,7 @@ use native.Mathlib.Omega.{arith}
 use borrow.Author.Tests.{lt-ltb, le-ltb}
 use lib.Dec.{ltb}
 use lib.ListN.{length}
-use Rattle.stops.specs.Answer.{Answer, gives, stop, passing, value_or, check_answer}
-use Rattle.stops.specs.declared.Check.{Check}
+use Rattle.stops.specs.Answer.{Answer, gives, stop, passing}
 use Rattle.stops.specs.declared.Stop.TheVariants.{NoCell}
 use Rattle.candidates.proofs.Tests.{by-test, cond-true, cond-false}
 use Rattle.grid.specs.Fillings.{verified}
@@ -17,24 +16,13 @@ use Rattle.grid.proofs.Lists.{range-on, range-end}
 use Rattle.steps.specs.Boards as S
 use Rattle.steps.specs.Boards.{at, givens, is_open}
 use Rattle.steps.specs.Calls.{check_of, Call, outcome, answer}
-use Rattle.board.specs.Boards.{board_of, no_board, clue_count, cell_mask, none_empty, all_single, only_digits, verdict_of}
-use Rattle.board.specs.declared.Opened.{Opened}
+use Rattle.board.specs.Boards.{clue_count, cell_mask, none_empty, all_single, only_digits, verdict_of}
 use Rattle.board.specs.declared.Verdict.TheVariants.{Finished, Open, Dead}
 
 -- ---- what a call answers, by what the check answered
 pub answers : (k : Call) (b : S.Board) {a : Answer (Unit {0})} → a ≡ check_of b → passing a (outcome k (givens b) b.masks) ≡ answer k b
 unfolding answer
 answers k b e = ap (λ (a : Answer (Unit {0})). passing a (outcome k (givens b) b.masks)) e
-
--- a value that stands beside its answer
-pub beside : {A : Type 0} (old new : A) (a : Answer (Unit {0})) → passing a (value_or old (passing a new)) ≡ passing a new
-beside old new (gives u) = refl
-beside old new (stop s) = refl
-
--- a board that was opened where the check passed
-pub opens : (r : Opened) (k : Check) (b : S.Board) {w : Answer S.Board} → passing (check_answer k) b ≡ w
-    → (r.answer ≡ k) × (board_of r.board ≡ value_or no_board (passing (check_answer k) b)) → (passing (check_answer r.answer) (board_of r.board) ≡ w) × (board_of r.board ≡ value_or no_board w)
-opens r k b is e = (ap₂ passing (ap check_answer e.0) e.1 ∙ beside no_board b (check_answer k) ∙ is, e.1 ∙ ap (value_or no_board) is)
 
 -- ---- clues counted
 

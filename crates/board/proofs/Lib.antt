@@ -3,5 +3,4 @@ pub mod Taken
 pub mod Flags
 pub mod Checks
 pub mod Answered
-pub mod Entering
 pub mod VerdictSays

@@ -1,5 +1,4 @@
 pub mod Boards
 pub mod Entering
 pub mod Verdicts
-pub mod Answers
 pub mod code

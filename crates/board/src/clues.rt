@@ -2,44 +2,33 @@
 // engine works on givens, the digit of each cell or 0 where it is open.
 ghost use Rattle.std.specs.Prelude.{◌≡◌};
 ghost use Rattle.steps.specs.Boards.{digit_of, givens_of};
-ghost use Rattle.stops.specs.Answer.{check_answer, stop_at};
+ghost use Rattle.stops.specs.Answer.{answer_of, stop_at};
 ghost use Rattle.stops.specs.declared.Stop.TheVariants.{BadClue};
 ghost use Rattle.steps.specs.Calls.{bad_clue, first_bad_clue};
 ghost use Rattle.board.specs.code.Checks.{is_found};
 
-use stops::{Check, Stop};
+use stops::Stop;
 
 // Whether a number is outside 0 to 9.
 pub fn is_bad(clue: i32) -> bool
     ensures { result ≡ bad_clue clue }
 {
-    if clue < 0 {
-        return true;
-    }
-    9 < clue
+    clue < 0 || 9 < clue
 }
 
 // The digit of a clue, 0 where its cell is open; 0 also for a number that is no clue.
 pub fn given_digit(clue: i32) -> u8
     ensures { result ≡ digit_of clue }
 {
-    if clue < 0 {
-        return 0;
-    }
-    if 9 < clue {
-        return 0;
-    }
-    clue as u8
+    if is_bad(clue) { 0 } else { clue as u8 }
 }
 
 pub fn givens_of(clues: &[i32; 81]) -> [u8; 81]
     ensures { result ≡ givens_of clues.now }
 {
     let mut givens = [0u8; 81];
-    let mut cell: usize = 0;
-    while cell < 81 {
+    for cell in 0..81 {
         givens[cell] = given_digit(clues[cell]);
-        cell += 1;
     }
     givens
 }
@@ -49,27 +38,23 @@ fn any_bad(clues: &[i32; 81]) -> bool
     ensures { result ≡ is_found (first_bad_clue clues.now) }
 {
     let mut any = false;
-    let mut cell: usize = 0;
-    while cell < 81 {
+    for cell in 0..81 {
         any = any | is_bad(clues[cell]);
-        cell += 1;
     }
     any
 }
 
 // Stop 3 with its first cell.
-pub fn check_clues(clues: &[i32; 81]) -> Check
-    ensures { check_answer result ≡ stop_at BadClue (first_bad_clue clues.now) }
+pub fn check_clues(clues: &[i32; 81]) -> Result<(), Stop>
+    ensures { answer_of result ≡ stop_at BadClue (first_bad_clue clues.now) }
 {
     if !any_bad(clues) {
-        return Check::Passed;
+        return Ok(());
     }
-    let mut cell: usize = 0;
-    while cell < 81 {
+    for cell in 0..81 {
         if is_bad(clues[cell]) {
-            return Check::Refused(Stop::BadClue(cell as i64));
+            return Err(Stop::BadClue(cell as i64));
         }
-        cell += 1;
     }
-    Check::Passed
+    Ok(())
 }

@@ -1,7 +1,7 @@
 // Entries: digits that a player pencilled into open cells, 0 where there is none (document 02, F-6). Below the check clues and entries are one clue
 // grid; entering and rubbing out work the masks out afresh.
 ghost use Rattle.std.specs.Prelude.{◌≡◌, not, ◌<◌, pos, get_or, set};
-ghost use Rattle.stops.specs.Answer.{check_answer, passing, stop_at, value_or};
+ghost use Rattle.stops.specs.Answer.{answer_of, passing, stop_at};
 ghost use Rattle.stops.specs.declared.Stop.TheVariants.{BadEntry};
 ghost use Rattle.steps.specs.Boards.{givens_of, joint_of, no_digit, together};
 ghost use Rattle.steps.specs.Calls.{bad_entry, first_bad_entry, opened_with};
@@ -13,7 +13,7 @@ ghost use Rattle.board.specs.code.Checks.{is_found};
 use crate::clues::{given_digit, is_bad};
 use crate::fresh::fresh_masks;
 use crate::{Board, check};
-use stops::{Check, Stop};
+use stops::Stop;
 
 // The number that counts in a cell: its clue, or its entry where it has none.
 fn joint(clue: i32, entry: i32) -> i32
@@ -30,10 +30,8 @@ pub fn givens_of(clues: &[i32; 81], entries: &[i32; 81]) -> [u8; 81]
     ensures { result ≡ givens_of (together clues.now entries.now) }
 {
     let mut givens = [0u8; 81];
-    let mut cell: usize = 0;
-    while cell < 81 {
+    for cell in 0..81 {
         givens[cell] = given_digit(joint(clues[cell], entries[cell]));
-        cell += 1;
     }
     givens
 }
@@ -55,29 +53,25 @@ fn any_bad_entry(clues: &[i32; 81], entries: &[i32; 81]) -> bool
     ensures { result ≡ is_found (first_bad_entry clues.now entries.now) }
 {
     let mut any = false;
-    let mut cell: usize = 0;
-    while cell < 81 {
+    for cell in 0..81 {
         any = any | is_bad_entry(clues[cell], entries[cell]);
-        cell += 1;
     }
     any
 }
 
 // Stop 8 with its first cell.
-pub fn check_entries(clues: &[i32; 81], entries: &[i32; 81]) -> Check
-    ensures { check_answer result ≡ stop_at BadEntry (first_bad_entry clues.now entries.now) }
+pub fn check_entries(clues: &[i32; 81], entries: &[i32; 81]) -> Result<(), Stop>
+    ensures { answer_of result ≡ stop_at BadEntry (first_bad_entry clues.now entries.now) }
 {
     if !any_bad_entry(clues, entries) {
-        return Check::Passed;
+        return Ok(());
     }
-    let mut cell: usize = 0;
-    while cell < 81 {
+    for cell in 0..81 {
         if is_bad_entry(clues[cell], entries[cell]) {
-            return Check::Refused(Stop::BadEntry(cell as i64));
+            return Err(Stop::BadEntry(cell as i64));
         }
-        cell += 1;
     }
-    Check::Passed
+    Ok(())
 }
 
 // The board of clues and entries, worked out afresh. Nothing is asked of them.
@@ -92,13 +86,6 @@ pub fn fresh_board(clues: [i32; 81], entries: [i32; 81]) -> Board
     }
 }
 
-// The board after `enter` or `rub_out`; as it was beside a refusal.
-#[derive(Clone, Copy)]
-pub struct Pencilled {
-    pub answer: Check,
-    pub board: Board,
-}
-
 // Whether a digit stands in a cell.
 fn has_digit(numbers: &[i32; 81], cell: u32) -> bool
     requires { cell < 81 }
@@ -108,90 +95,66 @@ fn has_digit(numbers: &[i32; 81], cell: u32) -> bool
 }
 
 // Stops 5, 4, 12 and 13 of entering.
-fn check_enter(clues: &[i32; 81], entries: &[i32; 81], cell: u32, digit: i32) -> Check
-    ensures { passing (check_answer result) (set entries.now cell digit) ≡ entries_after (enter cell digit) clues.now entries.now }
+fn check_enter(clues: &[i32; 81], entries: &[i32; 81], cell: u32, digit: i32) -> Result<(), Stop>
+    ensures { passing (answer_of result) (set entries.now cell digit) ≡ entries_after (enter cell digit) clues.now entries.now }
 {
     if 80 < cell {
-        return Check::Refused(Stop::NoCell(cell));
+        return Err(Stop::NoCell(cell));
     }
     if given_digit(digit) == 0 {
-        return Check::Refused(Stop::BadDigit(digit));
+        return Err(Stop::BadDigit(digit));
     }
     if has_digit(clues, cell) {
-        return Check::Refused(Stop::ClueCell(cell));
+        return Err(Stop::ClueCell(cell));
     }
     if has_digit(entries, cell) {
-        return Check::Refused(Stop::AlreadyEntered(cell));
+        return Err(Stop::AlreadyEntered(cell));
     }
-    Check::Passed
+    Ok(())
 }
 
 // Stops 5, 12 and 13 of rubbing out.
-fn check_rub_out(clues: &[i32; 81], entries: &[i32; 81], cell: u32) -> Check
-    ensures { passing (check_answer result) (set entries.now cell (pos 0)) ≡ entries_after (rub_out cell) clues.now entries.now }
+fn check_rub_out(clues: &[i32; 81], entries: &[i32; 81], cell: u32) -> Result<(), Stop>
+    ensures { passing (answer_of result) (set entries.now cell (pos 0)) ≡ entries_after (rub_out cell) clues.now entries.now }
 {
     if 80 < cell {
-        return Check::Refused(Stop::NoCell(cell));
+        return Err(Stop::NoCell(cell));
     }
     if has_digit(clues, cell) {
-        return Check::Refused(Stop::ClueCell(cell));
+        return Err(Stop::ClueCell(cell));
     }
     if !has_digit(entries, cell) {
-        return Check::Refused(Stop::NotEntered(cell));
+        return Err(Stop::NotEntered(cell));
     }
-    Check::Passed
+    Ok(())
 }
 
 // The entries with another one in a cell; a number above 80 is no cell.
 fn with_entry(mut entries: [i32; 81], cell: u32, entry: i32) -> [i32; 81]
     ensures { result ≡ set entries cell entry }
 {
-    let at = cell as usize;
-    if at < 81 {
-        entries[at] = entry;
+    if cell < 81 {
+        entries[cell as usize] = entry;
     }
     entries
 }
 
-// The board with another entry in a cell, where the check passed.
-fn put_entry(answer: Check, board: Board, cell: u32, entry: i32) -> Pencilled
-    ensures { (result.answer ≡ answer) × (board_of result.board ≡ value_or (board_of board) (passing (check_answer answer) (opened_with board.clues (set board.entries cell entry)))) }
-{
-    let clues = board.clues;
-    let entries = board.entries;
-    let Check::Passed = answer else {
-        return Pencilled { answer, board };
-    };
-    Pencilled {
-        answer,
-        board: fresh_board(clues, with_entry(entries, cell, entry)),
-    }
-}
-
 // A digit entered in an open cell: the board's stops, then 5, 4, 12 and 13. An entry that contradicts a clue or another entry is accepted.
-pub fn enter(board: Board, cell: u32, digit: i32) -> Pencilled
-    ensures { Enters (enter cell digit) (board_of board) result }
+pub fn enter(board: &mut Board, cell: u32, digit: i32) -> Result<(), Stop>
+    ensures { Enters (enter cell digit) (board_of board.old) result (board_of board.new) }
 {
-    let clues = board.clues;
-    let entries = board.entries;
-    let masks = board.masks;
-    let answer = stops::then(
-        check(&clues, &entries, &masks),
-        check_enter(&clues, &entries, cell, digit),
-    );
-    put_entry(answer, board, cell, digit)
+    check(&board.clues, &board.entries, &board.masks)?;
+    check_enter(&board.clues, &board.entries, cell, digit)?;
+    *board = fresh_board(board.clues, with_entry(board.entries, cell, digit));
+    Ok(())
 }
 
 // An entry rubbed out: the board's stops, then 5, 12 and 13.
-pub fn rub_out(board: Board, cell: u32) -> Pencilled
-    ensures { Enters (rub_out cell) (board_of board) result }
+pub fn rub_out(board: &mut Board, cell: u32) -> Result<(), Stop>
+    ensures { Enters (rub_out cell) (board_of board.old) result (board_of board.new) }
 {
-    let clues = board.clues;
-    let entries = board.entries;
-    let masks = board.masks;
-    let answer = stops::then(
-        check(&clues, &entries, &masks),
-        check_rub_out(&clues, &entries, cell),
-    );
-    put_entry(answer, board, cell, 0)
+    check(&board.clues, &board.entries, &board.masks)?;
+    check_rub_out(&board.clues, &board.entries, cell)?;
+    *board = fresh_board(board.clues, with_entry(board.entries, cell, 0));
+    Ok(())
 }

@@ -49,13 +49,11 @@ fn join_row(givens: &[u8; 81], sets: &mut [u16; 27], row: usize)
     requires { row < 9 }
     ensures { sets.new ≡ join_row givens.now row sets.old }
 {
-    let mut col: usize = 0;
-    while col < 9 {
+    for col in 0..9 {
         let digit = givens[9 * row + col];
         if digit != 0 {
             join_units(sets, row, col, given_mask(digit));
         }
-        col += 1;
     }
 }
 
@@ -64,10 +62,8 @@ fn unit_sets(givens: &[u8; 81]) -> [u16; 27]
     ensures { result ≡ unit_sets givens.now }
 {
     let mut sets = [0u16; 27];
-    let mut row: usize = 0;
-    while row < 9 {
+    for row in 0..9 {
         join_row(givens, &mut sets, row);
-        row += 1;
     }
     sets
 }
@@ -95,11 +91,9 @@ fn fresh_row(givens: &[u8; 81], sets: &[u16; 27], masks: &mut [u16; 81], row: us
     requires { row < 9 }
     ensures { masks.new ≡ fresh_row givens.now sets.now row masks.old }
 {
-    let mut col: usize = 0;
-    while col < 9 {
+    for col in 0..9 {
         let cell = 9 * row + col;
         masks[cell] = fresh_mask(givens[cell], seen_digits(sets, row, col));
-        col += 1;
     }
 }
 
@@ -109,10 +103,8 @@ pub fn fresh_masks(givens: &[u8; 81]) -> [u16; 81]
 {
     let sets = unit_sets(givens);
     let mut masks = [0u16; 81];
-    let mut row: usize = 0;
-    while row < 9 {
+    for row in 0..9 {
         fresh_row(givens, &sets, &mut masks, row);
-        row += 1;
     }
     masks
 }

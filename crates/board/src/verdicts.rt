@@ -12,15 +12,13 @@ pub fn verdict_of(masks: &[u16; 81]) -> Verdict
 {
     let mut digits = [0i32; 81];
     let mut finished = true;
-    let mut cell: usize = 0;
-    while cell < 81 {
+    for cell in 0..81 {
         let mask = masks[cell];
         match (SudokuCandidateSet { mask }).single_candidate() {
             SingleCandidate::Empty => return Verdict::Dead,
             SingleCandidate::Several => finished = false,
             SingleCandidate::Digit(digit) => digits[cell] = digit,
         }
-        cell += 1;
     }
     if !finished {
         return Verdict::Open;

@@ -47,10 +47,9 @@ fn mark_cell(marks: &mut [u16; 27], row: usize, col: usize, block: usize, number
     requires { (row < 9) × (col < 9) × (block ≡ 18 + box (cell row col)) }
     ensures { (result ≡ fits marks.old (cell row col) number) × (marks.new ≡ cond result (marked marks.old (cell row col) number) marks.old) }
 {
-    if !is_digit(number) {
+    let Some(place) = digits::place_of(number) else {
         return false;
-    }
-    let place = digits::place_of(number);
+    };
     if masks::has_digit(seen_digits(marks, row, col, block), place) {
         return false;
     }

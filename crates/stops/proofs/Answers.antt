@@ -7,7 +7,8 @@ use lib.IntN.{ℤ}
 use mir.Syntax.{w64}
 use mir.Val.{to_z}
 use Rattle.stops.specs.Answer.{Answer, gives, stop, map, then, passing, stop_at, answer_of}
-use Rattle.std.specs.Prelude.{Result, Ok, Err}
+use Rattle.std.specs.Prelude.{Result, Ok, Err, IsErrAnd}
+use Rattle.std.proofs.lemmas.Result.{err_from_is_err_and}
 use Rattle.stops.specs.declared.Stop.{Stop}
 use Rattle.stops.proofs.Numbers.{small}
 
@@ -47,3 +48,7 @@ module _ {A : Type 0} (c : Result (Unit {0}) Stop) {k : Answer (Unit {0})} (e : 
 
   pub passed-beside : {x y : A} → x ≡ y → passing (answer_of c) x ≡ passing k y
   passed-beside {x} {y} same = ap (passing (answer_of c)) same ∙ ap (λ (a : Answer (Unit {0})). passing a y) e
+
+-- what a `?` hands on is the stop that it met
+pub passed-on : {A : Type 0} (r : Result A Stop) {s : Stop} → IsErrAnd r (λ t. t ≡ s) → answer_of r ≡ stop s
+passed-on r h = let p = err_from_is_err_and r h in ap answer_of p.1 ∙ ap stop p.2

@@ -1,22 +1,35 @@
--- `board::entries::enter` meets its contract. Assumes nothing.
-use mathlib.Core.Path.{sym, ap, ◌∙◌}
+use mathlib.Core.Path.{refl, sym, ap, ◌∙◌}
 use lib.IntN.{ℤ}
-use lib.ListN.{set}
 use mir.Facts.{to_z-of_z}
-use Rattle.stops.specs.Answer.{check_answer, passing, value_or}
+use Rattle.stops.proofs.Answers.{passed-on}
 use Rattle.steps.specs.Calls.{opened_with}
-use Rattle.steps.specs.Entries.{enter, entries_after}
+use Rattle.steps.specs.Entries.{enter, entries_after, entry_answer}
 use Rattle.board.specs.Boards.{board_of}
-use Rattle.board.proofs.Entering.{enters}
 use Rattle.board.proofs.entries.enter.Goals as goal
 
+pub returns-in_err-check : goal.returns-in_err-check
+unfolding entry_answer
+returns-in_err-check c = record {
+  answer = rw (passed-on _ c.from_residual.ensures.1, sym c.in_err-check.ensures) refl;
+  board = rw (sym c.in_err-check.ensures) refl;
+}
+
+pub returns-in_err-check_enter : goal.returns-in_err-check_enter
+unfolding entry_answer
+returns-in_err-check_enter c =
+    let b = board_of c.args.board.now in
+    let stopped = c.in_err-check_enter.ensures ∙ ap (λ (z : ℤ). entries_after (enter c.args.cell z) b.clues b.entries) (to_z-of_z c.ranges.digit) in record {
+      answer = rw (passed-on _ c.from_residual-in_err-check_enter.ensures.1, sym c.in_ok-check.ensures, sym stopped) refl;
+      board = rw (sym c.in_ok-check.ensures, sym stopped) refl;
+    }
+
 pub returns : goal.returns
+unfolding entry_answer
 returns c =
-    let b = board_of c.args.board in
+    let b = board_of c.args.board.now in
     let same = to_z-of_z c.ranges.digit in
-    enters (enter c.args.cell c.args.digit) b (set b.entries c.args.cell c.args.digit) c.put_entry.result c.check.result c.check_enter.result c.then-answer.result c.check.ensures
-    (ap (λ (z : ℤ). passing (check_answer c.check_enter.result) (set b.entries c.args.cell z)) (sym same) ∙ c.check_enter.ensures
-    ∙ ap (λ (z : ℤ). entries_after (enter c.args.cell z) b.clues b.entries) same)
-    c.then-answer.ensures c.put_entry.ensures.0
-    (c.put_entry.ensures.1
-    ∙ ap (λ (z : ℤ). value_or b (passing (check_answer c.then-answer.result) (opened_with b.clues (set b.entries c.args.cell z)))) same)
+    let went = c.in_ok-check_enter.ensures ∙ ap (λ (z : ℤ). entries_after (enter c.args.cell z) b.clues b.entries) same in
+    let left = c.fresh_board.ensures ∙ ap (opened_with b.clues) c.with_entry.ensures in record {
+      answer = rw (left, sym c.in_ok-check.ensures, sym went) refl;
+      board = rw (left, sym c.in_ok-check.ensures, sym went) refl;
+    }
