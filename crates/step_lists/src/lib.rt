@@ -53,15 +53,13 @@ fn follow_steps(givens: &[u8; 81], start: [u16; 81], steps: &[u8]) -> Followed
 {
     let count = count_steps(steps.len());
     let mut masks = start;
-    let mut index: usize = 0;
-    while index < count {
+    for index in 0..count {
         if !kinds::take_at(givens, &mut masks, steps, 6 * index) {
             return Followed {
                 answer: Check::Refused(Stop::BadStep(index as i64)),
                 masks: start,
             };
         }
-        index += 1;
     }
     Followed {
         answer: Check::Passed,
