@@ -31,9 +31,7 @@ fn build_aic_chains_for_digit(givens: &[u8; 81], masks: &mut [u16; 81], digit: u
 pub fn chains(givens: &[u8; 81], masks: &mut [u16; 81])
     ensures { masks.new ≡ chains givens.now masks.old }
 {
-    let mut digit: usize = 0;
-    while digit < 9 {
+    for digit in 0..9 {
         build_aic_chains_for_digit(givens, masks, digit);
-        digit += 1;
     }
 }

@@ -45,13 +45,11 @@ fn find_aic_elimination(holders: &[u8; 81], count: usize, depth: usize, start: u
     if !are_peers(start as usize, end as usize) {
         return Found::Nothing;
     }
-    let mut i: usize = 0;
-    while i < count {
+    for i in 0..count {
         let found = between(start, end, holders[i]);
         if is_found(found) {
             return found;
         }
-        i += 1;
     }
     Found::Nothing
 }
@@ -82,13 +80,11 @@ fn build_chain(
     }
     let longer = push(path, cell);
     let links = find_links(holders, count, counts, weak, cell);
-    let mut i: usize = 0;
-    while i < links.count {
+    for i in 0..links.count {
         let found = build_chain(holders, count, counts, start, longer, links.cells[i], !weak);
         if is_found(found) {
             return found;
         }
-        i += 1;
     }
     Found::Nothing
 }
@@ -101,14 +97,12 @@ pub fn chain_end(givens: &[u8; 81], masks: &[u16; 81], digit: usize) -> Found
     let holders = starts.cells;
     let count = starts.count;
     let counts = unit_counts(&holders, count);
-    let mut i: usize = 0;
-    while i < count {
+    for i in 0..count {
         let start = holders[i];
         let found = build_chain(&holders, count, &counts, start, no_path(), start, true);
         if is_found(found) {
             return found;
         }
-        i += 1;
     }
     Found::Nothing
 }
