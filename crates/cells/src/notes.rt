@@ -61,7 +61,7 @@ pub fn note(
     }
 }
 
-// Steps with their count; the bytes after them are 0.
+// Steps with their count; the bytes after them are 0. A fixed buffer: the engine has no heap.
 #[derive(Clone, Copy)]
 pub struct Steps {
     pub bytes: [u8; 4374],
