@@ -30,6 +30,7 @@ pub fn peer_table() -> [[u8; 20]; 81]
 }
 
 // The cell at a place 0 to 8 of a unit; 81 past the table. It is worked out: an index into a constant copies it.
+// No `Option`: 81 is no cell, holds nothing and loses nothing, so no caller has a case for it.
 pub fn unit_cell(unit: usize, place: usize) -> usize
     ensures { result ≡ unit_cell unit place }
 {
