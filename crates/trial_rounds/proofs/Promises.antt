@@ -11,9 +11,8 @@ use lib.Dec.{leb}
 use lib.IntN.{ℤ, pos}
 use lib.ListN.{length, get_or, length-map}
 use lib.Seq.{ext_get_or}
-use Rattle.stops.specs.Answer.{gives, stop, then, passing, check_answer}
-use Rattle.stops.specs.declared.Check.{Check}
-use Rattle.stops.specs.declared.Check.TheVariants.{Passed}
+use Rattle.std.specs.Prelude.{Ok}
+use Rattle.stops.specs.Answer.{gives, stop, then, passing}
 use Rattle.stops.specs.declared.Stop.TheVariants.{BadPercentage, BadSolution}
 use Rattle.stops.proofs.Answers.{gives_same, stop-gives}
 use Rattle.candidates.proofs.Tests.{by-test, cond-true, cond-false}
@@ -33,7 +32,6 @@ use Rattle.calls.specs.Replays.{calls_of}
 use Rattle.calls.proofs.Demand3.{demand3}
 use Rattle.trial_rounds.specs.Rounds.{state_after, next_state, is_kept, clue_of, clue_at, round_clues, round_of, percentage_check, solution_check, Makes}
 use Rattle.trial_rounds.specs.Promises.{KeepsSolution, TrialRounds}
-use Rattle.trial_rounds.specs.declared.TrialRound.{TrialRound}
 
 -- ---- the answer
 
@@ -104,10 +102,10 @@ promised clues solution n v ok keeps =
     calls-keep : (ks : List Call) → without_ported ks ≡ true → (B : Board) → board_of B ≡ run ks (opened clues) → InMasks B.masks solution
     calls-keep ks w B at = subst (λ (b : S.Board). InMasks b.masks solution) (sym at) ((run-fillings clues ok ks w solution n v).1 keeps)
 
-made : (start percentage : ℕ) (solution : List ℤ) → length solution ≡ 81 → (r : TrialRound) → Makes start percentage solution r → r.answer ≡ Passed → KeepsSolution r.clues solution
-made start percentage solution n r e passed =
-    let m = made-clues start percentage solution (ap (λ (k : Check). passing (check_answer k) r.clues) (sym passed) ∙ e.answer) in
-    subst (λ (clues : List ℤ). KeepsSolution clues solution) (sym m.1)
+made : (start percentage : ℕ) (solution : List ℤ) → length solution ≡ 81 → (clues : List ℤ) → Makes start percentage solution (Ok clues) → KeepsSolution clues solution
+made start percentage solution n clues e =
+    let m = made-clues start percentage solution e in
+    subst (λ (l : List ℤ). KeepsSolution l solution) (sym m.1)
     (promised (round_clues start percentage solution) solution n m.0
     (round-clues start percentage solution (verified-correct solution n m.0)) (round_keeps start percentage solution))
 

@@ -1,7 +1,6 @@
 -- What document 02, F-11 promises of every trial round, of what `trial_round` hands back. proofs/Promises.antt shows it.
-use Rattle.std.specs.Prelude.{◌≡◌, true, List, [], ◌∷◌, ℕ, ◌+◌, ℤ, length}
+use Rattle.std.specs.Prelude.{◌≡◌, true, List, [], ◌∷◌, ℕ, ◌+◌, ℤ, length, Ok}
 use Rattle.stops.specs.Answer.{gives}
-use Rattle.stops.specs.declared.Check.TheVariants.{Passed}
 use Rattle.grid.specs.Fillings.{Correct, verified}
 use Rattle.steps.specs.Boards.{no_entries}
 use Rattle.steps.specs.Calls.{Clues, settling_call, without_ported}
@@ -13,7 +12,6 @@ use Rattle.calls.specs.Demand3.{After, StepsWithoutPorted}
 use Rattle.calls.specs.Replays.{Replays}
 use Rattle.calls.specs.declared.Replayed.{Replayed}
 use Rattle.trial_rounds.specs.Rounds.{round_of, Makes}
-use Rattle.trial_rounds.specs.declared.TrialRound.{TrialRound}
 
 -- The clues of a round, and the solution that it was made of.
 pub record KeepsSolution (clues solution : List ℤ) : Type 0 where
@@ -31,8 +29,8 @@ pub record KeepsSolution (clues solution : List ℤ) : Type 0 where
 
 pub record TrialRounds : Type 0 where
   -- every round of every solution, an array of 81 numbers
-  pub made : (start percentage : ℕ) (solution : List ℤ) → length solution ≡ 81 → (r : TrialRound) → Makes start percentage solution r
-      → r.answer ≡ Passed → KeepsSolution r.clues solution
+  pub made : (start percentage : ℕ) (solution : List ℤ) → length solution ≡ 81 → (clues : List ℤ) → Makes start percentage solution (Ok clues)
+      → KeepsSolution clues solution
   -- 0 percent keeps no digit, and 100 percent all of them
   pub none : (start : ℕ) (solution : List ℤ) → verified solution ≡ true → round_of start 0 solution ≡ gives no_clues
   pub all : (start : ℕ) (solution : List ℤ) → length solution ≡ 81 → verified solution ≡ true → round_of start 100 solution ≡ gives solution

@@ -1,11 +1,10 @@
 -- Trial rounds (document 02, F-11): a grid of clues from a starting number, a percentage and a solution.
-use Rattle.std.specs.Prelude.{◌≡◌, Bool, cond, List, map, ℕ, zero, suc, ◌+◌, ◌*◌, ◌/◌, ◌%◌, leb, ltb, ℤ, pos}
-use Rattle.stops.specs.Answer.{Answer, gives, stop, passing, then, value_or, check_answer}
+use Rattle.std.specs.Prelude.{◌≡◌, Bool, cond, List, map, ℕ, zero, suc, ◌+◌, ◌*◌, ◌/◌, ◌%◌, leb, ltb, ℤ, pos, Result}
+use Rattle.stops.specs.Answer.{Answer, gives, stop, passing, then, answer_of}
+use Rattle.stops.specs.declared.Stop.{Stop}
 use Rattle.stops.specs.declared.Stop.TheVariants.{BadPercentage, BadSolution}
 use Rattle.grid.specs.Cells.{cells}
 use Rattle.grid.specs.Fillings.{number_at, verified}
-use Rattle.board.specs.Boards.{no_clues}
-use Rattle.trial_rounds.specs.declared.TrialRound.{TrialRound}
 
 -- ---- the generator
 
@@ -49,7 +48,6 @@ solution_check solution = cond (verified solution) (gives tt) (stop BadSolution)
 unfoldable pub round_of : ℕ → ℕ → List ℤ → Answer (List ℤ)
 round_of start percentage solution = passing (then (percentage_check percentage) (λ _. solution_check solution)) (round_clues start percentage solution)
 
--- what `trial_round` hands back: the round or the stop, and zeros beside a stop
-pub record Makes (start percentage : ℕ) (solution : List ℤ) (r : TrialRound) : Type 0 where
-  pub answer : passing (check_answer r.answer) r.clues ≡ round_of start percentage solution
-  pub clues : r.clues ≡ value_or no_clues (round_of start percentage solution)
+-- what `trial_round` hands back: the round or the stop
+abbrev pub Makes : ℕ → ℕ → List ℤ → Result (List ℤ) Stop → Type 0
+Makes start percentage solution r = answer_of r ≡ round_of start percentage solution

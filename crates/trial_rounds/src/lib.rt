@@ -3,17 +3,10 @@
 #![tactic(auto)]
 
 ghost use Rattle.std.specs.Prelude.{◌≡◌};
-ghost use Rattle.stops.specs.Answer.{check_answer, then};
+ghost use Rattle.stops.specs.Answer.{answer_of};
 ghost use Rattle.trial_rounds.specs.Rounds.{clue_of, is_kept, Makes, next_state, percentage_check, round_clues, solution_check};
 
-use stops::{Check, Stop};
-
-// A round that was made; zeros beside a refusal.
-#[derive(Clone, Copy)]
-pub struct TrialRound {
-    pub answer: Check,
-    pub clues: [i32; 81],
-}
+use stops::Stop;
 
 // One move of the generator, in 64 bits: the product does not fit 32.
 fn next_state(state: u32) -> u32
@@ -44,58 +37,38 @@ fn round_clues(start: u32, percentage: u32, solution: &[i32; 81]) -> [i32; 81]
 {
     let mut clues = [0i32; 81];
     let mut state = start % 2_147_483_648;
-    let mut cell: usize = 0;
-    while cell < 81 {
-        let next = next_state(state);
-        clues[cell] = clue_of(next, percentage, solution[cell]);
-        state = next;
-        cell += 1;
+    for (cell, digit) in solution.iter().enumerate() {
+        state = next_state(state);
+        clues[cell] = clue_of(state, percentage, *digit);
     }
     clues
 }
 
 // Stop 17 with the percentage.
-fn check_percentage(percentage: u32) -> Check
-    ensures { check_answer result ≡ percentage_check percentage }
+fn check_percentage(percentage: u32) -> Result<(), Stop>
+    ensures { answer_of result ≡ percentage_check percentage }
 {
     if 100 < percentage {
-        return Check::Refused(Stop::BadPercentage(percentage));
+        return Err(Stop::BadPercentage(percentage));
     }
-    Check::Passed
+    Ok(())
 }
 
 // Stop 18.
-fn check_solution(solution: &[i32; 81]) -> Check
-    ensures { check_answer result ≡ solution_check solution.now }
+fn check_solution(solution: &[i32; 81]) -> Result<(), Stop>
+    ensures { answer_of result ≡ solution_check solution.now }
 {
     if grid::verify_solution(solution) {
-        return Check::Passed;
+        return Ok(());
     }
-    Check::Refused(Stop::BadSolution)
-}
-
-// Stop 17, then stop 18.
-fn check(percentage: u32, solution: &[i32; 81]) -> Check
-    ensures { check_answer result ≡ then (percentage_check percentage) (λ _. solution_check solution.now) }
-{
-    let percentage_answer = check_percentage(percentage);
-    let solution_answer = check_solution(solution);
-    stops::then(percentage_answer, solution_answer)
+    Err(Stop::BadSolution)
 }
 
 // The clues that the generator keeps of a solution, about so many in a hundred.
-pub fn trial_round(start: u32, percentage: u32, solution: &[i32; 81]) -> TrialRound
+pub fn trial_round(start: u32, percentage: u32, solution: &[i32; 81]) -> Result<[i32; 81], Stop>
     ensures { Makes start percentage solution.now result }
 {
-    let answer = check(percentage, solution);
-    let Check::Passed = answer else {
-        return TrialRound {
-            answer,
-            clues: [0; 81],
-        };
-    };
-    TrialRound {
-        answer,
-        clues: round_clues(start, percentage, solution),
-    }
+    check_percentage(percentage)?;
+    check_solution(solution)?;
+    Ok(round_clues(start, percentage, solution))
 }

@@ -23,13 +23,13 @@ loop-cell-preserved c =
     let start = c.args.start in
     let part = c.args.percentage in
     let digit = number_at c.args.solution.now c.loop-cell.cell in
-    let moved = state-on start c.loop-cell.cell c.loop-cell.invariant.1 c.next_state-next.ensures in (
+    let moved = state-on start c.loop-cell.cell c.loop-cell.invariant.1 c.next_state-state.ensures in (
       fill_on _ 81 c.loop-cell.cell c.loop-cell.clues c.loop-cell.invariant.0 (omega arith)
           (to_z-of_z {w = w32} (record { sfits = c.clue_of.type_inv }) ∙ c.clue_of.ensures
-          ∙ ap (clue_of c.next_state-next.result part) (to_z-of_z {w = w32} {z = digit} (record { sfits = search rules }))
+          ∙ ap (clue_of c.next_state-state.result part) (to_z-of_z {w = w32} {z = digit} (record { sfits = search rules }))
           ∙ ap (λ (s : ℕ). clue_of s part digit) moved),
       moved ∙ ap (state_after start) (sym (add-one c.loop-cell.cell)),
     )
 
 pub returns : goal.returns
-returns c = fill_end _ 81 c.loop-cell.cell c.loop-cell.clues c.loop-cell.invariant.0 c.loop-cell-test.false
+returns c = fill_end _ 81 c.loop-cell.cell c.loop-cell.clues c.loop-cell.invariant.0 (omega arith)
