@@ -14,12 +14,10 @@ fn twin_of(nine: &[u16; 9], first: usize) -> usize
         return 9;
     }
     let mask = nine[first];
-    let mut second = first + 1;
-    while second < 9 {
+    for second in first + 1..9 {
         if nine[second] == mask {
             return second;
         }
-        second += 1;
     }
     9
 }
@@ -43,15 +41,12 @@ fn unit_pairs(givens: &[u8; 81], masks: &mut [u16; 81], unit: usize)
     ensures { masks.new ≡ unit_pairs givens.now unit masks.old }
 {
     let mut nine = unit_masks(givens, masks, unit);
-    let mut first: usize = 0;
-    while first < 9 {
+    for first in 0..9 {
         let second = pair_of(&nine, first);
         if second < 9 {
             lose_places(givens, masks, unit, all_but(first, second), nine[first]);
-            let renewed = unit_masks(givens, masks, unit);
-            nine = renewed;
+            nine = unit_masks(givens, masks, unit);
         }
-        first += 1;
     }
 }
 
@@ -80,10 +75,8 @@ fn pair_masks(givens: &[u8; 81], masks: &[u16; 81]) -> [u16; 81]
     ensures { result ≡ pair_masks givens.now masks.now }
 {
     let mut pairs = [0u16; 81];
-    let mut cell: usize = 0;
-    while cell < 81 {
+    for cell in 0..81 {
         pairs[cell] = if_open(givens[cell], if_two(masks[cell]));
-        cell += 1;
     }
     pairs
 }
@@ -92,14 +85,10 @@ fn pair_masks(givens: &[u8; 81], masks: &[u16; 81]) -> [u16; 81]
 fn no_twins(nine: &[u16; 9]) -> bool
     ensures { result ≡ no_twins nine.now }
 {
-    let mut first: usize = 0;
-    while first < 9 {
-        if nine[first] != 0 {
-            if twin_of(nine, first) < 9 {
-                return false;
-            }
+    for first in 0..9 {
+        if nine[first] != 0 && twin_of(nine, first) < 9 {
+            return false;
         }
-        first += 1;
     }
     true
 }
@@ -109,14 +98,11 @@ pub fn naked_pairs(givens: &[u8; 81], masks: &mut [u16; 81])
     ensures { masks.new ≡ naked_pairs givens.now masks.old }
 {
     let mut pairs = pair_masks(givens, masks);
-    let mut unit: usize = 0;
-    while unit < 27 {
+    for unit in 0..27 {
         let nine = all_masks(&pairs, unit);
         if !no_twins(&nine) {
             unit_pairs(givens, masks, unit);
-            let renewed = pair_masks(givens, masks);
-            pairs = renewed;
+            pairs = pair_masks(givens, masks);
         }
-        unit += 1;
     }
 }

@@ -65,13 +65,11 @@ pub fn naked_singles(
     ensures { (stored cells.new digits.new result ≡ append (naked_singles givens.now masks.now) (stored cells.old digits.old held)) × (result ≤ held + 81) }
 {
     let mut count = held;
-    let mut cell: usize = 0;
-    while cell < 81 {
+    for cell in 0..81 {
         let digit = only_digit(open_mask(givens, masks, cell));
         if digit != 0 {
             count = push(cells, digits, count, cell as u8, digit);
         }
-        cell += 1;
     }
     count
 }
@@ -98,14 +96,12 @@ fn hidden_in(
     let nine = unit_masks(givens, masks, unit);
     let once = held_once(&nine);
     let mut count = held;
-    let mut digit: usize = 0;
-    while digit < 9 {
+    for digit in 0..9 {
         if masks::has_digit(once, digit) {
             let place = masks::lowest_digit(places_of(&nine, digit));
             let cell = unit_cell(unit, place);
             count = push(cells, digits, count, cell as u8, (digit + 1) as u8);
         }
-        digit += 1;
     }
     count
 }
@@ -122,10 +118,8 @@ pub fn hidden_singles(
     ensures { stored cells.new digits.new result ≡ append (hidden_singles givens.now masks.now) (stored cells.old digits.old held) }
 {
     let mut count = held;
-    let mut unit: usize = 0;
-    while unit < 27 {
+    for unit in 0..27 {
         count = hidden_in(givens, masks, unit, cells, digits, count);
-        unit += 1;
     }
     count
 }

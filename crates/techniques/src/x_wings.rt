@@ -79,8 +79,7 @@ fn wings_from(
     if !masks::is_two(spots) {
         return;
     }
-    let mut second = first + 1;
-    while second < 9 {
+    for second in first + 1..9 {
         wing_at(
             givens,
             masks,
@@ -91,7 +90,6 @@ fn wings_from(
             spots,
             list[second],
         );
-        second += 1;
     }
 }
 
@@ -102,12 +100,10 @@ fn held_twice(nine: &[u16; 9]) -> u16
     let mut once: u16 = 0;
     let mut twice: u16 = 0;
     let mut more: u16 = 0;
-    let mut place: usize = 0;
-    while place < 9 {
-        more = masks::join(more, masks::meet(twice, nine[place]));
-        twice = masks::join(twice, masks::meet(once, nine[place]));
-        once = masks::join(once, nine[place]);
-        place += 1;
+    for &mask in nine {
+        more = masks::join(more, masks::meet(twice, mask));
+        twice = masks::join(twice, masks::meet(once, mask));
+        once = masks::join(once, mask);
     }
     masks::lose(twice, more)
 }
@@ -118,11 +114,9 @@ fn twice_sets(givens: &[u8; 81], masks: &[u16; 81], columns: bool) -> [u16; 9]
 {
     let first = lines_from(columns);
     let mut sets = [0u16; 9];
-    let mut line: usize = 0;
-    while line < 9 {
+    for line in 0..9 {
         let nine = unit_masks(givens, masks, first + line);
         sets[line] = held_twice(&nine);
-        line += 1;
     }
     sets
 }
@@ -150,10 +144,8 @@ fn two_spots(
 {
     let first = lines_from(columns);
     let mut list = [0u16; 9];
-    let mut line: usize = 0;
-    while line < 9 {
+    for line in 0..9 {
         list[line] = spots_where(givens, masks, first + line, digit, sets[line]);
-        line += 1;
     }
     list
 }
@@ -169,10 +161,8 @@ fn wing_digit(
     ensures { masks.new ≡ wings_in givens.now columns digit (two_spots givens.now masks.old columns digit sets.now) masks.old }
 {
     let list = two_spots(givens, masks, columns, digit, sets);
-    let mut first: usize = 0;
-    while first < 9 {
+    for first in 0..9 {
         wings_from(givens, masks, columns, digit, &list, first);
-        first += 1;
     }
 }
 
@@ -182,12 +172,10 @@ fn wings_in(givens: &[u8; 81], masks: &mut [u16; 81], columns: bool)
 {
     let sets = twice_sets(givens, masks, columns);
     let due = shared(&sets);
-    let mut digit: usize = 0;
-    while digit < 9 {
+    for digit in 0..9 {
         if masks::has_digit(due, digit) {
             wing_digit(givens, masks, columns, digit, &sets);
         }
-        digit += 1;
     }
 }
 

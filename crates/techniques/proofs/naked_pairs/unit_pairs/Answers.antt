@@ -24,7 +24,7 @@ loop-first-preserved c =
     let w : (c.if-second-lt9.nine ≡ unit_masks g c.if-second-lt9.masks u) × (c.if-second-lt9.masks ≡ turn g u s.first s.masks) =
     elim c.if-second-lt9.branch [
       | then-second-lt9 w ↦ (
-        w.nine-is ∙ w.unit_masks-renewed.ensures ∙ ap (λ (m : List ℕ). unit_masks g m u) (sym w.masks-is),
+        w.nine-is ∙ w.unit_masks-nine-then-second-lt9.ensures ∙ ap (λ (m : List ℕ). unit_masks g m u) (sym w.masks-is),
         w.masks-is ∙ w.lose_places.ensures.masks_after ∙ pair_turn_lem g s.masks s.nine u s.first (omega arith) s.invariant.1 pair.ensures w.if-second-lt9.true w.all_but.ensures,
       )
       | else-second-lt9 w ↦ (w.nine-is ∙ s.invariant.1 ∙ ap (λ (m : List ℕ). unit_masks g m u) (sym w.masks-is), w.masks-is ∙ pair-none g s.masks s.nine u s.first (omega arith) s.invariant.1 pair.ensures w.if-second-lt9.false)

@@ -17,6 +17,3 @@ abbrev pub invariant-loop-digit : goal.invariant-loop-digit
 invariant-loop-digit l =
     (l.digit ≤ 9) × (l.count ≤ l.held + l.digit)
     × (each (turn l.unit l.nine) (range (9 - l.digit) l.digit) (stored l.cells l.digits l.count) ≡ append (hidden_in l.givens l.masks l.unit) (stored l.initial.cells l.initial.digits l.held))
-
-abbrev pub decreases-loop-digit : goal.decreases-loop-digit
-decreases-loop-digit l = 9 - l.digit

@@ -17,6 +17,3 @@ abbrev pub invariant-loop-unit : goal.invariant-loop-unit
 invariant-loop-unit l =
     (l.unit ≤ 27) × (l.count ≤ l.held + 9 * l.unit)
     × (each (turn l.givens l.masks) (range (27 - l.unit) l.unit) (stored l.cells l.digits l.count) ≡ append (hidden_singles l.givens l.masks) (stored l.initial.cells l.initial.digits l.held))
-
-abbrev pub decreases-loop-unit : goal.decreases-loop-unit
-decreases-loop-unit l = 27 - l.unit

@@ -16,6 +16,3 @@ abbrev pub invariant-loop-cell : goal.invariant-loop-cell
 invariant-loop-cell l =
     (l.cell ≤ 81) × (l.count ≤ l.held + l.cell)
     × (each (turn l.givens l.masks) (range (81 - l.cell) l.cell) (stored l.cells l.digits l.count) ≡ append (naked_singles l.givens l.masks) (stored l.initial.cells l.initial.digits l.held))
-
-abbrev pub decreases-loop-cell : goal.decreases-loop-cell
-decreases-loop-cell l = 81 - l.cell

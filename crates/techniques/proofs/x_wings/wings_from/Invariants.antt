@@ -14,6 +14,3 @@ turn g columns d list i j m = wing_at g columns d i j (at list i) (at list j) m
 
 abbrev pub invariant-loop-second : goal.invariant-loop-second
 invariant-loop-second l = (l.second ≤ 9) × (each (turn l.givens l.columns l.digit l.list l.first) (range (9 - l.second) l.second) l.masks ≡ wings_from l.givens l.columns l.digit l.list l.first l.initial.masks)
-
-abbrev pub decreases-loop-second : goal.decreases-loop-second
-decreases-loop-second l = 9 - l.second
