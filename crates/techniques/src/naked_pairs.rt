@@ -1,38 +1,36 @@
 // Naked pairs (module 3): two open cells of a unit with the same two candidates; the unit's other open cells lose both.
-ghost use Rattle.std.specs.Prelude.{◌≡◌, cond, eqb};
+ghost use Rattle.std.specs.Prelude.{◌≡◌, ◌<◌, cond, eqb, IfSome};
 ghost use Rattle.steps.specs.Ported.{naked_pairs};
-ghost use Rattle.techniques.specs.code.NakedPairs.{twin_of, pair_of, unit_pairs, two_of, pair_masks, no_twins};
+ghost use Rattle.techniques.specs.code.NakedPairs.{twin_of, pair_of, unit_pairs, two_of, pair_masks, no_twins, place_of};
 
 use candidates::masks;
 use cells::{all_but, all_masks, lose_places, unit_masks};
 
-// The first place after this one that has its mask; 9 where none does.
-fn twin_of(nine: &[u16; 9], first: usize) -> usize
-    ensures { result ≡ twin_of nine.now first }
+// The first place after this one that has its mask.
+fn twin_of(nine: &[u16; 9], first: usize) -> Option<usize>
+    requires { first < 9 }
+    ensures found { place_of result ≡ twin_of nine.now first }
+    ensures below { IfSome result (λ second. second < 9) }
 {
-    if 9 <= first {
-        return 9;
-    }
     let mask = nine[first];
     for second in first + 1..9 {
         if nine[second] == mask {
-            return second;
+            return Some(second);
         }
     }
-    9
+    None
 }
 
-// The same for a mask of two digits; 9 for any other.
-fn pair_of(nine: &[u16; 9], first: usize) -> usize
-    ensures { result ≡ pair_of nine.now first }
+// The same for a mask of two digits; none for any other.
+fn pair_of(nine: &[u16; 9], first: usize) -> Option<usize>
+    requires { first < 9 }
+    ensures found { place_of result ≡ pair_of nine.now first }
+    ensures below { IfSome result (λ second. second < 9) }
 {
-    if 9 <= first {
-        return 9;
-    }
     if masks::is_two(nine[first]) {
         return twin_of(nine, first);
     }
-    9
+    None
 }
 
 // `nine` are the masks of the unit's open cells. A pair leaves none of its digits in the other cells, so that its first cell makes no second one;
@@ -42,8 +40,7 @@ fn unit_pairs(givens: &[u8; 81], masks: &mut [u16; 81], unit: usize)
 {
     let mut nine = unit_masks(givens, masks, unit);
     for first in 0..9 {
-        let second = pair_of(&nine, first);
-        if second < 9 {
+        if let Some(second) = pair_of(&nine, first) {
             lose_places(givens, masks, unit, all_but(first, second), nine[first]);
             nine = unit_masks(givens, masks, unit);
         }
@@ -86,7 +83,7 @@ fn no_twins(nine: &[u16; 9]) -> bool
     ensures { result ≡ no_twins nine.now }
 {
     for first in 0..9 {
-        if nine[first] != 0 && twin_of(nine, first) < 9 {
+        if nine[first] != 0 && twin_of(nine, first).is_some() {
             return false;
         }
     }
