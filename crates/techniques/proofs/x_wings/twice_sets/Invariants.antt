@@ -7,4 +7,4 @@ use Rattle.techniques.specs.code.XWings.{lines_from, twice_of, twice_sets}
 use Rattle.techniques.proofs.x_wings.twice_sets.Given as goal
 
 abbrev pub invariant-loop-line : goal.invariant-loop-line
-invariant-loop-line l = filled (λ i. twice_of (unit_masks l.givens l.masks (lines_from l.columns + i))) 9 l.line l.sets ≡ twice_sets l.givens l.masks l.columns
+invariant-loop-line l = filled (λ i. twice_of (unit_masks l.givens l.masks (lines_from l.fn.lines + i))) 9 l.line l.sets ≡ twice_sets l.givens l.masks l.fn.lines
