@@ -1,4 +1,4 @@
--- All that is lent to a call that the check refuses stays; else it is what the search leaves.
+-- All that is lent to a call that the check refuses stays, but for the count of the reports; else it is what the search leaves.
 use mathlib.Core.Path.{ap, ◌∙◌}
 use mathlib.Core.List.{List, []}
 use Prim.Native.Nat.{ℕ}
@@ -8,7 +8,7 @@ use Rattle.steps.specs.Calls.{Outcome, outcome, left}
 use Rattle.steps.specs.Loops.{each}
 use Rattle.board.specs.Boards.{handed}
 use Rattle.board.proofs.Answered.{answers}
-use Rattle.techniques.specs.code.Pushes.{append, stored}
+use Rattle.techniques.specs.code.Pushes.{append, cleared}
 use Rattle.techniques.specs.code.Searches.{search_call}
 use Rattle.techniques.specs.declared.singles.Reports.{Reports}
 use Rattle.techniques.proofs.report_handed.Goals as goal
@@ -22,10 +22,9 @@ unfolding reported append each
 returns-in-Refused c =
     let a = c.args in
     let b = handed a.clues.now a.entries.now a.masks.now in
-    let q = stored a.cells.now a.digits.now 0 in
     let e = answers (search_call a.search) b (told c.check_given.ensures c.in-Refused.is) in record {
       answer_value = ap (map (λ (o : Outcome). o.flag)) e;
-      count_after = ap (reported q) e;
+      reports_after = c.clear.ensures ∙ ap (reported (cleared a.reports.now)) e;
       masks_after = ap (λ (o : Answer Outcome). (left b o).masks) e;
     }
 
@@ -35,11 +34,11 @@ returns-in-Passed c =
     let a = c.args in
     let b = handed a.clues.now a.entries.now a.masks.now in
     let x = search_call a.search in
-    let q = stored a.cells.now a.digits.now 0 in
-    let s = c.find_into-found.ensures in
+    let q = cleared a.reports.now in
+    let s = c.find_into.ensures in
     let of = ap (λ (g : List ℕ). outcome x g b.masks) c.givens_of-givens.ensures in
     let e = answers x b (told c.check_given.ensures c.in-Passed.is) in record {
       answer_value = ap gives (s.made_value ∙ ap (λ (o : Outcome). o.flag) of) ∙ ap (map (λ (o : Outcome). o.flag)) e;
-      count_after = s.count_after ∙ ap (λ (o : Outcome). append o.reports q) of ∙ ap (reported q) e;
+      reports_after = s.reports_after ∙ ap (append (outcome x c.givens_of-givens.result b.masks).reports) c.clear.ensures ∙ ap (λ (o : Outcome). append o.reports q) of ∙ ap (reported q) e;
       masks_after = s.masks_after ∙ ap (λ (o : Outcome). o.masks) of ∙ ap (λ (o : Answer Outcome). (left b o).masks) e;
     }
