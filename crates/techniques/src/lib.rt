@@ -3,7 +3,7 @@
 #![tactic(auto)]
 
 ghost use Rattle.std.specs.Prelude.{◌≡◌, cond, ◌||◌, [], ltb};
-ghost use Rattle.stops.specs.Answer.{map, progress_answer, value_or};
+ghost use Rattle.stops.specs.Answer.{answer_of, map, value_or};
 ghost use Rattle.steps.specs.Calls.{naked_singles_call, hidden_singles_call, advanced_call, answer, left, outcome};
 ghost use Rattle.steps.specs.Boards.{fresh};
 ghost use Rattle.steps.specs.Passes.{changed};
@@ -19,18 +19,17 @@ use board::fresh::fresh_masks;
 use board::{Board, check_given};
 use cells::changed;
 use singles::Reports;
-use stops::{Check, Progress};
+use stops::Stop;
 
 pub mod box_lines;
 pub mod naked_pairs;
 pub mod singles;
 pub mod x_wings;
 
-// The singles of a board, and the board; no report beside a refusal.
+// What a call that reports says: whether there was progress, and its reports.
 #[derive(Clone, Copy)]
 pub struct Reported {
-    pub answer: Progress,
-    pub board: Board,
+    pub made: bool,
     pub reports: Reports,
 }
 
@@ -116,69 +115,55 @@ pub fn report_handed(
     entries: &[i32; 81],
     masks: &mut [u16; 81],
     reports: &mut Reports,
-) -> Progress
-    ensures answer_value { progress_answer result ≡ map (λ o. o.flag) (answer (search_call search) (handed clues.now entries.now masks.old)) }
+) -> Result<bool, Stop>
+    ensures answer_value { answer_of result ≡ map (λ o. o.flag) (answer (search_call search) (handed clues.now entries.now masks.old)) }
     ensures reports_after { reports.new ≡ append (value_or [] (map (λ o. o.reports) (answer (search_call search) (handed clues.now entries.now masks.old)))) (cleared reports.old) }
     ensures masks_after { masks.new ≡ (left (handed clues.now entries.now masks.old) (answer (search_call search) (handed clues.now entries.now masks.old))).masks }
 {
     reports.clear();
     let givens = givens_of(clues, entries);
-    match check_given(clues, entries, &givens, masks) {
-        Check::Refused(stop) => Progress::Refused(stop),
-        Check::Passed => Progress::Made(find_into(search, &givens, masks, reports)),
-    }
+    check_given(clues, entries, &givens, masks)?;
+    Ok(find_into(search, &givens, masks, reports))
 }
 
-fn report(search: Search, board: Board) -> Reported
-    ensures { Finds (search_call search) (board_of board) result }
+fn report(search: Search, board: &mut Board) -> Result<Reported, Stop>
+    ensures { Finds (search_call search) (board_of board.old) result (board_of board.new) }
 {
-    let clues = board.clues;
-    let entries = board.entries;
-    let mut masks = board.masks;
     let mut reports = Reports::new();
-    let answer = report_handed(search, &clues, &entries, &mut masks, &mut reports);
-    Reported {
-        answer,
-        board: Board {
-            clues,
-            entries,
-            masks,
-        },
-        reports,
-    }
+    let made = report_handed(
+        search,
+        &board.clues,
+        &board.entries,
+        &mut board.masks,
+        &mut reports,
+    )?;
+    Ok(Reported { made, reports })
 }
 
-pub fn apply_naked_singles(board: Board) -> Reported
-    ensures { Finds naked_singles_call (board_of board) result }
+pub fn apply_naked_singles(board: &mut Board) -> Result<Reported, Stop>
+    ensures { Finds naked_singles_call (board_of board.old) result (board_of board.new) }
 {
     report(Search::Naked, board)
 }
 
-pub fn apply_hidden_singles(board: Board) -> Reported
-    ensures { Finds hidden_singles_call (board_of board) result }
+pub fn apply_hidden_singles(board: &mut Board) -> Result<Reported, Stop>
+    ensures { Finds hidden_singles_call (board_of board.old) result (board_of board.new) }
 {
     report(Search::Hidden, board)
 }
 
-pub fn apply_advanced_techniques(board: Board) -> Reported
-    ensures { Finds advanced_call (board_of board) result }
+pub fn apply_advanced_techniques(board: &mut Board) -> Result<Reported, Stop>
+    ensures { Finds advanced_call (board_of board.old) result (board_of board.new) }
 {
     report(Search::Advanced, board)
 }
 
-// What `apply_advanced_techniques` says of masks: whether there was progress, and the reports.
-#[derive(Clone, Copy)]
-pub struct Advanced {
-    pub made: bool,
-    pub reports: Reports,
-}
-
 // `apply_advanced_techniques` over lent masks that are not checked.
-pub fn advance(givens: &[u8; 81], masks: &mut [u16; 81]) -> Advanced
+pub fn advance(givens: &[u8; 81], masks: &mut [u16; 81]) -> Reported
     ensures made_value { (result.made ≡ (outcome advanced_call givens.now masks.old).flag) × (result.reports ≡ reports_of (outcome advanced_call givens.now masks.old).reports) }
     ensures masks_after { masks.new ≡ (outcome advanced_call givens.now masks.old).masks }
 {
     let mut reports = Reports::new();
     let made = advance_into(givens, masks, &mut reports);
-    Advanced { made, reports }
+    Reported { made, reports }
 }
