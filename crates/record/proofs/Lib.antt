@@ -8,5 +8,4 @@ pub mod SectionLaws
 pub mod BoardSets
 pub mod Rooms
 pub mod Laws
-pub mod Moving
 pub mod MoveLaws

@@ -4,17 +4,17 @@ use mathlib.Core.List.{List, ◌++◌}
 use Prim.Native.Nat.{ℕ, ◌≤◌}
 use native.Mathlib.Omega.{arith}
 use lib.IntN.{ℤ}
-use lib.ListN.{length, length-append}
+use lib.ListN.{length, take, length-append}
 use Rattle.steps.specs.Boards.{Board, givens, givens_of, fresh}
 use Rattle.steps.proofs.Check.{clues-givens}
 use Rattle.record.specs.declared.forms.Form.{Form}
 use Rattle.record.specs.declared.forms.Form.TheVariants.{Old, New}
 use Rattle.record.specs.declared.sections.Section.TheVariants.{Digits, Removed}
 use Rattle.record.specs.Records.{digit_sets, lacking, all_sets, entry_section, bytes_in}
-use Rattle.record.specs.Sections.{candidates, section_bytes, stored, leading}
+use Rattle.record.specs.Sections.{candidates, section_bytes, stored}
 use Rattle.record.proofs.BoardSets.{clues-hold}
 use Rattle.record.proofs.SectionLaws.{digits-few}
-use Rattle.record.proofs.Stores.{leading-stored}
+use Rattle.record.proofs.Stores.{first-stored}
 use Rattle.record.proofs.Writing.{candidates-few, section-length}
 
 -- the sections of clues and of entries
@@ -48,6 +48,6 @@ module _ (k : Form) (b : Board) where
       )
 
   -- what the writer copies
-  pub record-leads : (l : List ℕ) {n : ℕ} {bs : List ℕ} → 1786 ≤ length l → n ≡ length (bytes_in k b) → bs ≡ stored l 0 (bytes_in k b) → leading n bs ≡ bytes_in k b
+  pub record-leads : (l : List ℕ) {n : ℕ} {bs : List ℕ} → 1786 ≤ length l → n ≡ length (bytes_in k b) → bs ≡ stored l 0 (bytes_in k b) → take n bs ≡ bytes_in k b
   record-leads l {n} {bs} h p q =
-      ap (λ (m : ℕ). leading m bs) p ∙ ap (leading (length (bytes_in k b))) q ∙ leading-stored l (bytes_in k b) (omega (arith, record-few))
+      ap (λ (m : ℕ). take m bs) p ∙ ap (take (length (bytes_in k b))) q ∙ first-stored l (bytes_in k b) (omega (arith, record-few))

@@ -1,52 +1,33 @@
 -- Reading sections: what is left to read after an entry, and what the reader answers. Assumes nothing.
-use mathlib.Core.Path.{◌≡◌, sym, ap, ◌∙◌}
+use mathlib.Core.Path.{◌≡◌, sym, ap, ap₂, ◌∙◌}
 use mathlib.Core.Bool.{cond}
 use mathlib.Core.List.{List}
-use Prim.Native.Nat.{ℕ, suc, ◌+◌, ◌-◌, ◌≤◌, ◌<◌}
+use Prim.Native.Nat.{ℕ, suc, ◌+◌, ◌≤◌, ◌<◌}
 use native.Mathlib.Omega.{arith}
 use borrow.Author.Tests.{le-leb, lt-leb}
 use lib.Dec.{leb}
 use lib.IntN.{ℤ, pos}
 use lib.ListN.{length}
-use Rattle.stops.specs.Answer.{Answer, gives, stop, map, then, value_or}
-use Rattle.stops.specs.declared.Stop.{Stop}
+use Rattle.stops.specs.Answer.{Answer, gives, stop, then}
 use Rattle.stops.specs.declared.Stop.TheVariants.{RecordBytes}
 use Rattle.candidates.proofs.Tests.{cond-true, cond-false}
 use Rattle.steps.specs.Boards as S
 use Rattle.steps.specs.Boards.{givens_of, together, fresh}
-use Rattle.board.specs.Boards.{no_board}
 use Rattle.record.specs.declared.forms.Form.{Form}
-use Rattle.record.specs.declared.sections.Reading.{Reading}
-use Rattle.record.specs.declared.sections.Reading.TheVariants.{Refused}
 use Rattle.record.specs.declared.sections.Section.{Section}
 use Rattle.record.specs.declared.sections.Section.TheVariants.{Digits, Removed}
 use Rattle.record.specs.Records.{lacking, all_sets, open_sets, numbers_in, board_from, read_entry_section, read_removed, read_entered, read_in}
-use Rattle.record.specs.Sections.{width, after, reading_answer, number_at, entry_at, with, SectionRead, with_sets, read_entries, no_sets, read_section}
-
--- ---- a reading r, and which of its cases it is
-
-module _ {r q : Reading} (is : r ≡ q) where
-  pub entry-told : {k : Answer ℕ} → reading_answer r ≡ k → reading_answer q ≡ k
-  entry-told e = ap reading_answer (sym is) ∙ e
-
-  pub section-told : (s : List ℕ) {k : Answer SectionRead} → map (with_sets s) (reading_answer r) ≡ k → map (with_sets s) (reading_answer q) ≡ k
-  section-told s e = ap (λ (x : Reading). map (with_sets s) (reading_answer x)) (sym is) ∙ e
-
--- what stands beside a reading that is the stop of a
-pub refused-beside : {r : Reading} {s : Stop} → r ≡ Refused s → {a : Answer S.Board} → stop s ≡ a → {x : Answer S.Board} {b : S.Board}
-    → (x ≡ map (λ _. no_board) (reading_answer r)) × (b ≡ no_board) → (x ≡ a) × (b ≡ value_or no_board a)
-refused-beside is e p = (p.0 ∙ ap (λ (y : Reading). map (λ _. no_board) (reading_answer y)) is ∙ e, p.1 ∙ ap (value_or no_board) e)
+use Rattle.record.specs.Sections.{width, after, number_at, entry_at, with, SectionRead, with_sets, read_entries, no_sets, read_section}
 
 -- ---- the loop over entries
 
 module _ (k : Section) (free bs : List ℕ) where
   -- n entries are left, at offset i
   module _ (n low i : ℕ) (s : List ℕ) where
-    pub read-on : {a : Answer ℕ} → 0 < n → a ≡ entry_at k free bs low i → then a (λ e. read_entries k free bs (n - 1) (after k e) (i + 2) (with s e)) ≡ read_entries k free bs n low i s
+    pub read-on : {a : Answer ℕ} (m : ℕ) → suc m ≡ n → a ≡ entry_at k free bs low i → then a (λ e. read_entries k free bs m (after k e) (i + 2) (with s e)) ≡ read_entries k free bs n low i s
     unfolding read_entries
-    read-on h t =
-        let e : suc (n - 1) ≡ n = omega arith in
-        ap (λ (a : Answer ℕ). then a (λ e. read_entries k free bs (n - 1) (after k e) (i + 2) (with s e))) t ∙ ap (λ (m : ℕ). read_entries k free bs m low i s) e
+    read-on m e t =
+        ap (λ (a : Answer ℕ). then a (λ e. read_entries k free bs m (after k e) (i + 2) (with s e))) t ∙ ap (λ (m : ℕ). read_entries k free bs m low i s) e
 
     pub read-end : n ≤ 0 → gives (with_sets s i) ≡ read_entries k free bs n low i s
     unfolding read_entries
@@ -73,6 +54,10 @@ module _ (clues entries : List ℤ) (bs : List ℕ) (i : ℕ) where
 
   abbrev after-removed : SectionRead → Answer S.Board
   after-removed r = cond (leb (length bs) r.next) (gives (board_from clues entries r.sets)) (stop (RecordBytes (pos r.next)))
+
+  -- the sets that it may have, as the code works them out
+  pub free-from : {g f free : List ℕ} → g ≡ joint → f ≡ fresh g → free ≡ open_sets g f → read_section Removed free bs i ≡ read_section Removed (open_sets joint (fresh joint)) bs i
+  free-from p q r = ap (λ (x : List ℕ). read_section Removed x bs i) (r ∙ ap₂ open_sets p (q ∙ ap fresh p))
 
   -- the removed section, read or refused
   pub from-removed : {a : Answer SectionRead} → a ≡ read_section Removed (open_sets joint (fresh joint)) bs i → then a after-removed ≡ read_removed clues entries bs i

@@ -1,14 +1,12 @@
 -- Bytes that are written one after the other: runs of stores that follow each other, and runs that do not touch. Assumes nothing.
 use mathlib.Core.Path.{◌≡◌, refl, sym, ap, ◌∙◌}
-use mathlib.Core.List.{List, [], ◌∷◌, ◌++◌, map}
+use mathlib.Core.List.{List, [], ◌∷◌, ◌++◌}
 use Prim.Native.Nat.{ℕ, suc, ◌+◌, ◌≤◌, ◌<◌}
 use native.Mathlib.Nat.{add-zero}
 use native.Mathlib.Omega.{arith}
-use lib.ListN.{length, get_or, set, drop, length-map, get_or-append}
-use lib.Seq.{set_comm, sets, sets-eq, ext_get_or}
-use Rattle.grid.proofs.Lists.{at-up_to, range_length}
-use Rattle.steps.specs.Loops.{range}
-use Rattle.record.specs.Sections.{stored, leading}
+use lib.ListN.{length, set, take, drop}
+use lib.Seq.{set_comm, sets, sets-eq, take-append_seam}
+use Rattle.record.specs.Sections.{stored}
 
 -- one run after the other
 pub stored-append : (l : List ℕ) (i : ℕ) (xs ys : List ℕ) → stored l i (xs ++ ys) ≡ stored (stored l i xs) (i + length xs) ys
@@ -29,12 +27,5 @@ stored-apart l j (x ∷ xs) i vs h =
     stored-apart (set l j x) (suc j) xs i vs (omega arith) ∙ ap (λ (m : List ℕ). sets m (suc j) xs) (set-stored l j x i vs (omega arith))
 
 -- what stands in front of the array once it is written there
-pub leading-stored : (l r : List ℕ) → length r ≤ length l → leading (length r) (stored l 0 r) ≡ r
-unfolding leading
-leading-stored l r h =
-    ext_get_or 0 (map (λ i. get_or (stored l 0 r) i 0) (range (length r) 0)) r size
-    (λ i k. at-up_to (λ i. get_or (stored l 0 r) i 0) 0 (length r) i (omega (arith, size))
-    ∙ ap (λ (m : List ℕ). get_or m i 0) (sets-eq r l 0 (omega arith)) ∙ get_or-append r (drop (0 + length r) l) 0 i (omega (arith, size)))
-  where
-    size : length (map (λ i. get_or (stored l 0 r) i 0) (range (length r) 0)) ≡ length r
-    size = length-map (range (length r) 0) (λ i. get_or (stored l 0 r) i 0) ∙ range_length (length r) 0
+pub first-stored : (l r : List ℕ) → length r ≤ length l → take (length r) (stored l 0 r) ≡ r
+first-stored l r h = ap (take (length r)) (sets-eq r l 0 (omega arith)) ∙ take-append_seam r (drop (0 + length r) l)

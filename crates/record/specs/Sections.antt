@@ -1,6 +1,6 @@
 -- The sections of a record (module 14; document 02, F-8): a count, and then an entry of two bytes for each of its candidates. A section stands for 81 sets of
 -- digits, one for each cell. A candidate is numbered 9 times its cell + the place of its digit, so that (cell, digit) rises as its number does.
-use Rattle.std.specs.Prelude.{Bool, cond, ◌&&◌, List, [], ◌∷◌, ◌++◌, map, ℕ, zero, suc, ◌+◌, ◌-◌, ◌*◌, ◌/◌, ◌%◌, leb, ℤ, pos, length, get_or, set, replicate}
+use Rattle.std.specs.Prelude.{Bool, cond, ◌&&◌, List, [], ◌∷◌, ◌++◌, ℕ, zero, suc, ◌+◌, ◌-◌, ◌*◌, ◌/◌, ◌%◌, leb, ℤ, pos, length, get_or, set, replicate}
 use Rattle.std.proofs.lemmas.List.Edits.{sets}
 use Rattle.stops.specs.Answer.{Answer, gives, stop, then}
 use Rattle.stops.specs.declared.Stop.{Stop}
@@ -8,8 +8,6 @@ use Rattle.stops.specs.declared.Stop.TheVariants.{RecordBytes, RecordEntry, NotF
 use Rattle.candidates.specs.Masks.{has, single, union}
 use Rattle.steps.specs.Boards.{at}
 use Rattle.steps.specs.Loops.{select, up_to}
-use Rattle.record.specs.declared.sections.Reading.{Reading}
-use Rattle.record.specs.declared.sections.Reading.TheVariants as reading
 use Rattle.record.specs.declared.sections.Section.{Section}
 use Rattle.record.specs.declared.sections.Section.TheVariants.{Digits, Removed}
 
@@ -56,16 +54,7 @@ section_bytes k s = low_first (width k) (length (candidates s)) ++ entry_bytes (
 abbrev pub stored : List ℕ → ℕ → List ℕ → List ℕ
 stored bs i xs = sets bs i xs
 
--- the first n bytes
-unfoldable pub leading : ℕ → List ℕ → List ℕ
-leading n bs = map (λ i. get_or bs i 0) (up_to n)
-
 -- ---- reading
-
--- a candidate, or the offset after a section
-abbrev pub reading_answer : Reading → Answer ℕ
-reading_answer (reading.At n) = gives n
-reading_answer (reading.Refused s) = stop s
 
 -- the number that stands in the w bytes from an offset on
 abbrev pub number_at : ℕ → List ℕ → ℕ → ℕ

@@ -1,9 +1,9 @@
 // The sections of a record: a count, and then an entry of two bytes, cell and digit, for each of its candidates. A section stands for a set of
 // digits for each cell; a candidate is numbered 9 times its cell + the place of its digit.
 ghost use Rattle.std.specs.Prelude.{◌≡◌, ◌+◌, ◌*◌, ◌≤◌, ◌<◌, get_or, length};
-ghost use Rattle.stops.specs.Answer.{map};
+ghost use Rattle.stops.specs.Answer.{answer_of, map};
 ghost use Rattle.record.specs.code.Places.{cell_candidates};
-ghost use Rattle.record.specs.Sections.{width, after, outside, candidates, entry_bytes, low_first, section_bytes, number_at, well_formed, entry_at, with, with_sets, read_entries, read_section, reading_answer, no_sets, stored};
+ghost use Rattle.record.specs.Sections.{width, after, outside, candidates, entry_bytes, low_first, section_bytes, number_at, well_formed, entry_at, with, with_sets, read_entries, read_section, no_sets, stored};
 
 use candidates::masks;
 use cells::mask_at;
@@ -15,13 +15,6 @@ use text::byte_at;
 pub enum Section {
     Digits,
     Removed,
-}
-
-// What reading finds: a candidate, or the offset after a section.
-#[derive(Clone, Copy)]
-pub enum Reading {
-    At(usize),
-    Refused(Stop),
 }
 
 // The bytes of the section's count.
@@ -56,10 +49,8 @@ fn put_entries(sets: &[u16; 81], bytes: &mut [u8; 1786], start: usize) -> usize
     ensures { (bytes.new ≡ stored bytes.old start (entry_bytes (candidates sets.now))) × (result ≡ start + 2 * length (candidates sets.now)) }
 {
     let mut at = start;
-    let mut cell: usize = 0;
-    while cell < 81 {
-        at = put_cell(cell, sets[cell], bytes, at);
-        cell += 1;
+    for (cell, set) in sets.iter().enumerate() {
+        at = put_cell(cell, *set, bytes, at);
     }
     at
 }
@@ -115,16 +106,7 @@ fn count_at(section: Section, bytes: &[u8], at: usize) -> usize
 fn well_formed(low: usize, cell: usize, digit: usize) -> bool
     ensures { result ≡ well_formed low cell digit }
 {
-    if 80 < cell {
-        return false;
-    }
-    if digit < 1 {
-        return false;
-    }
-    if 9 < digit {
-        return false;
-    }
-    low <= 9 * cell + (digit - 1)
+    cell <= 80 && 1 <= digit && digit <= 9 && low <= 9 * cell + (digit - 1)
 }
 
 // The stop of an entry at `at` whose candidate the section may not have.
@@ -138,24 +120,30 @@ fn outside_stop(section: Section, at: i64) -> Stop
 }
 
 // The candidate of the entry at an offset, which is not below `low` and one of `free`.
-fn entry_at(section: Section, free: &[u16; 81], bytes: &[u8], low: usize, at: usize) -> Reading
-    ensures { reading_answer result ≡ entry_at section free.now bytes.now low at }
+fn entry_at(
+    section: Section,
+    free: &[u16; 81],
+    bytes: &[u8],
+    low: usize,
+    at: usize,
+) -> Result<usize, Stop>
+    ensures { answer_of result ≡ entry_at section free.now bytes.now low at }
 {
     if bytes.len() < 2 {
-        return Reading::Refused(Stop::RecordBytes(bytes.len() as i64));
+        return Err(Stop::RecordBytes(bytes.len() as i64));
     }
     if bytes.len() - 2 < at {
-        return Reading::Refused(Stop::RecordBytes(bytes.len() as i64));
+        return Err(Stop::RecordBytes(bytes.len() as i64));
     }
     let cell = value_at(bytes, at);
     let digit = value_at(bytes, at + 1);
     if !well_formed(low, cell, digit) {
-        return Reading::Refused(Stop::RecordEntry(at as i64));
+        return Err(Stop::RecordEntry(at as i64));
     }
     if !masks::has_digit(mask_at(free, cell), digit - 1) {
-        return Reading::Refused(outside_stop(section, at as i64));
+        return Err(outside_stop(section, at as i64));
     }
-    Reading::At(9 * cell + (digit - 1))
+    Ok(9 * cell + (digit - 1))
 }
 
 // The lowest candidate that may follow this one.
@@ -185,23 +173,18 @@ fn read_entries(
     count: usize,
     start: usize,
     sets: &mut [u16; 81],
-) -> Reading
-    ensures { map (with_sets sets.new) (reading_answer result) ≡ read_entries section free.now bytes.now count 0 start sets.old }
+) -> Result<usize, Stop>
+    ensures { map (with_sets sets.new) (answer_of result) ≡ read_entries section free.now bytes.now count 0 start sets.old }
 {
-    let mut left = count;
     let mut low: usize = 0;
     let mut at = start;
-    while 0 < left {
-        let entry = entry_at(section, free, bytes, low, at);
-        let Reading::At(candidate) = entry else {
-            return entry;
-        };
+    for _ in 0..count {
+        let candidate = entry_at(section, free, bytes, low, at)?;
         add(sets, candidate);
         low = next_low(section, candidate);
         at += 2;
-        left -= 1;
     }
-    Reading::At(at)
+    Ok(at)
 }
 
 // A whole section, whose candidates are added to the lent sets.
@@ -211,16 +194,16 @@ pub fn read_section(
     bytes: &[u8],
     start: usize,
     sets: &mut [u16; 81],
-) -> Reading
+) -> Result<usize, Stop>
     requires { sets.old ≡ no_sets }
-    ensures { map (with_sets sets.new) (reading_answer result) ≡ read_section section free.now bytes.now start }
+    ensures { map (with_sets sets.new) (answer_of result) ≡ read_section section free.now bytes.now start }
 {
     let width = count_width(section);
     if bytes.len() < width {
-        return Reading::Refused(Stop::RecordBytes(bytes.len() as i64));
+        return Err(Stop::RecordBytes(bytes.len() as i64));
     }
     if bytes.len() - width < start {
-        return Reading::Refused(Stop::RecordBytes(bytes.len() as i64));
+        return Err(Stop::RecordBytes(bytes.len() as i64));
     }
     let count = count_at(section, bytes, start);
     read_entries(section, free, bytes, count, start + width, sets)

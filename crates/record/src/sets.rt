@@ -10,10 +10,8 @@ pub fn digit_sets(givens: &[u8; 81]) -> [u16; 81]
     ensures { result ≡ digit_sets givens.now }
 {
     let mut sets = [0u16; 81];
-    let mut cell: usize = 0;
-    while cell < 81 {
-        sets[cell] = given_mask(givens[cell]);
-        cell += 1;
+    for (cell, given) in givens.iter().enumerate() {
+        sets[cell] = given_mask(*given);
     }
     sets
 }
@@ -23,10 +21,8 @@ pub fn lacking_sets(have: &[u16; 81], other: &[u16; 81]) -> [u16; 81]
     ensures { result ≡ lacking have.now other.now }
 {
     let mut sets = [0u16; 81];
-    let mut cell: usize = 0;
-    while cell < 81 {
+    for cell in 0..81 {
         sets[cell] = masks::lose(have[cell], other[cell]);
-        cell += 1;
     }
     sets
 }
@@ -36,10 +32,8 @@ pub fn open_sets(givens: &[u8; 81], masks: &[u16; 81]) -> [u16; 81]
     ensures { result ≡ open_sets givens.now masks.now }
 {
     let mut sets = [0u16; 81];
-    let mut cell: usize = 0;
-    while cell < 81 {
+    for cell in 0..81 {
         sets[cell] = open_mask(givens, masks, cell);
-        cell += 1;
     }
     sets
 }
@@ -58,29 +52,18 @@ pub fn digits_in(sets: &[u16; 81]) -> [u8; 81]
     ensures { result ≡ digits_in sets.now }
 {
     let mut digits = [0u8; 81];
-    let mut cell: usize = 0;
-    while cell < 81 {
-        digits[cell] = digit_in(sets[cell]);
-        cell += 1;
+    for (cell, set) in sets.iter().enumerate() {
+        digits[cell] = digit_in(*set);
     }
     digits
-}
-
-// The clue of a given digit.
-fn clue_of(digit: u8) -> i32
-    ensures { result ≡ pos digit }
-{
-    digit as i32
 }
 
 pub fn clues_from(givens: &[u8; 81]) -> [i32; 81]
     ensures { result ≡ clues_from givens.now }
 {
     let mut clues = [0i32; 81];
-    let mut cell: usize = 0;
-    while cell < 81 {
-        clues[cell] = clue_of(givens[cell]);
-        cell += 1;
+    for (cell, given) in givens.iter().enumerate() {
+        clues[cell] = i32::from(*given);
     }
     clues
 }

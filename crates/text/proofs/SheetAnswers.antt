@@ -1,18 +1,16 @@
 -- What the reader of sheets answers, and how many cells it asks for. Assumes nothing.
-use mathlib.Core.Path.{◌≡◌, sym, ap, ◌∙◌}
+use mathlib.Core.Path.{◌≡◌, sym, ap}
 use mathlib.Core.Bool.{Bool, true, false, not, ◌&&◌}
 use mathlib.Core.List.{List}
 use mathlib.Core.Option.{Option}
 use Prim.Native.Nat.{ℕ, ◌≤◌, ◌<◌}
 use borrow.Author.Tests.{eq-eqb, ne_eqb, le-leb, lt-leb}
 use lib.Dec.{eqb, leb}
-use lib.IntN.{ℤ, pos}
+use lib.IntN.{pos}
 use lib.ListN.{length}
-use Rattle.stops.specs.Answer.{Answer, gives, stop, then, passing, value_or, stop_at}
-use Rattle.stops.specs.declared.Stop.{Stop}
+use Rattle.stops.specs.Answer.{gives, stop, then, stop_at}
 use Rattle.stops.specs.declared.Stop.TheVariants.{OtherByte, SheetLength, SheetCells}
 use Rattle.candidates.proofs.Tests.{cond-true, cond-false}
-use Rattle.board.specs.Boards.{no_clues}
 use Rattle.text.specs.Sheets.{passed_over, unruled, is_stranger, first_stranger, cells_in, cells_of, sheet_of}
 use Rattle.text.specs.Texts.{is_other, clues_of}
 
@@ -45,7 +43,3 @@ module _ (b : ℕ) where
 
   pub stranger-is : passed_over b ≡ false → is_other b ≡ is_stranger b
   stranger-is e = sym (ap (λ (t : Bool). not t && is_other b) e)
-
--- what is handed back beside a stop
-pub stop-beside : {a : Answer (Unit {0})} {s : Stop} {z : List ℤ} {k : Answer (List ℤ)} → a ≡ stop s → z ≡ no_clues → stop s ≡ k → (passing a z ≡ k) × (z ≡ value_or no_clues k)
-stop-beside {a} {s} {z} {k} p q e = (ap (λ (x : Answer (Unit {0})). passing x z) p ∙ e, q ∙ ap (value_or no_clues) e)

@@ -10,7 +10,6 @@ use lib.Dec.{eqb, leb}
 use lib.IntN.{ℤ, pos}
 use lib.ListN.{length, drop}
 use Rattle.stops.specs.Answer.{Answer, gives, stop, passing, stop_at}
-use Rattle.stops.specs.declared.Stop.{Stop}
 use Rattle.stops.specs.declared.Stop.TheVariants.{TextLength, OtherByte, BadClue, TooFewBytes}
 use Rattle.stops.proofs.Answers.{gives_same, stop-gives}
 use Rattle.candidates.proofs.Tests.{cond-true, cond-false}
@@ -69,9 +68,6 @@ module _ (m : ℕ) (z : List ℤ) (n : ℕ) where
 
   -- what stands in the lent bytes after it
   module _ (bytes lent : List ℕ) where
-    pub refusal-keeps : {s : Stop} → stop s ≡ write_of m z n → lent ≡ written (write_of m z n) bytes lent
-    refusal-keeps e = ap (λ (a : Answer ℕ). written a bytes lent) e
-
     pub bytes-written : {k : ℕ} {out : List ℕ} → gives k ≡ write_of m z n → out ≡ bytes ++ drop m lent → out ≡ written (write_of m z n) bytes lent
     bytes-written {k} e put =
         put ∙ ap (λ (j : ℕ). bytes ++ drop j lent) (sym (wrote-all e).0) ∙ ap (λ (a : Answer ℕ). written a bytes lent) e

@@ -7,13 +7,6 @@ use Rattle.grid.specs.Cells.{cells}
 use Rattle.steps.specs.Boards.{digit_of}
 use Rattle.steps.specs.Calls.{first_bad_clue}
 use Rattle.steps.specs.Loops.{first}
-use Rattle.text.specs.declared.TextByte.TheVariants as text
-use Rattle.text.specs.declared.TextByte.{TextByte}
-
--- what a byte of a text is in code: a cell's digit, 0 where it is open, or no cell
-abbrev pub text_cell : TextByte → Option ℕ
-text_cell (text.Cell d) = some d
-text_cell text.Other = none
 
 -- what a byte stands for: a digit, 0 for an open cell, or nothing
 abbrev pub byte_cell : ℕ → Option ℕ

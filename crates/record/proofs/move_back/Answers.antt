@@ -1,13 +1,17 @@
--- `record::move_back` meets its contract. Assumes nothing.
-use Rattle.board.specs.Boards.{board_of}
-use Rattle.record.specs.declared.forms.Form.TheVariants.{New}
-use Rattle.record.proofs.Moving.{moves, checked-board}
+use Rattle.std.proofs.Common.{refl, sym}
+use Rattle.stops.proofs.Answers.{passed-on}
+use Rattle.record.specs.Moves.{move_of, moved_of}
 use Rattle.record.proofs.move_back.Goals as goal
 
+pub returns-in_err-board : goal.returns-in_err-board
+unfolding move_of moved_of
+returns-in_err-board c = rw (passed-on _ c.from_residual.ensures.1, sym c.in_err-board.ensures) (refl, refl)
+
+pub returns-in_err-check_unentered : goal.returns-in_err-check_unentered
+unfolding move_of moved_of
+returns-in_err-check_unentered c =
+    rw (passed-on _ c.from_residual-in_err-check_unentered.ensures.1, sym c.in_ok-board.ensures, sym c.in_err-check_unentered.ensures) (refl, refl)
+
 pub returns : goal.returns
-returns c =
-    let a = c.args in
-    let b = board_of c.read_in-read.result.board in
-    moves New a.bytes.now a.out.now c.then-checked.result b
-    (checked-board a.bytes.now c.read_in-read.result.answer c.check_unentered.result b c.read_in-read.ensures.0 c.check_unentered.ensures c.then-checked.ensures)
-    c.write_checked.ensures
+unfolding move_of moved_of
+returns c = rw (sym c.in_ok-board.ensures, sym c.in_ok-check_unentered.ensures) c.write_checked.ensures

@@ -11,6 +11,3 @@ use Rattle.text.proofs.any_other.Given as goal
 
 abbrev pub invariant-loop-index : goal.invariant-loop-index
 invariant-loop-index l = (l.any || is_found (first (λ i. is_other (get_or l.text i 0)) (range (81 - l.index) l.index))) ≡ is_found (first_other l.text)
-
-abbrev pub decreases-loop-index : goal.decreases-loop-index
-decreases-loop-index l = 81 - l.index

@@ -9,6 +9,3 @@ use Rattle.text.proofs.check_bytes.Given as goal
 
 abbrev pub invariant-loop-index : goal.invariant-loop-index
 invariant-loop-index l = first (λ i. is_other (get_or l.text i 0)) (range (81 - l.index) l.index) ≡ first_other l.text
-
-abbrev pub decreases-loop-index : goal.decreases-loop-index
-decreases-loop-index l = 81 - l.index

@@ -3,6 +3,7 @@ use mathlib.Core.Path.{ap, ◌∙◌}
 use lib.IntN.{ℤ}
 use Rattle.stops.specs.Answer.{Answer, stop, passing}
 use Rattle.stops.specs.declared.Stop.TheVariants.{TooFewBytes}
+use Rattle.stops.proofs.Answers.{passed-on}
 use Rattle.stops.proofs.Numbers.{small}
 use Rattle.text.proofs.Texts.{too_short, long-enough}
 use Rattle.text.proofs.writing.Goals as goal
@@ -12,8 +13,13 @@ returns-then-lent-needed c =
     let a = c.args in
     ap (λ (z : ℤ). stop (TooFewBytes z)) (small c.requires) ∙ too_short a.needed a.grid.now a.lent c.if-lent-needed.true
 
+pub returns-in_err-check_clues : goal.returns-in_err-check_clues
+returns-in_err-check_clues c =
+    let a = c.args in
+    passed-on _ c.from_residual.ensures.1 ∙ ap (λ (x : Answer (Unit {0})). passing x a.needed) c.in_err-check_clues.ensures
+    ∙ long-enough a.needed a.grid.now a.lent c.if-lent-needed.false
+
 pub returns : goal.returns
 returns c =
     let a = c.args in
-    c.written.ensures ∙ ap (λ (x : Answer (Unit {0})). passing x a.needed) c.check_clues-check.ensures
-    ∙ long-enough a.needed a.grid.now a.lent c.if-lent-needed.false
+    ap (λ (x : Answer (Unit {0})). passing x a.needed) c.in_ok-check_clues.ensures ∙ long-enough a.needed a.grid.now a.lent c.if-lent-needed.false

@@ -3,7 +3,7 @@ use mathlib.Core.Path.{◌≡◌, sym, ap, ◌∙◌}
 use mathlib.Core.List.{List, ◌++◌}
 use Prim.Native.Nat.{ℕ, ◌≤◌}
 use lib.ListN.{length, length-append}
-use Rattle.board.specs.Boards.{handed}
+use Rattle.board.specs.Boards.{board_of}
 use Rattle.record.specs.declared.forms.Form.{Form}
 use Rattle.record.specs.declared.sections.Section.TheVariants.{Digits, Removed}
 use Rattle.record.specs.Records.{digit_sets, entry_section, bytes_in}
@@ -16,15 +16,15 @@ use Rattle.record.proofs.forms.put_record.Goals as goal
 
 pub put_section-second-requires : goal.put_section-second-requires
 put_section-second-requires c =
-    omega (arith, digits-length c.args.clues.now (c.digit_sets-printed.ensures ∙ ap digit_sets c.givens_of-2.ensures))
+    omega (arith, digits-length c.args.board.now.clues (c.digit_sets-printed.ensures ∙ ap digit_sets c.givens_of-2.ensures))
 
 pub put_entered-third-requires : goal.put_entered-third-requires
 put_entered-third-requires c =
     let printed-length : length (section_bytes Digits c.digit_sets-printed.result) ≤ 163 = (
-    digits-length c.args.clues.now (c.digit_sets-printed.ensures ∙ ap digit_sets c.givens_of-2.ensures)
+    digits-length c.args.board.now.clues (c.digit_sets-printed.ensures ∙ ap digit_sets c.givens_of-2.ensures)
     ) in
     let entries-length : (k : Form) → length (entry_section k c.digit_sets-entered.result) ≤ 163 = (
-    λ k. entered-length c.args.entries.now (c.digit_sets-entered.ensures ∙ ap digit_sets c.givens_of-3.ensures) k
+    λ k. entered-length c.args.board.now.entries (c.digit_sets-entered.ensures ∙ ap digit_sets c.givens_of-3.ensures) k
     ) in
     let form = c.args.form in
     omega (arith, c.put_section-second.ensures.1, printed-length, entries-length form)
@@ -32,10 +32,10 @@ put_entered-third-requires c =
 pub put_section-requires : goal.put_section-requires
 put_section-requires c =
     let printed-length : length (section_bytes Digits c.digit_sets-printed.result) ≤ 163 = (
-    digits-length c.args.clues.now (c.digit_sets-printed.ensures ∙ ap digit_sets c.givens_of-2.ensures)
+    digits-length c.args.board.now.clues (c.digit_sets-printed.ensures ∙ ap digit_sets c.givens_of-2.ensures)
     ) in
     let entries-length : (k : Form) → length (entry_section k c.digit_sets-entered.result) ≤ 163 = (
-    λ k. entered-length c.args.entries.now (c.digit_sets-entered.ensures ∙ ap digit_sets c.givens_of-3.ensures) k
+    λ k. entered-length c.args.board.now.entries (c.digit_sets-entered.ensures ∙ ap digit_sets c.givens_of-3.ensures) k
     ) in
     let form = c.args.form in
     omega (arith, c.put_entered-third.ensures.1, c.put_section-second.ensures.1, printed-length, entries-length form, removed-length c.lacking_sets-removed.result)
@@ -43,7 +43,7 @@ put_section-requires c =
 pub returns : goal.returns
 returns c =
     let a = c.args in
-    let b = handed a.clues.now a.entries.now a.masks.now in
+    let b = board_of a.board.now in
     let first = section_bytes Digits c.digit_sets-printed.result in
     let second = entry_section a.form c.digit_sets-entered.result in
     let third = section_bytes Removed c.lacking_sets-removed.result in

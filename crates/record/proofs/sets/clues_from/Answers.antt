@@ -15,7 +15,7 @@ loop-cell-init c = fill_start _ 81 (replicate 81 (pos 0)) refl
 
 pub loop-cell-preserved : goal.loop-cell-preserved
 loop-cell-preserved c =
-    fill_on _ 81 c.loop-cell.cell c.loop-cell.clues c.loop-cell.invariant (omega arith) (to_z-of_z {w = w32} (record { sfits = c.clue_of.type_inv }) ∙ c.clue_of.ensures)
+    fill_on _ 81 c.loop-cell.cell c.loop-cell.clues c.loop-cell.invariant (omega arith) (to_z-of_z {w = w32} (record { sfits = c.from.type_inv }) ∙ c.from.ensures)
 
 pub returns : goal.returns
 returns c = fill_end _ 81 c.loop-cell.cell c.loop-cell.clues c.loop-cell.invariant c.loop-cell-test.false

@@ -1,6 +1,5 @@
 -- `record::sets::digit_sets` meets its contract. Assumes nothing.
 use mathlib.Core.Path.{◌≡◌}
-use Prim.Native.Nat.{◌-◌}
 use Rattle.grid.proofs.Fills.{filled}
 use Rattle.steps.specs.Boards.{given_mask}
 use Rattle.record.specs.Records.{digit_sets}
@@ -8,6 +7,3 @@ use Rattle.record.proofs.sets.digit_sets.Given as goal
 
 abbrev pub invariant-loop-cell : goal.invariant-loop-cell
 invariant-loop-cell l = filled (given_mask l.givens) 81 l.cell l.sets ≡ digit_sets l.givens
-
-abbrev pub decreases-loop-cell : goal.decreases-loop-cell
-decreases-loop-cell l = 81 - l.cell

@@ -1,6 +1,5 @@
 -- `record::sets::lacking_sets` meets its contract. Assumes nothing.
 use mathlib.Core.Path.{◌≡◌}
-use Prim.Native.Nat.{◌-◌}
 use Rattle.grid.proofs.Fills.{filled}
 use Rattle.candidates.specs.Masks.{minus}
 use Rattle.steps.specs.Boards.{at}
@@ -9,6 +8,3 @@ use Rattle.record.proofs.sets.lacking_sets.Given as goal
 
 abbrev pub invariant-loop-cell : goal.invariant-loop-cell
 invariant-loop-cell l = filled (λ c. minus (at l.have c) (at l.other c)) 81 l.cell l.sets ≡ lacking l.have l.other
-
-abbrev pub decreases-loop-cell : goal.decreases-loop-cell
-decreases-loop-cell l = 81 - l.cell

@@ -1,6 +1,5 @@
 -- `record::sets::open_sets` meets its contract. Assumes nothing.
 use mathlib.Core.Path.{◌≡◌}
-use Prim.Native.Nat.{◌-◌}
 use Rattle.grid.proofs.Fills.{filled}
 use mathlib.Core.Bool.{cond}
 use Rattle.steps.specs.Boards.{at, is_open}
@@ -9,6 +8,3 @@ use Rattle.record.proofs.sets.open_sets.Given as goal
 
 abbrev pub invariant-loop-cell : goal.invariant-loop-cell
 invariant-loop-cell l = filled (λ c. cond (is_open l.givens c) (at l.masks c) 0) 81 l.cell l.sets ≡ open_sets l.givens l.masks
-
-abbrev pub decreases-loop-cell : goal.decreases-loop-cell
-decreases-loop-cell l = 81 - l.cell

@@ -2,7 +2,7 @@
 use mathlib.Core.Path.{◌≡◌}
 use mathlib.Core.Bool.{cond}
 use mathlib.Core.List.{List, ◌++◌}
-use Prim.Native.Nat.{ℕ, ◌+◌, ◌-◌, ◌*◌, ◌/◌, ◌%◌}
+use Prim.Native.Nat.{ℕ, ◌+◌, ◌*◌, ◌/◌, ◌%◌}
 use lib.Dec.{eqb}
 use lib.IntN.{ℤ, pos}
 use lib.ListN.{length, get_or, drop}
@@ -17,6 +17,3 @@ byte_at z i = cond (eqb (i % 10) 9) 10 (clue_byte (get_or z (9 * (i / 10) + i % 
 
 abbrev pub invariant-loop-index : goal.invariant-loop-index
 invariant-loop-index l = (length l.out ≡ length l.initial.out) × (filled (byte_at l.grid) 90 l.index l.out ≡ canonical_sheet l.grid ++ drop 90 l.initial.out)
-
-abbrev pub decreases-loop-index : goal.decreases-loop-index
-decreases-loop-index l = 90 - l.index

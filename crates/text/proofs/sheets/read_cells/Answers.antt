@@ -7,18 +7,17 @@ use lib.IntN.{ℤ, pos}
 use lib.ListN.{length, get_or, take, length-append}
 use mir.Facts.{to_z-of_z}
 use mir.Syntax.{w32}
-use Rattle.stops.specs.Answer.{gives, stop, value_or}
+use Rattle.stops.specs.Answer.{gives, stop}
 use Rattle.stops.specs.declared.Stop.TheVariants.{OtherByte, SheetCells}
 use Rattle.stops.proofs.Numbers.{small}
 use Rattle.grid.specs.Cells.{cells}
 use Rattle.grid.specs.Lists.{range}
 use Rattle.steps.specs.Loops.{first}
 use Rattle.steps.proofs.Searches.{found, passed, ended}
-use Rattle.board.specs.Boards.{no_clues}
 use Rattle.text.specs.Sheets.{is_stranger, first_stranger, unruled}
 use Rattle.text.specs.Texts.{clues_of}
 use Rattle.text.proofs.Gathering.{ruling-met, cell-met, met-few, all-met, clue-stored, clue-dropped}
-use Rattle.text.proofs.SheetAnswers.{cells_told, miscounted, counted, no-stranger, stranger-is, stop-beside}
+use Rattle.text.proofs.SheetAnswers.{cells_told, miscounted, counted, no-stranger, stranger-is}
 use Rattle.text.proofs.sheets.read_cells.Goals.{else-not-is_passed_over, then-not-is_passed_over+else-is_other, then-count-lt81, else-count-lt81}
 use Rattle.text.proofs.sheets.read_cells.Goals as goal
 
@@ -34,9 +33,8 @@ returns-then-is_other c =
     let s = c.args.sheet.now in
     let i = c.loop-index.index in
     let at = c.is_other.ensures ∙ stranger-is (get_or s i 0) (sym c.is_passed_over.ensures ∙ c.if-not-is_passed_over.true) in
-    stop-beside c.refused.ensures.0 c.refused.ensures.1
-    (ap (λ (z : ℤ). stop (OtherByte z)) (small (omega arith))
-    ∙ cells_told s (found _ (length s) i c.loop-index.invariant.3 c.loop-index-test.true at c.if-is_other.true))
+    ap (λ (z : ℤ). stop (OtherByte z)) (small (omega arith))
+    ∙ cells_told s (found _ (length s) i c.loop-index.invariant.3 c.loop-index-test.true at c.if-is_other.true)
 
 pub overflow_add-count : goal.overflow_add-count
 overflow_add-count c =
@@ -74,8 +72,8 @@ loop-index-preserved c =
           )
     ]
 
-pub overflow_cast-count : goal.overflow_cast-count
-overflow_cast-count c =
+pub overflow_cast-result-then-count-ne81 : goal.overflow_cast-result-then-count-ne81
+overflow_cast-result-then-count-ne81 c =
     let few : c.loop-index.count < 2 ^ 63 = (
     omega (arith, c.loop-index.invariant.1, c.loop-index.invariant.2, met-few c.args.sheet.now c.loop-index.index c.loop-index.invariant.2)
     ) in
@@ -93,9 +91,8 @@ returns-then-count-ne81 c =
     omega (arith, c.loop-index.invariant.1, c.loop-index.invariant.2, met-few c.args.sheet.now c.loop-index.index c.loop-index.invariant.2)
     ) in
     let s = c.args.sheet.now in
-    stop-beside c.refused-then-count-ne81.ensures.0 c.refused-then-count-ne81.ensures.1
-    (ap (λ (z : ℤ). stop (SheetCells z)) (small (few)) ∙ ap (λ (n : ℕ). stop (SheetCells (pos n))) (met)
-    ∙ miscounted (unruled s) (λ q. c.if-count-ne81.true (met ∙ q)) ∙ cells_told s (unstrange))
+    ap (λ (z : ℤ). stop (SheetCells z)) (small (few)) ∙ ap (λ (n : ℕ). stop (SheetCells (pos n))) (met)
+    ∙ miscounted (unruled s) (λ q. c.if-count-ne81.true (met ∙ q)) ∙ cells_told s (unstrange)
 
 pub returns : goal.returns
 returns c =
@@ -106,7 +103,5 @@ returns c =
     ended _ (length c.args.sheet.now) c.loop-index.index c.loop-index.invariant.3 c.loop-index-test.false
     ) in
     let s = c.args.sheet.now in
-    let e =
     ap gives (c.loop-index.invariant.0 ∙ ap clues_of (all-met s c.loop-index.index c.loop-index-test.false))
-    ∙ counted (unruled s) (sym (met) ∙ c.if-count-ne81.false) ∙ cells_told s (unstrange) in
-    (e, ap (value_or no_clues) e)
+    ∙ counted (unruled s) (sym (met) ∙ c.if-count-ne81.false) ∙ cells_told s (unstrange)

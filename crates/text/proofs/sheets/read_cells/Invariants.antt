@@ -13,6 +13,3 @@ abbrev pub invariant-loop-index : goal.invariant-loop-index
 invariant-loop-index l =
     (l.clues ≡ clues_of (unruled (take l.index l.sheet))) × (l.count ≡ length (unruled (take l.index l.sheet))) × (l.index ≤ length l.sheet)
     × (first (λ i. is_stranger (get_or l.sheet i 0)) (range (length l.sheet - l.index) l.index) ≡ first_stranger l.sheet)
-
-abbrev pub decreases-loop-index : goal.decreases-loop-index
-decreases-loop-index l = length l.sheet - l.index
