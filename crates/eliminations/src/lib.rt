@@ -3,7 +3,7 @@
 #![tactic(auto)]
 
 ghost use Rattle.std.specs.Prelude.{◌≡◌};
-ghost use Rattle.stops.specs.Answer.{map, progress_answer};
+ghost use Rattle.stops.specs.Answer.{answer_of, map};
 ghost use Rattle.steps.specs.Calls.{answer, box_line_call, chain_call, left, naked_pairs_call, outcome, wide, x_chain_call, x_wing_call};
 ghost use Rattle.steps.specs.Passes.{Claiming, Cross, Lone, Pair, Place, Pointing};
 ghost use Rattle.board.specs.Boards.{board_of, handed};
@@ -18,19 +18,13 @@ use chains::x_chains::x_chains;
 use locked::{claiming, pointing};
 use lone_place::{lone, place};
 use pair_cross::{cross, pair};
-use stops::{Check, Progress};
+use stops::Stop;
 use techniques::box_lines::box_lines;
 use techniques::naked_pairs::naked_pairs;
 use techniques::x_wings::x_wings;
 
-// The board after an elimination, and whether it removed anything; the board as it was beside a refusal.
-#[derive(Clone, Copy)]
-pub struct Eliminated {
-    pub answer: Progress,
-    pub board: Board,
-}
-
-// The calls that remove candidates.
+// The calls that remove candidates. `eliminate` names each one's pass in a line, for which a trait would need a type and an impl; a match on a step's
+// number chooses in both.
 #[derive(Clone, Copy)]
 pub enum Elimination {
     NakedPairs,
@@ -47,6 +41,7 @@ pub enum Elimination {
 }
 
 // What such a call leaves, over lent masks that are not checked.
+#[tactic(auto, unfolding(steps::specs::Calls::outcome))]
 pub fn eliminate(elimination: Elimination, givens: &[u8; 81], masks: &mut [u16; 81])
     ensures { masks.new ≡ (outcome (call_of elimination) givens.now masks.old).masks }
 {
@@ -71,100 +66,85 @@ pub fn eliminate_handed(
     clues: &[i32; 81],
     entries: &[i32; 81],
     masks: &mut [u16; 81],
-) -> Progress
-    ensures result_value { progress_answer result ≡ map (λ o. o.flag) (answer (call_of elimination) (handed clues.now entries.now masks.old)) }
+) -> Result<bool, Stop>
+    ensures result_value { answer_of result ≡ map (λ o. o.flag) (answer (call_of elimination) (handed clues.now entries.now masks.old)) }
     ensures masks_after { masks.new ≡ (left (handed clues.now entries.now masks.old) (answer (call_of elimination) (handed clues.now entries.now masks.old))).masks }
 {
     let givens = givens_of(clues, entries);
-    match check_given(clues, entries, &givens, masks) {
-        Check::Refused(stop) => Progress::Refused(stop),
-        Check::Passed => {
-            let before = *masks;
-            eliminate(elimination, &givens, masks);
-            Progress::Made(changed(before, *masks))
-        }
-    }
+    check_given(clues, entries, &givens, masks)?;
+    let before = *masks;
+    eliminate(elimination, &givens, masks);
+    Ok(changed(before, *masks))
 }
 
-fn apply(elimination: Elimination, board: Board) -> Eliminated
-    ensures { Eliminates (call_of elimination) (board_of board) result }
+fn apply(elimination: Elimination, board: &mut Board) -> Result<bool, Stop>
+    ensures { Eliminates (call_of elimination) (board_of board.old) result (board_of board.new) }
 {
-    let clues = board.clues;
-    let entries = board.entries;
-    let mut masks = board.masks;
-    let answer = eliminate_handed(elimination, &clues, &entries, &mut masks);
-    Eliminated {
-        answer,
-        board: Board {
-            clues,
-            entries,
-            masks,
-        },
-    }
+    eliminate_handed(elimination, &board.clues, &board.entries, &mut board.masks)
 }
 
-pub fn apply_naked_pairs(board: Board) -> Eliminated
-    ensures { Eliminates naked_pairs_call (board_of board) result }
+pub fn apply_naked_pairs(board: &mut Board) -> Result<bool, Stop>
+    ensures { Eliminates naked_pairs_call (board_of board.old) result (board_of board.new) }
 {
     apply(Elimination::NakedPairs, board)
 }
 
-pub fn apply_box_line_reduction(board: Board) -> Eliminated
-    ensures { Eliminates box_line_call (board_of board) result }
+pub fn apply_box_line_reduction(board: &mut Board) -> Result<bool, Stop>
+    ensures { Eliminates box_line_call (board_of board.old) result (board_of board.new) }
 {
     apply(Elimination::BoxLine, board)
 }
 
-pub fn apply_x_wing(board: Board) -> Eliminated
-    ensures { Eliminates x_wing_call (board_of board) result }
+pub fn apply_x_wing(board: &mut Board) -> Result<bool, Stop>
+    ensures { Eliminates x_wing_call (board_of board.old) result (board_of board.new) }
 {
     apply(Elimination::XWing, board)
 }
 
-pub fn apply_lone(board: Board) -> Eliminated
-    ensures { Eliminates (wide Lone) (board_of board) result }
+pub fn apply_lone(board: &mut Board) -> Result<bool, Stop>
+    ensures { Eliminates (wide Lone) (board_of board.old) result (board_of board.new) }
 {
     apply(Elimination::Lone, board)
 }
 
-pub fn apply_place(board: Board) -> Eliminated
-    ensures { Eliminates (wide Place) (board_of board) result }
+pub fn apply_place(board: &mut Board) -> Result<bool, Stop>
+    ensures { Eliminates (wide Place) (board_of board.old) result (board_of board.new) }
 {
     apply(Elimination::Place, board)
 }
 
-pub fn apply_pair(board: Board) -> Eliminated
-    ensures { Eliminates (wide Pair) (board_of board) result }
+pub fn apply_pair(board: &mut Board) -> Result<bool, Stop>
+    ensures { Eliminates (wide Pair) (board_of board.old) result (board_of board.new) }
 {
     apply(Elimination::Pair, board)
 }
 
-pub fn apply_pointing(board: Board) -> Eliminated
-    ensures { Eliminates (wide Pointing) (board_of board) result }
+pub fn apply_pointing(board: &mut Board) -> Result<bool, Stop>
+    ensures { Eliminates (wide Pointing) (board_of board.old) result (board_of board.new) }
 {
     apply(Elimination::Pointing, board)
 }
 
-pub fn apply_claiming(board: Board) -> Eliminated
-    ensures { Eliminates (wide Claiming) (board_of board) result }
+pub fn apply_claiming(board: &mut Board) -> Result<bool, Stop>
+    ensures { Eliminates (wide Claiming) (board_of board.old) result (board_of board.new) }
 {
     apply(Elimination::Claiming, board)
 }
 
-pub fn apply_cross(board: Board) -> Eliminated
-    ensures { Eliminates (wide Cross) (board_of board) result }
+pub fn apply_cross(board: &mut Board) -> Result<bool, Stop>
+    ensures { Eliminates (wide Cross) (board_of board.old) result (board_of board.new) }
 {
     apply(Elimination::Cross, board)
 }
 
-pub fn apply_alternating_inference_chains(board: Board) -> Eliminated
-    ensures { Eliminates chain_call (board_of board) result }
+pub fn apply_alternating_inference_chains(board: &mut Board) -> Result<bool, Stop>
+    ensures { Eliminates chain_call (board_of board.old) result (board_of board.new) }
 {
     apply(Elimination::Chains, board)
 }
 
-pub fn apply_x_chains(board: Board) -> Eliminated
-    ensures { Eliminates x_chain_call (board_of board) result }
+pub fn apply_x_chains(board: &mut Board) -> Result<bool, Stop>
+    ensures { Eliminates x_chain_call (board_of board.old) result (board_of board.new) }
 {
     apply(Elimination::XChains, board)
 }

@@ -1,10 +1,9 @@
--- The masks of a board that the check refuses stay; else the flag says whether they changed.
+-- A board that the check refuses stays; else the flag says whether the masks changed.
 use mathlib.Core.Path.{◌≡◌, refl, ap, ◌∙◌}
 use mathlib.Core.List.{List}
 use Prim.Native.Nat.{ℕ}
-use borrow.Author.Rules.{rules}
 use Rattle.stops.specs.Answer.{Answer, gives, map}
-use Rattle.stops.proofs.Answers.{told}
+use Rattle.stops.proofs.Answers.{passed-on}
 use Rattle.steps.specs.Boards.{givens}
 use Rattle.steps.specs.Calls.{Outcome, outcome, left}
 use Rattle.steps.specs.Passes.{changed}
@@ -30,22 +29,29 @@ flagged by.Cross g m = refl
 flagged by.Chains g m = refl
 flagged by.XChains g m = refl
 
-pub returns-in-Refused : goal.returns-in-Refused
-returns-in-Refused c =
+pub returns-in_err-check_given-clause-result_value : goal.returns-in_err-check_given-clause-result_value
+returns-in_err-check_given-clause-result_value c =
     let a = c.args in
-    let b = handed a.clues.now a.entries.now a.masks.now in
-    let e = answers (call_of a.elimination) b (told c.check_given.ensures c.in-Refused.is) in record {
-      result_value = ap (map (λ (o : Outcome). o.flag)) e;
-      masks_after = ap (λ (o : Answer Outcome). (left b o).masks) e;
-    }
+    passed-on _ c.from_residual.ensures.1
+    ∙ ap (map (λ (o : Outcome). o.flag)) (answers (call_of a.elimination) (handed a.clues.now a.entries.now a.masks.now) c.in_err-check_given.ensures)
 
-pub returns-in-Passed : goal.returns-in-Passed
-returns-in-Passed c =
+pub returns-in_err-check_given-clause-masks_after : goal.returns-in_err-check_given-clause-masks_after
+returns-in_err-check_given-clause-masks_after c =
     let a = c.args in
     let b = handed a.clues.now a.entries.now a.masks.now in
-    let x = a.elimination in
-    let masks = c.eliminate.ensures ∙ ap (λ (g : List ℕ). (outcome (call_of x) g b.masks).masks) c.givens_of-givens.ensures in
-    let e = answers (call_of x) b (told c.check_given.ensures c.in-Passed.is) in record {
-      result_value = ap gives (c.changed.ensures ∙ ap (changed b.masks) masks ∙ flagged x (givens b) b.masks) ∙ ap (map (λ (o : Outcome). o.flag)) e;
-      masks_after = masks ∙ ap (λ (o : Answer Outcome). (left b o).masks) e;
-    }
+    ap (λ (o : Answer Outcome). (left b o).masks) (answers (call_of a.elimination) b c.in_err-check_given.ensures)
+
+pub returns-clause-result_value : goal.returns-clause-result_value
+returns-clause-result_value c =
+    let a = c.args in
+    let b = handed a.clues.now a.entries.now a.masks.now in
+    let k = call_of a.elimination in
+    rw (c.changed.ensures, c.eliminate.ensures, c.givens_of-givens.ensures)
+    (ap gives (flagged a.elimination (givens b) b.masks) ∙ ap (map (λ (o : Outcome). o.flag)) (answers k b c.in_ok-check_given.ensures))
+
+pub returns-clause-masks_after : goal.returns-clause-masks_after
+returns-clause-masks_after c =
+    let a = c.args in
+    let b = handed a.clues.now a.entries.now a.masks.now in
+    rw (c.eliminate.ensures, c.givens_of-givens.ensures)
+    (ap (λ (o : Answer Outcome). (left b o).masks) (answers (call_of a.elimination) b c.in_ok-check_given.ensures))

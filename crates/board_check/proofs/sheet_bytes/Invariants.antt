@@ -1,6 +1,0 @@
--- The loop's measure.
-use Rattle.std.proofs.Common.{◌-◌}
-use Rattle.board_check.proofs.sheet_bytes.Given as goal
-
-abbrev pub decreases-loop-byte : goal.decreases-loop-byte
-decreases-loop-byte g l = 256 - l.byte
