@@ -1,161 +1,146 @@
 -- A step hands back what the call of its number ensures. Assumes nothing.
 use mathlib.Core.Path.{◌≡◌, refl, sym, ap, ◌∙◌, subst}
 use mathlib.Core.Bool.{Bool, false}
-use mathlib.Core.List.{List, [], map}
+use mathlib.Core.List.{List, []}
 use mathlib.Core.Option
 use mathlib.Core.Option.{Option, none, some}
-use mathlib.Core.Logic.{◌≢◌}
-use Prim.Native.Nat.{ℕ, ◌≤◌}
-use lib.ListN.{get_or}
-use Rattle.stops.specs.Answer as answers
-use Rattle.stops.specs.Answer.{Answer, gives, stop, value_or, passing, progress_answer}
+use Prim.Native.Nat.{ℕ}
+use Rattle.std.specs.Prelude.{Result, Ok, Err}
+use Rattle.stops.specs.Answer.{Answer, answer_of, gives, stop, passing, map}
+use Rattle.stops.specs.declared.Stop.{Stop}
 use Rattle.stops.proofs.Answers.{map-map}
 use Rattle.steps.specs.Boards as S
-use Rattle.steps.specs.Boards.{givens, with_masks}
-use Rattle.steps.specs.Calls.{Call, update_candidates, naked_pairs_call, box_line_call, x_wing_call, naked_singles_call, hidden_singles_call, advanced_call, wide, settling_call, chain_call, x_chain_call, Outcome, check_of, outcome, answer}
-use Rattle.board.specs.Boards.{board_of}
-use Rattle.techniques.specs.Techniques.{Finds}
+use Rattle.steps.specs.Boards.{givens}
+use Rattle.steps.specs.Calls.{Call, update_candidates, naked_singles_call, hidden_singles_call, advanced_call, settling_call, Outcome, check_of, outcome, answer}
+use Rattle.techniques.specs.Reports.{reports_of}
+use Rattle.techniques.specs.code.Searches.{search_call}
 use Rattle.techniques.specs.declared.Reported.{Reported}
+use Rattle.techniques.specs.declared.Search.{Search}
+use Rattle.techniques.specs.declared.Search.TheVariants as search
+use Rattle.techniques.specs.declared.singles.Reports.{Reports}
 use Rattle.passes.specs.Settlings.{counts_of}
 use Rattle.passes.specs.declared.Counts.{Counts}
 use Rattle.eliminations.specs.code.Calls.{call_of}
 use Rattle.eliminations.specs.declared.Elimination.{Elimination}
 use Rattle.eliminations.specs.declared.Elimination.TheVariants as by
-use Rattle.techniques.proofs.Left.{masks-left}
-use Rattle.calls.specs.StepNumbers.{step_calls, step_call, step_answer, step_left, outcome_or, Hands, HandsBack}
-use Rattle.calls.specs.code.QuietSteps.{Tells, TellsBack, quiet_answer, unreporting}
+use Rattle.calls.specs.StepNumbers.{step_call, step_answer, stepped}
+use Rattle.calls.specs.code.QuietSteps.{told_of, quiet_call}
 use Rattle.calls.specs.declared.Stepped.{Stepped}
-use Rattle.calls.specs.declared.quiet.Quiet.{Quiet}
-use Rattle.calls.proofs.Numbers.{quiet_same, none-quiet}
+use Rattle.calls.specs.declared.kinds.QuietStep.{QuietStep}
+use Rattle.calls.specs.declared.kinds.QuietStep.TheVariants as quiet
+use Rattle.calls.specs.declared.quiet.Told.{Told}
 
--- ---- the call of a number
+-- the step of a number
+pub step_is : (b : S.Board) (k : Call) {n : ℕ} → some k ≡ step_call n → some (answer k b) ≡ step_answer n b
+unfolding step_answer
+step_is b k is = ap (Option.map (λ (k : Call). answer k b)) is
 
-module _ (b : S.Board) where
-  -- the step whose number is j
-  pub step_is : (k : Call) (j : ℕ) {n : ℕ} → n ≡ j → get_or (map some step_calls) j none ≡ some k → some (answer k b) ≡ step_answer n b
-  unfolding step_answer step_call
-  step_is k j e is = ap (Option.map (λ (k : Call). answer k b)) (sym (ap (λ (i : ℕ). get_or (map some step_calls) i none) e ∙ is))
-
-  pub quiet_is : (k : Call) (j : ℕ) {n : ℕ} → n ≡ j → unreporting (get_or (map some step_calls) j none) ≡ some k → some (answer k b) ≡ quiet_answer n b
-  unfolding quiet_answer step_call
-  quiet_is k j e is = ap (Option.map (λ (k : Call). answer k b)) (sym (ap (λ (i : ℕ). unreporting (get_or (map some step_calls) i none)) e ∙ is))
-
-  -- a number of none of the quiet steps
-  pub no-quiet-is : {n : ℕ} → 4 ≤ n → (7 ≤ n → 16 ≤ n) → none ≡ quiet_answer n b
-  unfolding quiet_answer
-  no-quiet-is low far = ap (Option.map (λ (k : Call). answer k b)) (none-quiet low far)
-
-  -- all steps but 4 to 6 are quiet
-  pub quiet-step-is : {n : ℕ} → n ≢ 4 → n ≢ 5 → n ≢ 6 → quiet_answer n b ≡ step_answer n b
-  unfolding quiet_answer step_answer
-  quiet-step-is four five six = ap (Option.map (λ (k : Call). answer k b)) (quiet_same four five six)
+pub no-step-is : (b : S.Board) {n : ℕ} → none ≡ step_call n → none ≡ step_answer n b
+unfolding step_answer
+no-step-is b is = ap (Option.map (λ (k : Call). answer k b)) is
 
 -- ---- parts of an answer
 
 -- two parts that are the same of the outcome
 module _ {A : Type 0} (f g : Outcome → A) (k : Call) (b : S.Board) where
-  same-part : f (outcome k (givens b) b.masks) ≡ g (outcome k (givens b) b.masks) → answers.map f (answer k b) ≡ answers.map g (answer k b)
+  same-part : f (outcome k (givens b) b.masks) ≡ g (outcome k (givens b) b.masks) → map f (answer k b) ≡ map g (answer k b)
   unfolding answer
   same-part e = go (check_of b)
     where
-      go : (a : Answer (Unit {0})) → answers.map f (passing a (outcome k (givens b) b.masks)) ≡ answers.map g (passing a (outcome k (givens b) b.masks))
+      go : (a : Answer (Unit {0})) → map f (passing a (outcome k (givens b) b.masks)) ≡ map g (passing a (outcome k (givens b) b.masks))
       go (gives u) = ap gives e
       go (stop s) = refl
-
--- what an outcome does not speak of
-module _ {A : Type 0} (z : A) (part : Outcome → A) (k : Call) (b : S.Board) where
-  constant : (a : Answer Outcome) → value_or z (answers.map (λ (o : Outcome). z) a) ≡ z
-  constant (gives o) = refl
-  constant (stop s) = refl
-
-  unspoken : part (outcome k (givens b) b.masks) ≡ z → z ≡ outcome_or z part (some (answer k b))
-  unspoken said = sym (ap (value_or z) (same-part part (λ (o : Outcome). z) k b said) ∙ constant (answer k b))
 
 -- a call that counts nothing
 abbrev pub Uncounted : Call → Type 0
 Uncounted k = (g m : List ℕ) → ((outcome k g m).sweeps ≡ 0) × ((outcome k g m).removed ≡ 0)
 
-module _ (k : Call) (b : S.Board) where
-  no-sweeps : (outcome k (givens b) b.masks).sweeps ≡ 0 → 0 ≡ outcome_or 0 (λ (o : Outcome). o.sweeps) (some (answer k b))
-  no-sweeps = unspoken 0 (λ (o : Outcome). o.sweeps) k b
+-- its flag is all that it tells
+abbrev pub flagged : Bool → Told
+flagged t = record { made = t; sweeps = 0; removed = 0 }
 
-  none-removed : (outcome k (givens b) b.masks).removed ≡ 0 → 0 ≡ outcome_or 0 (λ (o : Outcome). o.removed) (some (answer k b))
-  none-removed = unspoken 0 (λ (o : Outcome). o.removed) k b
+told-same : (t : Bool) (s q : ℕ) → 0 ≡ s → 0 ≡ q → flagged t ≡ record { made = t; sweeps = s; removed = q }
+told-same t s q e f = λ i. record { made = t; sweeps = e i; removed = f i }
 
-  no-reports : (outcome k (givens b) b.masks).reports ≡ [] → [] ≡ outcome_or [] (λ (o : Outcome). o.reports) (some (answer k b))
-  no-reports = unspoken [] (λ (o : Outcome). o.reports) k b
-
--- ---- what a step hands back, from what its call ensures; o is the step's answer
-
-module _ (k : Call) (b : S.Board) {o : Option (Answer Outcome)} (is : some (answer k b) ≡ o) {r : Stepped} where
-  pub reports-hands : Uncounted k → (d : Reported) → Finds k b d → Hands r (some (progress_answer d.answer)) (board_of d.board) d.reports 0 0 → HandsBack r b o
-  reports-hands q d e h =
-      let w = q (givens b) b.masks in
-      subst (HandsBack r b) is
-      record {
-        flag = h.flag ∙ ap some e.flag;
-        board = h.board ∙ e.board;
-        reports = h.reports ∙ e.reports;
-        sweeps = h.sweeps ∙ no-sweeps k b w.0;
-        removed = h.removed ∙ none-removed k b w.1;
-      }
-
--- what settling counts
-counted : {A : Type 0} (f : Counts → A) (b : S.Board) {a : Answer Counts} → a ≡ answers.map counts_of (answer settling_call b) → answers.map f a ≡ answers.map (λ (o : Outcome). f (counts_of o)) (answer settling_call b)
-counted f b e = ap (answers.map f) e ∙ map-map f counts_of (answer settling_call b)
-
-pub settling-tells : (b : S.Board) {r : Quiet} {a : Answer Counts} → a ≡ answers.map counts_of (answer settling_call b)
-    → Tells r (some (answers.map (λ _. false) a)) (value_or 0 (answers.map (λ (k : Counts). k.sweeps) a)) (value_or 0 (answers.map (λ (k : Counts). k.removed) a))
-    → TellsBack r (some (answer settling_call b))
-unfolding outcome
-settling-tells b counts h =
-    record {
-      flag = h.flag ∙ ap some (counted (λ _. false) b counts ∙ same-part (λ (o : Outcome). false) (λ (o : Outcome). o.flag) settling_call b refl);
-      sweeps = h.sweeps ∙ ap (value_or 0) (counted (λ (k : Counts). k.sweeps) b counts);
-      removed = h.removed ∙ ap (value_or 0) (counted (λ (k : Counts). k.removed) b counts);
-    }
-
--- a call that counts nothing
-pub uncounted-tells : (k : Call) (b : S.Board) {r : Quiet} → Uncounted k → {f : Answer Bool} → f ≡ answers.map (λ (o : Outcome). o.flag) (answer k b) → Tells r (some f) 0 0 → TellsBack r (some (answer k b))
-uncounted-tells k b q flag h =
+pub uncounted-tells : (k : Call) (b : S.Board) → Uncounted k → {f : Answer Bool} → f ≡ map (λ (o : Outcome). o.flag) (answer k b) → map flagged f ≡ map told_of (answer k b)
+uncounted-tells k b q e =
     let w = q (givens b) b.masks in
-    record { flag = h.flag ∙ ap some flag; sweeps = h.sweeps ∙ no-sweeps k b w.0; removed = h.removed ∙ none-removed k b w.1 }
+    let o = outcome k (givens b) b.masks in
+    ap (map flagged) e ∙ map-map flagged (λ (o : Outcome). o.flag) (answer k b)
+    ∙ same-part (λ (o : Outcome). flagged o.flag) told_of k b (told-same o.flag o.sweeps o.removed (sym w.0) (sym w.1))
 
--- one answer for another that is the same
-pub told-by : (b : S.Board) {o p : Option (Answer Outcome)} {r : Quiet} {m : List ℕ} → o ≡ p → TellsBack r o × (m ≡ (step_left b o).masks) → TellsBack r p × (m ≡ (step_left b p).masks)
-told-by b {r = r} {m = m} e h = subst (λ (o : Option (Answer Outcome)). TellsBack r o × (m ≡ (step_left b o).masks)) e h
+-- settling has no flag
+abbrev pub counted : Counts → Told
+counted n = record { made = false; sweeps = n.sweeps; removed = n.removed }
 
--- a step changes the masks of its board alone
-pub step-board : (b : S.Board) (o : Option (Answer Outcome)) → with_masks b (step_left b o).masks ≡ step_left b o
-step-board b none = refl
-step-board b (some a) = masks-left b a
-
--- a quiet step reports nothing
-pub quiet-reports : (n : ℕ) (b : S.Board) → [] ≡ outcome_or [] (λ (o : Outcome). o.reports) (quiet_answer n b)
-unfolding quiet_answer outcome
-quiet-reports n b = go (step_call n)
-  where
-    by_call : (k : Call) → [] ≡ outcome_or [] (λ (o : Outcome). o.reports) (Option.map (λ (k : Call). answer k b) (unreporting (some k)))
-    by_call update_candidates = no-reports update_candidates b refl
-    by_call naked_pairs_call = no-reports naked_pairs_call b refl
-    by_call box_line_call = no-reports box_line_call b refl
-    by_call x_wing_call = no-reports x_wing_call b refl
-    by_call naked_singles_call = refl
-    by_call hidden_singles_call = refl
-    by_call advanced_call = refl
-    by_call (wide k) = no-reports (wide k) b refl
-    by_call settling_call = no-reports settling_call b refl
-    by_call chain_call = no-reports chain_call b refl
-    by_call x_chain_call = no-reports x_chain_call b refl
-
-    go : (o : Option Call) → [] ≡ outcome_or [] (λ (o : Outcome). o.reports) (Option.map (λ (k : Call). answer k b) (unreporting o))
-    go none = refl
-    go (some k) = by_call k
+pub settling-tells : (b : S.Board) {a : Answer Counts} → a ≡ map counts_of (answer settling_call b) → map counted a ≡ map told_of (answer settling_call b)
+unfolding outcome
+settling-tells b e =
+    ap (map counted) e ∙ map-map counted counts_of (answer settling_call b) ∙ same-part (λ (o : Outcome). counted (counts_of o)) told_of settling_call b refl
 
 -- `update_candidates` has no flag
-pub update-flag : (b : S.Board) {a : Answer (Unit {0})} → a ≡ check_of b → passing a false ≡ answers.map (λ (o : Outcome). o.flag) (answer update_candidates b)
+pub update-tells : (b : S.Board) {a : Answer (Unit {0})} → a ≡ check_of b → map (λ _. flagged false) a ≡ map told_of (answer update_candidates b)
 unfolding answer outcome
-update-flag b e = ap (λ (a : Answer (Unit {0})). passing a false) e ∙ sym (map-map (λ (o : Outcome). o.flag) (λ _. outcome update_candidates (givens b) b.masks) (check_of b))
+update-tells b e = ap (map (λ _. flagged false)) e ∙ sym (map-map told_of (λ _. outcome update_candidates (givens b) b.masks) (check_of b))
+
+-- ---- what a step hands back
+
+-- of a call that reports
+abbrev pub of_reported : Reported → Stepped
+of_reported d = record { made = d.made; reports = d.reports; sweeps = 0; removed = 0 }
+
+stepped-same : (t : Bool) (rs : Reports) (s q : ℕ) → 0 ≡ s → 0 ≡ q → {u : Bool} → u ≡ t → {ps : Reports} → ps ≡ rs → ◌≡◌ {A = Stepped} (record { made = u; reports = ps; sweeps = 0; removed = 0 }) (record { made = t; reports = rs; sweeps = s; removed = q })
+stepped-same t rs s q e f g h = λ i. record { made = g i; reports = h i; sweeps = e i; removed = f i }
+
+gives-made : {A : Type 0} {a b : A} → ◌≡◌ {A = Answer A} (gives a) (gives b) → a ≡ b
+gives-made q = cc
+
+pub reported-hands : (k : Call) (b : S.Board) → Uncounted k → (r : Result Reported Stop) → map (λ (d : Reported). d.made) (answer_of r) ≡ map (λ (o : Outcome). o.flag) (answer k b)
+    → map (λ (d : Reported). d.reports) (answer_of r) ≡ map (λ (o : Outcome). reports_of o.reports) (answer k b) → map of_reported (answer_of r) ≡ map stepped (answer k b)
+unfolding answer
+reported-hands k b q r flag reports = go r (check_of b) flag reports
+  where
+    w : ((outcome k (givens b) b.masks).sweeps ≡ 0) × ((outcome k (givens b) b.masks).removed ≡ 0)
+    w = q (givens b) b.masks
+
+    o : Outcome
+    o = outcome k (givens b) b.masks
+
+    go : (r : Result Reported Stop) (a : Answer (Unit {0})) → map (λ (d : Reported). d.made) (answer_of r) ≡ map (λ (o : Outcome). o.flag) (passing a o)
+        → map (λ (d : Reported). d.reports) (answer_of r) ≡ map (λ (o : Outcome). reports_of o.reports) (passing a o) → map of_reported (answer_of r) ≡ map stepped (passing a o)
+    go (Ok d) (gives u) e f = ap gives (stepped-same o.flag (reports_of o.reports) o.sweeps o.removed (sym w.0) (sym w.1) (gives-made e) (gives-made f))
+    go (Ok d) (stop s) e f = cc
+    go (Err s) (gives u) e f = cc
+    go (Err s) (stop t) e f = cc
+
+-- of a call that reports nothing
+abbrev pub Unreporting : Call → Type 0
+Unreporting k = (g m : List ℕ) → (outcome k g m).reports ≡ []
+
+abbrev pub of_told : Told → Stepped
+of_told t = record { made = t.made; reports = reports_of []; sweeps = t.sweeps; removed = t.removed }
+
+pub quiet-hands : (k : Call) (b : S.Board) → Unreporting k → {a : Answer Told} → a ≡ map told_of (answer k b) → map of_told a ≡ map stepped (answer k b)
+quiet-hands k b q e =
+    let o = outcome k (givens b) b.masks in
+    ap (map of_told) e ∙ map-map of_told told_of (answer k b)
+    ∙ same-part (λ (o : Outcome). of_told (told_of o)) stepped k b (λ i. record { made = o.flag; reports = reports_of (sym (q (givens b) b.masks) i); sweeps = o.sweeps; removed = o.removed })
+
+pub quiet-unreporting : (q : QuietStep) → Unreporting (quiet_call q)
+unfolding outcome
+quiet-unreporting quiet.Update g m = refl
+quiet-unreporting quiet.Settle g m = refl
+quiet-unreporting (quiet.Eliminate by.NakedPairs) g m = refl
+quiet-unreporting (quiet.Eliminate by.BoxLine) g m = refl
+quiet-unreporting (quiet.Eliminate by.XWing) g m = refl
+quiet-unreporting (quiet.Eliminate by.Lone) g m = refl
+quiet-unreporting (quiet.Eliminate by.Place) g m = refl
+quiet-unreporting (quiet.Eliminate by.Pair) g m = refl
+quiet-unreporting (quiet.Eliminate by.Pointing) g m = refl
+quiet-unreporting (quiet.Eliminate by.Claiming) g m = refl
+quiet-unreporting (quiet.Eliminate by.Cross) g m = refl
+quiet-unreporting (quiet.Eliminate by.Chains) g m = refl
+quiet-unreporting (quiet.Eliminate by.XChains) g m = refl
 
 -- ---- the calls that count nothing
 
@@ -188,3 +173,8 @@ uncounted-hidden g m = (refl, refl)
 pub uncounted-advanced : Uncounted advanced_call
 unfolding outcome
 uncounted-advanced g m = (refl, refl)
+
+pub uncounted-search : (x : Search) → Uncounted (search_call x)
+uncounted-search search.Naked = uncounted-naked
+uncounted-search search.Hidden = uncounted-hidden
+uncounted-search search.Advanced = uncounted-advanced

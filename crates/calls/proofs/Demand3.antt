@@ -7,9 +7,10 @@ use mathlib.Core.List.{List, [], ◌∷◌, ◌++◌}
 use mathlib.Core.Option.{none}
 use Prim.Native.Nat.{ℕ, ◌+◌}
 use lib.IntN.{ℤ}
-use Rattle.stops.specs.Answer.{Answer, gives, stop, passing, value_or, map, progress_answer}
-use Rattle.stops.specs.declared.Progress.{Progress}
-use Rattle.stops.specs.declared.Progress.TheVariants as progress
+use Rattle.std.specs.Prelude.{Result, Ok, Err}
+use Rattle.stops.specs.Answer.{Answer, answer_of, gives, stop, passing, value_or, map}
+use Rattle.stops.specs.declared.Stop.{Stop}
+use Rattle.stops.proofs.Answers.{gives_same, stop-gives}
 use Rattle.steps.specs.Boards as S
 use Rattle.steps.specs.Boards.{no_entries, same_board, total}
 use Rattle.steps.specs.Calls.{Clues, Entries, Call, without_ported, without_chain, wide, settling_call, check_of, Admitted, Outcome, outcome, answer, left, opened_with, run}
@@ -22,37 +23,36 @@ use Rattle.steps.proofs.Lists.{play-run, calls_alone, list-theorem}
 use Rattle.board.specs.Boards.{board_of, no_board, open_of, open_with_of}
 use Rattle.board.specs.Entering.{Enters}
 use Rattle.board.specs.declared.Board.{Board}
-use Rattle.board.specs.declared.entries.Pencilled.{Pencilled}
 use Rattle.board.proofs.Checks.{clues-open, entries-open}
 use Rattle.eliminations.specs.Eliminations.{Eliminates}
-use Rattle.eliminations.specs.declared.Eliminated.{Eliminated}
-use Rattle.passes.specs.declared.Counts.{Counts}
-use Rattle.passes.specs.Settlings.{settling_answer, counts_of, Settles}
-use Rattle.passes.specs.declared.SettledBoard.{SettledBoard}
-use Rattle.passes.specs.declared.Settling as code
-use Rattle.passes.specs.declared.Settling.TheVariants as by
+use Rattle.passes.specs.Settlings.{counts_of, Settles}
+use Rattle.passes.specs.declared.Settled as code
 use Rattle.calls.specs.Demand3.{After, StepsWithoutPorted, StepsWithoutChain, givens_in, IsSettled, OneEnd, FillingsStay, Afresh, PassDone, SettlingDone, Demand3}
-use Rattle.calls.specs.Replays.{ran, reached, first_no_step, calls_of, replay_of, replaying_answer, Replays}
-use Rattle.calls.specs.declared.Replayed.{Replayed}
-use Rattle.calls.specs.declared.Replaying.{Replaying}
-use Rattle.calls.specs.declared.Replaying.TheVariants as replaying
+use Rattle.calls.specs.Replays.{Run, ran, no_step, first_no_step, calls_of, replay_of, replaying, Replays}
+use Rattle.calls.specs.declared.ReplayError.{ReplayError}
+use Rattle.calls.specs.declared.ReplayError.TheVariants.{NoStep, Refused}
 use Rattle.calls.proofs.Numbers.{all-steps, ported-calls, chain-calls}
 use Rattle.calls.proofs.Runs.{run-replayed}
 
 -- ---- an answer of the code that is no stop
 
-made : (p : Progress) (f : Bool) → progress_answer p ≡ gives f → p ≡ progress.Made f
-made (progress.Made g) f e = cc
-made (progress.Refused s) f e = cc
+made : (p : Result Bool Stop) (f : Bool) → answer_of p ≡ gives f → p ≡ Ok f
+made (Ok g) f e = ap Ok (gives_same e)
+made (Err s) f e = absurd (stop-gives e)
 
-done : (a : Replaying) (b c : S.Board) → replaying_answer a b ≡ gives (ran c) → a ≡ replaying.Done
-done replaying.Done b c e = refl
-done (replaying.Refused s) b c e = cc
-done (replaying.NoStep i) b c e = cc
+ran-same : {b c : S.Board} → ◌≡◌ {A = Run} (ran b) (ran c) → b ≡ c
+ran-same q = cc
 
-counted : (s : code.Settling) (k : Counts) → settling_answer s ≡ gives k → s ≡ by.Counted k.sweeps k.removed
-counted (by.Counted n x) k e = cc
-counted (by.Refused s) k e = cc
+ran-none : {i : ℕ} {c : S.Board} → ◌≡◌ {A = Run} (no_step i) (ran c) → ⊥
+ran-none q = cc
+
+done : (r : Result Board ReplayError) (c : S.Board) → replaying r ≡ gives (ran c) → (b : Board) × (r ≡ Ok b) × (board_of b ≡ c)
+done (Ok b) c e = (b, refl, ran-same (gives_same e))
+done (Err (Refused s)) c e = absurd (stop-gives e)
+done (Err (NoStep i)) c e = absurd (ran-none (gives_same e))
+
+ok_same : {B C : Board} → ◌≡◌ {A = Result Board ReplayError} (Ok B) (Ok C) → B ≡ C
+ok_same q = cc
 
 -- ---- the boards after a list
 
@@ -77,15 +77,20 @@ calls : (clues entries : List ℤ) (xs : List Deed) (b : Board) → After clues 
 unfolding deed
 calls clues entries xs b at k c e = e ∙ ap (λ (b : S.Board). left b (answer k b)) at ∙ sym (play-snoc xs (step k) (opened_with clues entries))
 
-enters : (clues entries : List ℤ) (xs : List Deed) (b : Board) → After clues entries xs b → (k : EntryCall) (r : Pencilled) → Enters k (board_of b) r → After clues entries (xs ++ entry k ∷ []) r.board
+enters : (clues entries : List ℤ) (xs : List Deed) (b : Board) → After clues entries xs b → (k : EntryCall) (r : Result (Unit {0}) Stop) (c : Board) → Enters k (board_of b) r (board_of c) → After clues entries (xs ++ entry k ∷ []) c
 unfolding deed
-enters clues entries xs b at k r e = e.board ∙ ap (λ (b : S.Board). value_or b (entry_answer k b)) at ∙ sym (play-snoc xs (entry k) (opened_with clues entries))
+enters clues entries xs b at k r c e = e.board ∙ ap (λ (b : S.Board). value_or b (entry_answer k b)) at ∙ sym (play-snoc xs (entry k) (opened_with clues entries))
 
-replays : (clues entries : List ℤ) → Clues clues → Entries clues entries → (ns : List ℕ) → first_no_step ns ≡ none → (r : Replayed) → Replays clues entries ns r
-    → (r.answer ≡ replaying.Done) × After clues entries (lists.map step (calls_of ns)) r.board
+replays : (clues entries : List ℤ) → Clues clues → Entries clues entries → (ns : List ℕ) → first_no_step ns ≡ none → (r : Result Board ReplayError) → Replays clues entries ns r
+    → (B : Board) × (r ≡ Ok B) × After clues entries (lists.map step (calls_of ns)) B
 replays clues entries ok en ns steps r e =
     let is : replay_of clues entries ns ≡ gives (ran (run (calls_of ns) (opened_with clues entries))) = sym (run-replayed clues entries ns (sym (entries-open clues entries ok en)) (sym steps)) in
-    (done r.answer (board_of r.board) _ (e.answer ∙ is), e.board ∙ ap reached is ∙ sym (play-run (calls_of ns) (opened_with clues entries)))
+    let d = done r _ (e ∙ is) in (d.0, d.1, d.2 ∙ sym (play-run (calls_of ns) (opened_with clues entries)))
+
+-- a board that `replay` hands back is the one after the list
+replayed : (clues entries : List ℤ) → Clues clues → Entries clues entries → (ns : List ℕ) → first_no_step ns ≡ none → (B : Board) → Replays clues entries ns (Ok B) → After clues entries (lists.map step (calls_of ns)) B
+replayed clues entries ok en ns steps B e =
+    let d = replays clues entries ok en ns steps (Ok B) e in ap board_of (ok_same d.1) ∙ d.2
 
 step-clues : (b : S.Board) (a : Answer Outcome) → (left b a).clues ≡ b.clues
 step-clues b (gives o) = refl
@@ -118,14 +123,14 @@ lists-end clues entries ok en ks ls nk nl B C at bt s =
 equal : (B C : Board) → (same_board (board_of B) (board_of C) ≡ true) ↔ (B ≡ C)
 equal B C = let t = equal-boards.test (board_of B) (board_of C) in (λ s. same B C (t.0 s), λ e. t.1 (ap board_of e))
 
-replayed-fillings : (clues entries : List ℤ) → Clues clues → Entries clues entries → (ns : List ℕ) → StepsWithoutPorted ns → (B : Replayed) → Replays clues entries ns B → FillingsStay B.board
+replayed-fillings : (clues entries : List ℤ) → Clues clues → Entries clues entries → (ns : List ℕ) → StepsWithoutPorted ns → (B : Board) → Replays clues entries ns (Ok B) → FillingsStay B
 replayed-fillings clues entries ok en ns n B p =
-    fillings clues entries ok en (lists.map step (calls_of ns)) (ap without_ported (calls_alone (calls_of ns)) ∙ n.none_of) B.board (replays clues entries ok en ns n.steps B p).1
+    fillings clues entries ok en (lists.map step (calls_of ns)) (ap without_ported (calls_alone (calls_of ns)) ∙ n.none_of) B (replayed clues entries ok en ns n.steps B p)
 
-replayed-lists : (clues entries : List ℤ) → Clues clues → Entries clues entries → (ns ms : List ℕ) → StepsWithoutChain ns → StepsWithoutChain ms → (B C : Replayed) → Replays clues entries ns B → Replays clues entries ms C
-    → OneEnd B.board C.board
+replayed-lists : (clues entries : List ℤ) → Clues clues → Entries clues entries → (ns ms : List ℕ) → StepsWithoutChain ns → StepsWithoutChain ms → (B C : Board) → Replays clues entries ns (Ok B) → Replays clues entries ms (Ok C)
+    → OneEnd B C
 replayed-lists clues entries ok en ns ms n m B C p q =
-    lists-end clues entries ok en (calls_of ns) (calls_of ms) n.none_of m.none_of B.board C.board (replays clues entries ok en ns n.steps B p).1 (replays clues entries ok en ms m.steps C q).1
+    lists-end clues entries ok en (calls_of ns) (calls_of ms) n.none_of m.none_of B C (replayed clues entries ok en ns n.steps B p) (replayed clues entries ok en ms m.steps C q)
 
 entered : (clues entries : List ℤ) (ks ls : List EntryCall) (B C : Board) → After clues entries (lists.map entry ks) B → After clues entries (lists.map entry ls) C → Afresh clues B C
 entered clues entries ks ls B C p q = record { fresh = fresh ks B p; same = λ e. same B C (fresh ks B p ∙ ap (opened_with clues) e ∙ sym (fresh ls C q)) }
@@ -140,27 +145,27 @@ module _ (b : Board) (ok : Admitted (board_of b)) where
   unfolding answer
   given k = ap (λ (a : Answer (Unit {0})). passing a (outcome k (givens_in b) b.masks)) ok.taken
 
-  passes : (k : Kind) (r : Eliminated) → Eliminates (wide k) (board_of b) r → PassDone k b r
+  passes : (k : Kind) (r : Result Bool Stop) (c : Board) → Eliminates (wide k) (board_of b) r (board_of c) → PassDone k b r c
   unfolding outcome
-  passes k r e =
+  passes k r c e =
       let board = e.board ∙ ap (left (board_of b)) (given (wide k)) in
       record {
-        answer = made r.answer _ (e.flag ∙ ap (map (λ (o : Outcome). o.flag)) (given (wide k)));
+        answer = made r _ (e.flag ∙ ap (map (λ (o : Outcome). o.flag)) (given (wide k)));
         clues = ap (λ (b : S.Board). b.clues) board;
         entries = ap (λ (b : S.Board). b.entries) board;
         masks = ap (λ (b : S.Board). b.masks) board;
       }
 
-  settles : (r : SettledBoard) → Settles (board_of b) r
-      → SettlingDone b r (settle (givens_in b) b.masks).sweeps (removed_by b.masks (settle (givens_in b) b.masks).left)
+  settles : (r : Result code.Settled Stop) (c : Board) → Settles (board_of b) r (board_of c)
+      → SettlingDone b r c (settle (givens_in b) b.masks).sweeps (removed_by b.masks (settle (givens_in b) b.masks).left)
   unfolding outcome
-  settles r e =
+  settles r c e =
       let s = list-theorem.settling (board_of b) ok in
       let board = e.board ∙ ap (left (board_of b)) (given settling_call) in
       let masks = ap (λ (b : S.Board). b.masks) board in
       let final = masks ∙ s.final in
       record {
-        answer = counted r.answer _ (e.counts ∙ ap (map counts_of) (given settling_call));
+        answer = e.counts ∙ ap (map counts_of) (given settling_call);
         clues = ap (λ (b : S.Board). b.clues) board;
         entries = ap (λ (b : S.Board). b.entries) board;
         masks = final;
@@ -191,6 +196,6 @@ demand3 =
       below_ported = λ ns h. record { steps = all-steps ns (λ i k. (h i k).0); none_of = ported-calls ns h };
       below_chain = λ ns h. record { steps = all-steps ns (λ i k. (h i k).0); none_of = chain-calls ns h };
       entered = entered;
-      passes = λ k b ok r e. passes b ok k r e;
-      settling = λ b ok r e. (_, _, settles b ok r e);
+      passes = λ k b ok r c e. passes b ok k r c e;
+      settling = λ b ok r c e. (_, _, settles b ok r c e);
     }

@@ -15,7 +15,6 @@ use Rattle.steps.specs.Loops.{up_to}
 use Rattle.steps.proofs.Loops.{none_first, in-up_to}
 use Rattle.calls.specs.Replays.{first_no_step, cons_call, calls_of}
 use Rattle.calls.specs.StepNumbers.{step_calls, step_call, is_call, is_step}
-use Rattle.calls.specs.code.QuietSteps.{is_reporting, unreporting}
 
 -- a list's members have the numbers below its length
 numbers : (ks : List Call) (n : ℕ) → is_call (get_or (map some ks) n none) ≡ ltb n (length ks)
@@ -82,55 +81,3 @@ all-steps ns h = none_first (λ i. not (is_step (get_or ns i 0))) (up_to (length
   where
     step : (n : ℕ) → n < 16 → not (is_step n) ≡ false
     step n low = ap not (sym (steps-below n) ∙ lt-ltb n 16 low)
-
--- ---- the steps that report nothing
-
--- past all of them there is no call
-no_call : {n : ℕ} → 16 ≤ n → step_call n ≡ none
-unfolding step_call
-no_call far = get_or-eq_default (map some step_calls) none far
-
-clear-same : (o : Option Call) → clear is_reporting o ≡ true → unreporting o ≡ o
-unfolding clear
-clear-same none e = refl
-clear-same (some k) e = go (is_reporting k) e
-  where
-    go : (t : Bool) → not t ≡ true → cond t none (some k) ≡ some k
-    go true e = absurd (false≢true e)
-    go false e = refl
-
--- 4, 5 and 6 report
-pub quiet_same : {n : ℕ} → n ≢ 4 → n ≢ 5 → n ≢ 6 → unreporting (step_call n) ≡ step_call n
-unfolding clear step_call
-quiet_same {n} four five six = go (ltb n 16) refl
-  where
-    other : ℕ → Bool
-    other n = not (eqb n 4) && not (eqb n 5) && not (eqb n 6)
-
-    is-other : other n ≡ true
-    is-other = both (both (ap not (ne_eqb n 4 four)) (ap not (ne_eqb n 5 five))) (ap not (ne_eqb n 6 six))
-
-    go : (t : Bool) → ltb n 16 ≡ t → unreporting (step_call n) ≡ step_call n
-    go true e =
-        clear-same (step_call n)
-        (T_true (clear is_reporting (step_call n))
-        (implied (other n) (clear is_reporting (step_call n)) (below 16 (λ n. implies (other n) (clear is_reporting (step_call n))) tt n (ltb-true n 16 e)) is-other))
-    go false e = ap unreporting (no_call (ltb-false n 16 e)) ∙ sym (no_call (ltb-false n 16 e))
-
--- a number of none of the others
-pub none-quiet : {n : ℕ} → 4 ≤ n → (7 ≤ n → 16 ≤ n) → none ≡ unreporting (step_call n)
-unfolding step_call
-none-quiet {n} low far = go (ltb n 7) refl
-  where
-    no-quiet : ℕ → Bool
-    no-quiet n = not (is_call (unreporting (step_call n)))
-
-    empty : (o : Option Call) → not (is_call o) ≡ true → none ≡ o
-    empty none e = refl
-    empty (some k) e = absurd (false≢true e)
-
-    go : (t : Bool) → ltb n 7 ≡ t → none ≡ unreporting (step_call n)
-    go true e =
-        empty (unreporting (step_call n))
-        (T_true (no-quiet n) (implied (not (ltb n 4)) (no-quiet n) (below 7 (λ n. implies (not (ltb n 4)) (no-quiet n)) tt n (ltb-true n 7 e)) (ap not (le-ltb n 4 low))))
-    go false e = sym (ap unreporting (no_call (far (ltb-false n 7 e))))

@@ -11,10 +11,9 @@ use lib.Seq.{drop-cons}
 use Rattle.stops.specs.Answer.{Answer, map}
 use Rattle.steps.specs.Boards as S
 use Rattle.steps.specs.Calls.{Call, answer, run}
-use Rattle.board.specs.Boards.{board_of, open_with_of}
-use Rattle.calls.specs.Replays.{Run, calls_of, cons_call, first_no_step, run_or, replay_of, replaying_answer, reached, Replays}
+use Rattle.board.specs.Boards.{open_with_of}
+use Rattle.calls.specs.Replays.{calls_of, cons_call, first_no_step, run_or, replay_of}
 use Rattle.calls.specs.StepNumbers.{step_call, step_answer, step_left}
-use Rattle.calls.specs.declared.Replayed.{Replayed}
 
 run_step : (n : ℕ) (ns : List ℕ) (b : S.Board) → run (calls_of ns) (step_left b (step_answer n b)) ≡ run (calls_of (n ∷ ns)) b
 unfolding run calls_of step_answer
@@ -34,9 +33,6 @@ module _ (ns : List ℕ) (i : ℕ) where
   run_end h b = ap (λ (l : List ℕ). run (calls_of l) b) (drop_of_length-le ns h)
 
 module _ (clues entries : List ℤ) (ns : List ℕ) where
-  pub replays : {r : Replayed} (a : Answer Run) → a ≡ replay_of clues entries ns → replaying_answer r.answer (board_of r.board) ≡ a → board_of r.board ≡ reached a → Replays clues entries ns r
-  replays a is answer board = record { answer = answer ∙ is; board = board ∙ ap reached is }
-
   pub run-replayed : {a : Answer S.Board} → a ≡ open_with_of clues entries → {o : Option ℕ} → o ≡ first_no_step ns → map (run_or o (calls_of ns)) a ≡ replay_of clues entries ns
   unfolding replay_of
   run-replayed {a} e same = ap (λ (o : Option ℕ). map (run_or o (calls_of ns)) a) same ∙ ap (map (run_or (first_no_step ns) (calls_of ns))) e

@@ -9,5 +9,5 @@ pub verdict-means : VerdictMeans
 verdict-means =
     record {
       lists = λ clues entries ok en xs n B at. verdict-says B.masks (Keeps (board_of B)) (demand3.fillings clues entries ok en xs n B at);
-      replayed = λ clues entries ok en ns n r e. verdict-says r.board.masks (Keeps (board_of r.board)) (demand3.replayed_fillings clues entries ok en ns n r e);
+      replayed = λ clues entries ok en ns n B e. verdict-says B.masks (Keeps (board_of B)) (demand3.replayed_fillings clues entries ok en ns n B e);
     }

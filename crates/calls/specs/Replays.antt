@@ -1,15 +1,15 @@
 -- Lists of step numbers, run from "the fresh board of one clue grid with one set of entries" (document 02, F-7).
-use Rattle.std.specs.Prelude.{◌≡◌, not, List, [], ◌∷◌, ℕ, ℤ, length, get_or}
+use Rattle.std.specs.Prelude.{◌≡◌, not, List, [], ◌∷◌, ℕ, ℤ, length, get_or, Result, Ok, Err}
 use Rattle.std.proofs.Math.Option.{Option, none, some}
 use Rattle.stops.specs.Answer.{Answer, gives, stop, map}
 use Rattle.steps.specs.Boards as S
 use Rattle.steps.specs.Calls.{Call, run}
 use Rattle.steps.specs.Loops.{first, up_to}
-use Rattle.board.specs.Boards.{board_of, no_board, open_with_of}
+use Rattle.board.specs.Boards.{board_of, open_with_of}
+use Rattle.board.specs.declared.Board.{Board}
 use Rattle.calls.specs.StepNumbers.{step_call, is_step}
-use Rattle.calls.specs.declared.Replayed.{Replayed}
-use Rattle.calls.specs.declared.Replaying.{Replaying}
-use Rattle.calls.specs.declared.Replaying.TheVariants as replaying
+use Rattle.calls.specs.declared.ReplayError.{ReplayError}
+use Rattle.calls.specs.declared.ReplayError.TheVariants.{NoStep, Refused}
 
 -- the index of the first number that is no step's
 unfoldable pub first_no_step : List ℕ → Option ℕ
@@ -37,18 +37,12 @@ run_or (some i) ks b = no_step i
 unfoldable pub replay_of : List ℤ → List ℤ → List ℕ → Answer Run
 replay_of clues entries ns = map (run_or (first_no_step ns) (calls_of ns)) (open_with_of clues entries)
 
-abbrev pub replaying_answer : Replaying → S.Board → Answer Run
-replaying_answer replaying.Done b = gives (ran b)
-replaying_answer (replaying.Refused s) b = stop s
-replaying_answer (replaying.NoStep i) b = gives (no_step i)
-
--- the board that was reached; zeros where none was
-abbrev pub reached : Answer Run → S.Board
-reached (gives (ran b)) = b
-reached (gives (no_step i)) = no_board
-reached (stop s) = no_board
+-- what `replay` returns, as its answer
+abbrev pub replaying : Result Board ReplayError → Answer Run
+replaying (Ok b) = gives (ran (board_of b))
+replaying (Err (Refused s)) = stop s
+replaying (Err (NoStep i)) = gives (no_step i)
 
 -- what `replay` hands back
-pub record Replays (clues entries : List ℤ) (ns : List ℕ) (r : Replayed) : Type 0 where
-  pub answer : replaying_answer r.answer (board_of r.board) ≡ replay_of clues entries ns
-  pub board : board_of r.board ≡ reached (replay_of clues entries ns)
+abbrev pub Replays : List ℤ → List ℤ → List ℕ → Result Board ReplayError → Type 0
+Replays clues entries ns r = replaying r ≡ replay_of clues entries ns

@@ -1,5 +1,5 @@
 -- The board calls by their step numbers, and what a step hands back.
-use Rattle.std.specs.Prelude.{◌≡◌, Bool, true, false, List, [], ◌∷◌, map, ℕ, get_or}
+use Rattle.std.specs.Prelude.{◌≡◌, Bool, true, false, List, [], ◌∷◌, map, ℕ, get_or, Result, Ok, Err}
 use Rattle.std.proofs.Math.Option
 use Rattle.std.proofs.Math.Option.{Option, none, some}
 use Rattle.stops.specs.Answer as answers
@@ -7,12 +7,10 @@ use Rattle.stops.specs.Answer.{Answer, gives, stop, value_or}
 use Rattle.steps.specs.Boards as S
 use Rattle.steps.specs.Calls.{Call, update_candidates, naked_pairs_call, box_line_call, x_wing_call, naked_singles_call, hidden_singles_call, advanced_call, wide, settling_call, chain_call, x_chain_call, Outcome, answer, left}
 use Rattle.steps.specs.Passes.{Lone, Place, Pair, Pointing, Claiming, Cross}
-use Rattle.board.specs.Boards.{board_of}
 use Rattle.techniques.specs.Reports.{reports_of}
-use Rattle.techniques.specs.declared.singles.Reports.{Reports}
 use Rattle.calls.specs.declared.Stepped.{Stepped}
-use Rattle.calls.specs.declared.Stepping.{Stepping}
-use Rattle.calls.specs.declared.Stepping.TheVariants as stepping
+use Rattle.calls.specs.declared.StepError.{StepError}
+use Rattle.calls.specs.declared.StepError.TheVariants.{NoStep, Refused}
 
 -- "Board calls: `update_candidates`, naked pairs, box-line, X-wing, naked singles, hidden singles, `apply_advanced_techniques`, each wide pass, settling; also the chain pass", numbered from 0; a call that came later, Claiming and then the X-chain pass, has the next number
 abbrev pub step_calls : List Call
@@ -34,10 +32,11 @@ is_step n = is_call (step_call n)
 unfoldable pub step_answer : ℕ → S.Board → Option (Answer Outcome)
 step_answer n b = Option.map (λ k. answer k b) (step_call n)
 
-abbrev pub stepping_answer : Stepping → Option (Answer Bool)
-stepping_answer (stepping.Made f) = some (gives f)
-stepping_answer (stepping.Refused s) = some (stop s)
-stepping_answer stepping.NoStep = none
+-- what a step returns: its value or a stop; nothing where its number is no step's
+abbrev pub stepping : {A : Type 0} → Result A StepError → Option (Answer A)
+stepping (Ok a) = some (gives a)
+stepping (Err (Refused s)) = some (stop s)
+stepping (Err NoStep) = none
 
 -- the board that a step leaves: as it was beside a stop, and where the number is no step's
 abbrev pub step_left : S.Board → Option (Answer Outcome) → S.Board
@@ -49,15 +48,11 @@ abbrev pub outcome_or : {A : Type 0} → A → (Outcome → A) → Option (Answe
 outcome_or z part none = z
 outcome_or z part (some a) = value_or z (answers.map part a)
 
--- a step's flag or stop, its board, its reports in the value they stand in, and what it counts
-pub record Hands (r : Stepped) (f : Option (Answer Bool)) (b : S.Board) (rs : Reports) (s q : ℕ) : Type 0 where
-  pub flag : stepping_answer r.answer ≡ f
-  pub board : board_of r.board ≡ b
-  pub reports : r.reports ≡ rs
-  pub sweeps : r.sweeps ≡ s
-  pub removed : r.removed ≡ q
+-- an outcome as the value that is handed back, its reports in the value they stand in
+abbrev pub stepped : Outcome → Stepped
+stepped o = record { made = o.flag; reports = reports_of o.reports; sweeps = o.sweeps; removed = o.removed }
 
--- all that a step hands back, from the board that it was handed and from its answer
-abbrev pub HandsBack : Stepped → S.Board → Option (Answer Outcome) → Type 0
-HandsBack r b o =
-    Hands r (Option.map (answers.map (λ x. x.flag)) o) (step_left b o) (reports_of (outcome_or [] (λ x. x.reports) o)) (outcome_or 0 (λ x. x.sweeps) o) (outcome_or 0 (λ x. x.removed) o)
+-- all that a step hands back, from the board that it was handed and from its answer, and the board that it leaves
+pub record HandsBack (b : S.Board) (o : Option (Answer Outcome)) (r : Result Stepped StepError) (after : S.Board) : Type 0 where
+  pub told : stepping r ≡ Option.map (answers.map stepped) o
+  pub board : after ≡ step_left b o

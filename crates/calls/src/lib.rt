@@ -1,78 +1,115 @@
 // The board calls by their step numbers, and lists of them run from the fresh board of clues and entries.
 #![tactic(auto)]
 
+ghost use Rattle.std.specs.Prelude.{◌≡◌, []};
 ghost use Rattle.board.specs.Boards.{board_of};
+ghost use Rattle.techniques.specs.Reports.{reports_of};
 ghost use Rattle.calls.specs.Replays.{Replays};
 ghost use Rattle.calls.specs.StepNumbers.{HandsBack, step_answer};
+ghost use Rattle.calls.specs.declared.ReplayError.TheVariants as replay;
+ghost use Rattle.calls.specs.declared.StepError.TheVariants as step;
 
-use board::{Board, Found};
-use stops::{Check, Stop};
+use board::Board;
+use kinds::{Step, step_of};
+use quiet::{Told, quiet_step};
+use stops::Stop;
 use techniques::singles::Reports;
+use techniques::{Reported, report};
 
-mod answers;
 mod lists;
+pub mod kinds;
 pub mod quiet;
 
-// What a step answers: whether there was progress, or that its number is no step's.
+// Why a step is not done: its number is no step's, or its call refuses the board.
 #[derive(Clone, Copy)]
-pub enum Stepping {
-    Made(bool),
-    Refused(Stop),
+pub enum StepError {
     NoStep,
+    Refused(Stop),
 }
 
-// All that a step hands back. What its call does not speak of is false, empty or 0; beside a refusal the board is as it was.
+impl From<Stop> for StepError {
+    ghost from_gives = { λ stop error. error ≡ step.Refused stop };
+
+    fn from(stop: Stop) -> StepError {
+        StepError::Refused(stop)
+    }
+}
+
+// All that a step hands back beside its board. What its call does not speak of is false, empty or 0.
 #[derive(Clone, Copy)]
 pub struct Stepped {
-    pub answer: Stepping,
-    pub board: Board,
+    pub made: bool,
     pub reports: Reports,
     pub sweeps: usize,
     pub removed: usize,
 }
 
-// One board call by its step number.
-pub fn step(number: u8, board: Board) -> Stepped
-    ensures { HandsBack result (board_of board) (step_answer number (board_of board)) }
+// Of a step that reports.
+fn of_reported(found: Reported) -> Stepped
+    ensures { result ≡ record { made = found.made; reports = found.reports; sweeps = 0; removed = 0 } }
 {
-    match number {
-        4 => answers::of_reports(techniques::apply_naked_singles(board)),
-        5 => answers::of_reports(techniques::apply_hidden_singles(board)),
-        6 => answers::of_reports(techniques::apply_advanced_techniques(board)),
-        _ => answers::of_quiet(number, board),
+    Stepped {
+        made: found.made,
+        reports: found.reports,
+        sweeps: 0,
+        removed: 0,
     }
 }
 
-// What `replay` answers: the list was run, or the index of the first byte that is no step number.
+// Of a step that reports nothing.
+fn of_told(told: Told) -> Stepped
+    ensures { result ≡ record { made = told.made; reports = reports_of []; sweeps = told.sweeps; removed = told.removed } }
+{
+    Stepped {
+        made: told.made,
+        reports: Reports::new(),
+        sweeps: told.sweeps,
+        removed: told.removed,
+    }
+}
+
+// One board call by its step number; beside a refusal the board is as it was.
+pub fn step(number: u8, board: &mut Board) -> Result<Stepped, StepError>
+    ensures { HandsBack (board_of board.old) (step_answer number (board_of board.old)) result (board_of board.new) }
+{
+    match step_of(number) {
+        None => Err(StepError::NoStep),
+        Some(Step::Search(search)) => Ok(of_reported(report(search, board)?)),
+        Some(Step::Quiet(quiet)) => Ok(of_told(quiet_step(
+            quiet,
+            &board.clues,
+            &board.entries,
+            &mut board.masks,
+        )?)),
+    }
+}
+
+// Why a list is not run: a byte, by its index, is no step number, or a clue or an entry is refused.
 #[derive(Clone, Copy)]
-pub enum Replaying {
-    Done,
-    Refused(Stop),
+pub enum ReplayError {
     NoStep(usize),
+    Refused(Stop),
 }
 
-// The board after a list of steps; zeros where it was not run.
-#[derive(Clone, Copy)]
-pub struct Replayed {
-    pub answer: Replaying,
-    pub board: Board,
+impl From<Stop> for ReplayError {
+    ghost from_gives = { λ stop error. error ≡ replay.Refused stop };
+
+    fn from(stop: Stop) -> ReplayError {
+        ReplayError::Refused(stop)
+    }
 }
 
-// The steps of a list, one after the other, from the fresh board of clues and entries. Nothing is run where a clue, an entry or a byte is refused.
-pub fn replay(clues: [i32; 81], entries: [i32; 81], steps: &[u8]) -> Replayed
+// The board after the steps of a list, one after the other, from the fresh board of clues and entries. Nothing is run where a clue, an entry or a byte is refused.
+pub fn replay(
+    clues: [i32; 81],
+    entries: [i32; 81],
+    steps: &[u8],
+) -> Result<Board, ReplayError>
     ensures { Replays clues entries steps.now result }
 {
-    let opened = Board::with_entries(clues, entries);
-    let opening = opened.answer;
-    let board = opened.board;
-    match opening {
-        Check::Refused(stop) => lists::refused(Replaying::Refused(stop)),
-        Check::Passed => match lists::first_no_step(steps) {
-            Found::At(index) => lists::refused(Replaying::NoStep(index)),
-            Found::Nothing => Replayed {
-                answer: Replaying::Done,
-                board: lists::run(steps, board),
-            },
-        },
+    let board = Board::with_entries(clues, entries)?;
+    match lists::first_no_step(steps) {
+        Some(index) => Err(ReplayError::NoStep(index)),
+        None => Ok(lists::run(steps, board)),
     }
 }

@@ -126,7 +126,7 @@ pub fn report_handed(
     Ok(find_into(search, &givens, masks, reports))
 }
 
-fn report(search: Search, board: &mut Board) -> Result<Reported, Stop>
+pub fn report(search: Search, board: &mut Board) -> Result<Reported, Stop>
     ensures { Finds (search_call search) (board_of board.old) result (board_of board.new) }
 {
     let mut reports = Reports::new();
