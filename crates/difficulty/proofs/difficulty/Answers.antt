@@ -1,6 +1,5 @@
 -- `difficulty::difficulty` meets its contract. Assumes nothing.
 use mathlib.Core.Path.{sym, ap, subst, ◌∙◌}
-use borrow.Author.Rules.{rules}
 use Rattle.stops.proofs.Answers.{told}
 use Rattle.steps.specs.Boards.{Givens}
 use Rattle.steps.proofs.Lists.{board-givens}
