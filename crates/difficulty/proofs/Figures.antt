@@ -3,19 +3,20 @@ use mathlib.Core.Path.{◌≡◌, refl, sym, ap, subst, ◌∙◌}
 use mathlib.Core.Bool.{Bool, true, false, cond}
 use mathlib.Core.List.{List, [], ◌∷◌}
 use mathlib.Core.Logic.{◌≢◌}
-use Prim.Native.Nat.{ℕ, suc, ◌+◌, ◌-◌, ◌*◌, ◌<◌, ◌≤◌}
+use Prim.Native.Nat.{ℕ, zero, suc, ◌+◌, ◌*◌, ◌≤◌}
 use native.Mathlib.Nat.{div-le_self, mod-le}
 use native.Mathlib.Omega.{arith}
 use borrow.Author.Tests.{eq-eqb, ne_eqb}
 use lib.Dec.{eqb}
 use lib.ListN.{length, get_or}
+use Rattle.std.specs.List.{count_by}
+use Rattle.std.proofs.lemmas.List.Recursion.{is_count_by}
 use Rattle.stops.specs.Answer.{Answer, gives, stop, then}
 use Rattle.stops.specs.declared.Stop.TheVariants.{NoOpenCell}
 use Rattle.stops.proofs.Answers.{gives_same, stop-gives}
 use Rattle.candidates.proofs.Tests.{by-test, cond-true, cond-false}
 use Rattle.grid.specs.Cells.{cells}
 use Rattle.grid.specs.Lists.{range, select}
-use Rattle.grid.proofs.Lists.{range-on, range-end}
 use Rattle.steps.specs.Boards.{Board, Givens, givens, is_open, fresh}
 use Rattle.steps.specs.Calls.{check_of}
 use Rattle.steps.specs.Difficulty.{summed, pass_counts, weighed, worth, points_of, open_cells, Figure, figure_of, difficulty_of}
@@ -27,20 +28,36 @@ use Rattle.difficulty.specs.code.Rates.{rating_by, rate_of}
 
 -- ---- open cells
 
+-- one more number, and each number one less
+shifted : (f : ℕ → Bool) (n k : ℕ) → length (select f (range n (suc k))) ≡ length (select (λ c. f (suc c)) (range n k))
+shifted f zero k = refl
+shifted f (suc n) k = go (f (suc k)) (select f (range n (suc (suc k)))) (select (λ c. f (suc c)) (range n (suc k))) (shifted f n (suc k))
+  where
+    go : (t : Bool) (xs ys : List ℕ) → length xs ≡ length ys → length (cond t (suc k ∷ xs) xs) ≡ length (cond t (k ∷ ys) ys)
+    go true xs ys e = ap suc e
+    go false xs ys e = e
+
+-- the elements that pass a test are as many as their places
+module _ (p : ℕ → Bool) where
+  abbrev places : List ℕ → ℕ
+  places xs = length (select (λ c. p (get_or xs c 0)) (range (length xs) 0))
+
+  counted : (xs : List ℕ) → places xs ≡ count_by p xs
+  counted = is_count_by places p refl (λ x xs. go (p x) (select (λ c. p (get_or (x ∷ xs) c 0)) (range (length xs) 1)) (shifted (λ c. p (get_or (x ∷ xs) c 0)) (length xs) 0))
+    where
+      go : (t : Bool) {m : ℕ} (ys : List ℕ) → length ys ≡ m → length (cond t (0 ∷ ys) ys) ≡ cond t (1 + m) m
+      go true ys e = omega (arith, e)
+      go false ys e = e
+
 module _ (g : List ℕ) where
   -- how many of these cells are open
   abbrev pub open_of : List ℕ → ℕ
   open_of cs = length (select (is_open g) cs)
 
-  pub open-on : (i : ℕ) → i < 81 → open_of (range (81 - i) i) ≡ cond (is_open g i) (suc (open_of (range (81 - (i + 1)) (i + 1)))) (open_of (range (81 - (i + 1)) (i + 1)))
-  open-on i h = ap open_of (range-on 81 i h) ∙ picked (is_open g i) i (select (is_open g) (range (81 - (i + 1)) (i + 1)))
-    where
-      picked : (t : Bool) (c : ℕ) (cs : List ℕ) → length (cond t (c ∷ cs) cs) ≡ cond t (suc (length cs)) (length cs)
-      picked true c cs = refl
-      picked false c cs = refl
-
-  pub open-end : (i : ℕ) → 81 ≤ i → open_of (range (81 - i) i) ≡ 0
-  open-end i h = ap open_of (range-end 81 i h)
+  -- counted over the givens themselves
+  pub open-counted : length g ≡ 81 → count_by (λ x. eqb x 0) g ≡ open_cells g
+  unfolding open_cells cells
+  open-counted e = sym (counted (λ x. eqb x 0) g) ∙ ap (λ (n : ℕ). open_of (range n 0)) e
 
   open-few : (cs : List ℕ) → open_of cs ≤ length cs
   open-few [] = omega arith

@@ -29,15 +29,7 @@ pub struct Figure {
 fn open_cells(givens: &[u8; 81]) -> usize
     ensures { result ≡ open_cells givens.now }
 {
-    let mut count: usize = 0;
-    let mut cell: usize = 0;
-    while cell < 81 {
-        if givens[cell] == 0 {
-            count += 1;
-        }
-        cell += 1;
-    }
-    count
+    givens.iter().filter(|given| **given == 0).count()
 }
 
 // What each wide pass removes in settling, in the order of the passes.
@@ -45,9 +37,8 @@ fn pass_counts(givens: &[u8; 81], masks: [u16; 81]) -> [usize; 6]
     ensures { result ≡ pass_counts givens.now masks }
 {
     let mut left = masks;
-    let mut none: [u8; 0] = [];
     let mut counts = [0usize; 6];
-    settle(givens, &mut left, &mut none, &mut counts);
+    settle(givens, &mut left, &mut [], &mut counts);
     counts
 }
 

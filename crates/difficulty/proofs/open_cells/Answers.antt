@@ -1,3 +1,4 @@
+<<<<<<< HEAD
 use mathlib.Core.Path.{◌∙◌}
 use Prim.Native.Nat.{suc, ◌+◌, ◌-◌}
 use native.Mathlib.Nat.{zero-add}
@@ -10,16 +11,17 @@ use Rattle.steps.specs.Boards.{given, is_open}
 use Rattle.steps.specs.Difficulty.{open_cells}
 use Rattle.difficulty.proofs.Figures.{open_of, open-on}
 use Rattle.difficulty.proofs.open_cells.Goals.{else-givens-cell-eq0, then-givens-cell-eq0}
+=======
+-- `difficulty::open_cells` meets its contract. Assumes nothing.
+use mathlib.Core.Path.{◌≡◌, ◌∙◌}
+use borrow.Author.Rules.{rules}
+use lib.Dec.{eqb}
+use Rattle.std.specs.List.{count_by}
+use Rattle.difficulty.proofs.Figures.{open-counted}
+>>>>>>> 31a260140ab55e6d3e9c21c07f9a068e1eefeb1f
 use Rattle.difficulty.proofs.open_cells.Goals as goal
 
-pub loop-cell-init : goal.loop-cell-init
-unfolding open_cells cells
-loop-cell-init c = (omega arith, zero-add _)
-
-pub loop-cell-preserved : goal.loop-cell-preserved
-loop-cell-preserved c =
-    let g = c.args.givens.now in
-    let i = c.loop-cell.cell in
-    let r = open_of g (range (81 - (i + 1)) (i + 1)) in
-    let on = open-on g i (omega arith) in
-    elim c.if-givens-cell-eq0.branch [ then-givens-cell-eq0 w ↦ let o = on ∙ cond-true (is_open g i) (suc r) r (eq-eqb (given g i) 0 w.if-givens-cell-eq0.true) in (omega arith, omega arith) | else-givens-cell-eq0 w ↦ let o = on ∙ cond-false (is_open g i) (suc r) r (ne_eqb (given g i) 0 w.if-givens-cell-eq0.false) in (omega arith, omega arith) ]
+pub returns : goal.returns
+returns c =
+    let counted : c.count.result ≡ count_by (λ x. eqb x 0) c.args.givens.now = search rules in
+    counted ∙ open-counted c.args.givens.now c.told-givens
