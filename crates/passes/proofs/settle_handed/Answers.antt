@@ -2,7 +2,6 @@
 use mathlib.Core.Path.{ap, ap₂, ◌∙◌}
 use mathlib.Core.List.{List}
 use Prim.Native.Nat.{ℕ}
-use borrow.Author.Rules.{rules}
 use Rattle.stops.specs.Answer.{Answer, gives, map, value_or}
 use Rattle.stops.proofs.Answers.{told}
 use Rattle.steps.specs.Boards as S
