@@ -2,7 +2,7 @@
 use mathlib.Core.Path.{◌≡◌, sym, ap, ◌∙◌, subst}
 use mathlib.Core.List.{List}
 use Prim.Native.Nat.{ℕ, ◌+◌, ◌-◌, ◌≤◌, ◌<◌}
-use native.Mathlib.Decide.{ℕ_discrete, dec_lt}
+use native.Mathlib.Decide.{dec_lt}
 use native.Mathlib.Omega.{arith}
 use Rattle.candidates.specs.Masks.{Sub}
 use Rattle.candidates.proofs.Order.{sub-antisym, sub-none}
@@ -13,16 +13,6 @@ use Rattle.cells.proofs.Shared.{union-at}
 use Rattle.locked.specs.code.Rests.{unit_due, nine_due, NoneIn, NoneDue}
 
 -- ---- among nine sets
-
-pub none-start : (sets : List ℕ) → NoneIn sets 0
-none-start sets = record { most = omega arith; none = λ k h. absurd (omega arith) }
-
-pub none-on : {sets : List ℕ} {n : ℕ} → NoneIn sets n → n < 9 → at sets n ≡ 0 → NoneIn sets (n + 1)
-none-on {sets} {n} w h e = record { most = omega arith; none = λ k l. go k l (ℕ_discrete k n) }
-  where
-    go : (k : ℕ) → k < n + 1 → Dec (k ≡ n) → at sets k ≡ 0
-    go k l (yes q) = ap (at sets) q ∙ e
-    go k l (no q) = w.none k (omega arith)
 
 -- sets that hold nothing together hold nothing each
 pub none-joined : (sets : List ℕ) → joined sets ≡ 0 → NoneIn sets 9

@@ -64,11 +64,8 @@ fn locked_digit(
     ensures masks_after { masks.new ≡ locked_digit givens.now unit digit masks.old }
     ensures log_after { log.new ≡ log_after givens.now (digit_instances unit digit) masks.old log.old }
 {
-    let count = meetings(unit);
-    let mut nth: usize = 0;
-    while nth < count {
+    for nth in 0..meetings(unit) {
         locked_at(givens, masks, log, unit, digit, held, nth);
-        nth += 1;
     }
 }
 
@@ -85,13 +82,11 @@ fn locked_unit(
     ensures masks_after { masks.new ≡ locked_unit givens.now unit masks.old }
     ensures log_after { log.new ≡ log_after givens.now (unit_instances unit) masks.old log.old }
 {
-    let mut digit: usize = 0;
-    while digit < 9 {
+    for digit in 0..9 {
         if masks::has_digit(due, digit) {
             let held = places_of(nine, digit);
             locked_digit(givens, masks, log, unit, digit, held);
         }
-        digit += 1;
     }
 }
 
@@ -113,17 +108,16 @@ fn locked_lanes(
 {
     let mut rests = [0u16; 288];
     rests::put_rests(lanes, doors, &mut rests, boxes);
-    let mut unit = rests::first_due(&rests, boxes);
-    if end <= unit {
+    let start = rests::first_due(&rests, boxes);
+    if end <= start {
         return;
     }
-    while unit < end {
+    for unit in start..end {
         let nine = all_masks(masks, unit);
         let due = rests::due_now(&nine, &mut rests, unit);
         if due != 0 {
             locked_unit(givens, masks, log, &nine, unit, due);
         }
-        unit += 1;
     }
     lay(masks, lanes);
 }

@@ -1,7 +1,7 @@
 // What each unit holds outside the places that it shares with another, read off the lanes: the rests. A line shares three thirds with its boxes, a box six with its lines.
 // Where a line and a box meet, a digit that the rest of one holds and the rest of the other does not is due: what the one holds of it outside the other is lost.
 // The nth rest of lane l stands at 48 n + l. Of the units that may lose, open cells count alone.
-ghost use Rattle.std.specs.Prelude.{◌≡◌, cond, ◌+◌, ◌*◌, ◌≤◌, ◌<◌};
+ghost use Rattle.std.specs.Prelude.{◌≡◌, cond, unwrap_or, ◌+◌, ◌*◌, ◌≤◌, ◌<◌};
 ghost use Rattle.locked.specs.code.Rests.{loose_masks, nine_of, put_rest, put_lane, put_lanes, put_rests, renewed, due_three, row_due, col_due, box_due, unit_due, nine_due, NoneIn, NoneDue};
 
 use candidates::masks;
@@ -15,11 +15,8 @@ fn loose_masks(lanes: &[u16; 432], doors: &[u16; 432], lane: usize) -> [u16; 9]
     ensures { result ≡ loose_masks lanes.now doors.now lane }
 {
     let mut nine = [0u16; 9];
-    let mut place: usize = 0;
-    while place < 9 {
-        let held = masks::meet(lanes[48 * place + lane], doors[48 * place + lane]);
-        nine[place] = held;
-        place += 1;
+    for (place, held) in nine.iter_mut().enumerate() {
+        *held = masks::meet(lanes[48 * place + lane], doors[48 * place + lane]);
     }
     nine
 }
@@ -42,44 +39,29 @@ fn put_rest(nine: &[u16; 9], rests: &mut [u16; 288], lane: usize, nth: usize)
     rests[48 * nth + lane] = rest;
 }
 
-fn put_three(nine: &[u16; 9], rests: &mut [u16; 288], lane: usize)
-    requires { lane < 48 }
-    ensures { rests.new ≡ put_lane nine.now 3 lane rests.old }
+// The first rests of a lane. How many is known where it is called, so that the compiler writes them out.
+fn put_lane<const COUNT: usize>(nine: &[u16; 9], rests: &mut [u16; 288], lane: usize)
+    requires { (lane < 48) × (COUNT ≤ 6) }
+    ensures { rests.new ≡ put_lane nine.now COUNT lane rests.old }
 {
-    put_rest(nine, rests, lane, 0);
-    put_rest(nine, rests, lane, 1);
-    put_rest(nine, rests, lane, 2);
-}
-
-fn put_six(nine: &[u16; 9], rests: &mut [u16; 288], lane: usize)
-    requires { lane < 48 }
-    ensures { rests.new ≡ put_lane nine.now 6 lane rests.old }
-{
-    put_three(nine, rests, lane);
-    put_rest(nine, rests, lane, 3);
-    put_rest(nine, rests, lane, 4);
-    put_rest(nine, rests, lane, 5);
-}
-
-fn put_lines(lanes: &[u16; 432], doors: &[u16; 432], rests: &mut [u16; 288], loose: bool)
-    ensures { rests.new ≡ put_lanes lanes.now doors.now loose 3 0 32 rests.old }
-{
-    let mut lane: usize = 0;
-    while lane < 32 {
-        let nine = nine_of(lanes, doors, loose, lane);
-        put_three(&nine, rests, lane);
-        lane += 1;
+    for nth in 0..COUNT {
+        put_rest(nine, rests, lane, nth);
     }
 }
 
-fn put_boxes(lanes: &[u16; 432], doors: &[u16; 432], rests: &mut [u16; 288], loose: bool)
-    ensures { rests.new ≡ put_lanes lanes.now doors.now loose 6 32 48 rests.old }
+// Those of the lanes from the first to before the end.
+fn put_lanes<const COUNT: usize, const FIRST: usize, const END: usize>(
+    lanes: &[u16; 432],
+    doors: &[u16; 432],
+    rests: &mut [u16; 288],
+    loose: bool,
+)
+    requires { (COUNT ≤ 6) × (FIRST ≤ END) × (END ≤ 48) }
+    ensures { rests.new ≡ put_lanes lanes.now doors.now loose COUNT FIRST END rests.old }
 {
-    let mut lane: usize = 32;
-    while lane < 48 {
+    for lane in FIRST..END {
         let nine = nine_of(lanes, doors, loose, lane);
-        put_six(&nine, rests, lane);
-        lane += 1;
+        put_lane::<COUNT>(&nine, rests, lane);
     }
 }
 
@@ -87,8 +69,8 @@ fn put_boxes(lanes: &[u16; 432], doors: &[u16; 432], rests: &mut [u16; 288], loo
 pub fn put_rests(lanes: &[u16; 432], doors: &[u16; 432], rests: &mut [u16; 288], boxes: bool)
     ensures { rests.new ≡ put_rests lanes.now doors.now boxes rests.old }
 {
-    put_lines(lanes, doors, rests, boxes);
-    put_boxes(lanes, doors, rests, !boxes);
+    put_lanes::<3, 0, 32>(lanes, doors, rests, boxes);
+    put_lanes::<6, 32, 48>(lanes, doors, rests, !boxes);
 }
 
 // What is due where a unit meets three others: its own rests stand from `here` on, theirs from `across` on.
@@ -151,29 +133,20 @@ fn nine_due(rests: &[u16; 288], first: usize) -> [u16; 9]
     ensures { result ≡ nine_due rests.now first }
 {
     let mut due = [0u16; 9];
-    let mut nth: usize = 0;
-    while nth < 9 {
-        due[nth] = due_digits(rests, first + nth);
-        nth += 1;
+    for (nth, digits) in due.iter_mut().enumerate() {
+        *digits = due_digits(rests, first + nth);
     }
     due
 }
 
-// The first of nine sets that holds anything, 9 where none does: that is asked of all at once.
-fn first_some(sets: &[u16; 9]) -> usize
-    ensures { NoneIn sets.now result }
+// The first of nine sets that holds anything. Whether one does is asked of all at once.
+fn first_some(sets: &[u16; 9]) -> Option<usize>
+    ensures { NoneIn sets.now (unwrap_or result 9) }
 {
     if join_all(sets) == 0 {
-        return 9;
+        return None;
     }
-    let mut nth: usize = 0;
-    while nth < 9 {
-        if sets[nth] != 0 {
-            return nth;
-        }
-        nth += 1;
-    }
-    nth
+    sets.iter().position(|set| *set != 0)
 }
 
 // The first of the boxes, or of the lines, of which anything is due; the unit after them where nothing is.
@@ -182,15 +155,14 @@ pub fn first_due(rests: &[u16; 288], boxes: bool) -> usize
 {
     if boxes {
         let due = nine_due(rests, 18);
-        return 18 + first_some(&due);
+        return 18 + first_some(&due).unwrap_or(9);
     }
     let rows = nine_due(rests, 0);
-    let row = first_some(&rows);
-    if row < 9 {
+    if let Some(row) = first_some(&rows) {
         return row;
     }
     let cols = nine_due(rests, 9);
-    9 + first_some(&cols)
+    9 + first_some(&cols).unwrap_or(9)
 }
 
 // The unit's own rests anew, from its masks.
@@ -200,9 +172,9 @@ fn renew(own: &[u16; 9], rests: &mut [u16; 288], unit: usize)
 {
     let lane = 16 * (unit / 9) + unit % 9;
     if 18 <= unit {
-        put_six(own, rests, lane);
+        put_lane::<6>(own, rests, lane);
     } else {
-        put_three(own, rests, lane);
+        put_lane::<3>(own, rests, lane);
     }
 }
 

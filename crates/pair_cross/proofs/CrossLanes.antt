@@ -9,10 +9,10 @@ use native.Mathlib.Nat.{zero-add}
 use native.Mathlib.Omega.{arith}
 use borrow.Author.Tests.{eq-eqb, ne_eqb}
 use lib.Bits.{bit_and}
-use lib.Dec.{eqb, eqb→eq}
+use lib.Dec.{eqb}
 use Rattle.candidates.specs.Masks.{has, single, place_mask}
 use Rattle.candidates.proofs.Held.{Held, none-held, held-ext, held-power, held_below, held-sub, held_all}
-use Rattle.candidates.proofs.Tests.{below, cond-true, cond-false}
+use Rattle.candidates.proofs.Tests.{cond-true, cond-false}
 use Rattle.grid.specs.Units.{unit_cell, in_unit}
 use Rattle.grid.proofs.Lists.{at-up_to, map_same}
 use Rattle.steps.specs.Boards.{at, is_open}
@@ -30,15 +30,11 @@ use Rattle.lanes.proofs.LaneUnits.{lane-at, in-loose}
 use Rattle.lanes.proofs.Turns.{Parted}
 use Rattle.pair_cross.specs.code.Twos.{first_of, second_of, FirstLine, frame_step, lines_taken, frame_taken, held_lines}
 use Rattle.pair_cross.specs.code.Lively.{lively_of, lively_sets}
-use Rattle.pair_cross.specs.code.Spots.{ones, spots_of, open_places, DigitLanes, places_if, CrossSkips}
+use Rattle.pair_cross.specs.code.Spots.{spots_of, open_places, DigitLanes, places_if, CrossSkips}
 use Rattle.pair_cross.specs.declared.twos.Frame.TheVariants.{Lines}
 use Rattle.pair_cross.proofs.FrameSpots.{door-open}
 use Rattle.pair_cross.proofs.LivelyFrames.{frame-still}
 use Rattle.pair_cross.proofs.Passed.{at_held}
-
-one-is : (d : ℕ) → d < 9 → at ones d ≡ 2 ^ d
-unfolding ones
-one-is d h = eqb→eq (at ones d) (2 ^ d) (below 9 (λ d. eqb (at ones d) (2 ^ d)) tt d h)
 
 -- whether a mask has a digit, as code asks it of many at once
 tested : (x d : ℕ) → eqb (bit_and x (2 ^ d)) 0 ≡ not (has x d)
@@ -48,14 +44,14 @@ tested x d = go (has x d) refl
     go true t = ne_eqb (bit_and x (2 ^ d)) 0 (λ e. none-held d (subst (λ (z : ℕ). Held z d) e ((held-meet x (2 ^ d) d).1 (t, (held-power d d).1 refl))))
     go false t = eq-eqb (bit_and x (2 ^ d)) 0 (not-held x d (λ h. true≢false (sym h ∙ t)))
 
-asked : (x d : ℕ) → d < 9 → eqb (bit_and x (at ones d)) 0 ≡ not (has x d)
-asked x d h = ap (λ (y : ℕ). eqb (bit_and x y) 0) (one-is d h) ∙ tested x d
+asked : (x d : ℕ) → d < 9 → eqb (bit_and x (place_mask d)) 0 ≡ not (has x d)
+asked x d h = ap (λ (y : ℕ). eqb (bit_and x y) 0) (place_is d h) ∙ tested x d
 
 -- ---- the lines of a digit
 
 module _ (m : List ℕ) (f l d : ℕ) (hf : f < 3) (hl : l < 9) (hd : d < 9) where
   at_place : ℕ → ℕ
-  at_place i = cond (eqb (bit_and (lane_at (laid m) (16 * f + l) i) (at ones d)) 0) 0 (place_mask i)
+  at_place i = cond (eqb (bit_and (lane_at (laid m) (16 * f + l) i) (place_mask d)) 0) 0 (place_mask i)
 
   -- a place of the lane, and of the unit
   holds : (i : ℕ) → i < 9 → has (lane_at (laid m) (16 * f + l) i) d ≡ has (held_places m (9 * f + l) d) i
@@ -73,7 +69,7 @@ module _ (m : List ℕ) (f l d : ℕ) (hf : f < 3) (hl : l < 9) (hd : d < 9) whe
           none true s = absurd (true≢false (sym ((held-meet (at m c) 511 d).0 s).0 ∙ t))
           none false s = s
 
-  down : (e : ℕ) → Held (spots_of (laid m) (16 * f + l) (at ones d)) e → Held (held_places m (9 * f + l) d) e
+  down : (e : ℕ) → Held (spots_of (laid m) (16 * f + l) (place_mask d)) e → Held (held_places m (9 * f + l) d) e
   unfolding spots_of at_place
   down e t =
       let w = union-held at_place 9 e t in
@@ -81,20 +77,20 @@ module _ (m : List ℕ) (f l d : ℕ) (hf : f < 3) (hl : l < 9) (hd : d < 9) whe
     where
       by_place : (i : ℕ) → i < 9 → Held (at_place i) e → (s : Bool) → has (lane_at (laid m) (16 * f + l) i) d ≡ s → Held (held_places m (9 * f + l) d) e
       by_place i hi q true s =
-          let o = subst (λ (z : ℕ). Held z e) (cond-false (eqb (bit_and (lane_at (laid m) (16 * f + l) i) (at ones d)) 0) 0 (place_mask i) (asked (lane_at (laid m) (16 * f + l) i) d hd ∙ ap not s) ∙ place_is i hi) q in
+          let o = subst (λ (z : ℕ). Held z e) (cond-false (eqb (bit_and (lane_at (laid m) (16 * f + l) i) (place_mask d)) 0) 0 (place_mask i) (asked (lane_at (laid m) (16 * f + l) i) d hd ∙ ap not s) ∙ place_is i hi) q in
           subst (λ (z : ℕ). Held (held_places m (9 * f + l) d) z) (sym ((held-power i e).0 o)) (sym (holds i hi) ∙ s)
       by_place i hi q false s =
-          absurd (none-held e (subst (λ (z : ℕ). Held z e) (cond-true (eqb (bit_and (lane_at (laid m) (16 * f + l) i) (at ones d)) 0) 0 (place_mask i) (asked (lane_at (laid m) (16 * f + l) i) d hd ∙ ap not s)) q))
+          absurd (none-held e (subst (λ (z : ℕ). Held z e) (cond-true (eqb (bit_and (lane_at (laid m) (16 * f + l) i) (place_mask d)) 0) 0 (place_mask i) (asked (lane_at (laid m) (16 * f + l) i) d hd ∙ ap not s)) q))
 
-  up : (e : ℕ) → Held (held_places m (9 * f + l) d) e → Held (spots_of (laid m) (16 * f + l) (at ones d)) e
+  up : (e : ℕ) → Held (held_places m (9 * f + l) d) e → Held (spots_of (laid m) (16 * f + l) (place_mask d)) e
   unfolding spots_of at_place
   up e t =
       let h : e < 9 = held_below (held_places m (9 * f + l) d) 9 e (held_small m (9 * f + l) d) t in
       held-sub e (union-at at_place 9 e h)
-      (subst (λ (z : ℕ). Held z e) (sym (cond-false (eqb (bit_and (lane_at (laid m) (16 * f + l) e) (at ones d)) 0) 0 (place_mask e) (asked (lane_at (laid m) (16 * f + l) e) d hd ∙ ap not (holds e h ∙ t)) ∙ place_is e h)) ((held-power e e).1 refl))
+      (subst (λ (z : ℕ). Held z e) (sym (cond-false (eqb (bit_and (lane_at (laid m) (16 * f + l) e) (place_mask d)) 0) 0 (place_mask e) (asked (lane_at (laid m) (16 * f + l) e) d hd ∙ ap not (holds e h ∙ t)) ∙ place_is e h)) ((held-power e e).1 refl))
 
-  spots-are : spots_of (laid m) (16 * f + l) (at ones d) ≡ held_places m (9 * f + l) d
-  spots-are = held-ext (spots_of (laid m) (16 * f + l) (at ones d)) (held_places m (9 * f + l) d) (λ e. (down e, up e))
+  spots-are : spots_of (laid m) (16 * f + l) (place_mask d) ≡ held_places m (9 * f + l) d
+  spots-are = held-ext (spots_of (laid m) (16 * f + l) (place_mask d)) (held_places m (9 * f + l) d) (λ e. (down e, up e))
 
 -- nine lines of places
 nine-line : (m : List ℕ) (f d l : ℕ) → l < 9 → bit_and (at (held_lines m f d) l) 511 ≡ held_places m (f + l) d
@@ -128,11 +124,11 @@ cross-lines {m} {q} half d h hd w n s e = e ∙ digit-lines m q half d (omega ar
 
 -- the open places, which are the same for each digit
 pub cross-doors : (g : List ℕ) (half d : ℕ) → half < 2 → d < 9 → {q doors : List ℕ} → q ≡ laid (doors_of g) → doors ≡ open_places q (16 * half) → doors ≡ nines (held_lines (doors_of g) (9 * half) d)
-unfolding open_places nines ones
+unfolding open_places nines
 cross-doors g half d h hd is-laid e =
     e ∙ ap (λ (z : List ℕ). open_places z (16 * half)) is-laid
     ∙ map_same (λ l. spots_of (laid (doors_of g)) (16 * half + l) 1) (λ l. bit_and (at (held_lines (doors_of g) (9 * half) d) l) 511) (up_to 9)
-    (λ l k. let hl = in-up_to 9 l k in spots-are (doors_of g) half l 0 (omega arith) hl (omega arith) ∙ each-digit l hl ∙ sym (nine-line (doors_of g) (9 * half) d l hl))
+    (λ l k. let hl = in-up_to 9 l k in ap (spots_of (laid (doors_of g)) (16 * half + l)) (sym (place_is 0 (omega arith))) ∙ spots-are (doors_of g) half l 0 (omega arith) hl (omega arith) ∙ each-digit l hl ∙ sym (nine-line (doors_of g) (9 * half) d l hl))
   where
     each-digit : (l : ℕ) → l < 9 → held_places (doors_of g) (9 * half + l) 0 ≡ held_places (doors_of g) (9 * half + l) d
     each-digit l hl = held-ext (held_places (doors_of g) (9 * half + l) 0) (held_places (doors_of g) (9 * half + l) d) (λ c. (one 0 d (omega arith) hd c, one d 0 hd (omega arith) c))
@@ -161,7 +157,7 @@ module _ (g m q : List ℕ) (half held : ℕ) (h : half < 2) (digits : DigitLane
       free-at : (d c : ℕ) → d < 9 → c < 9 → Held held d → Held (at (places_if held) d) c
       free-at d c hd hc t =
           unfold places_if in
-          subst (λ (x : ℕ). Held x c) (sym (at-up_to (λ d. cond (eqb (bit_and held (at ones d)) 0) 0 511) 0 16 d (omega arith) ∙ cond-false (eqb (bit_and held (at ones d)) 0) 0 511 (asked held d hd ∙ ap not t))) (held_all c hc)
+          subst (λ (x : ℕ). Held x c) (sym (at-up_to (λ d. cond (eqb (bit_and held (place_mask d)) 0) 0 511) 0 16 d (omega arith) ∙ cond-false (eqb (bit_and held (place_mask d)) 0) 0 511 (asked held d hd ∙ ap not t))) (held_all c hc)
 
       skip : (d : ℕ) → d < 9 → at (lively_sets q (places_if held) 0) d ≡ 0 → (n : List ℕ) → Alike d n m → frame_taken g (Lines (9 * half) d) n ≡ n
       skip d hd e n s =

@@ -1,5 +1,6 @@
 pub mod TwoNumbers
 pub mod TwoPlaces
+pub mod TwoLines
 pub mod Frames
 pub mod Reach
 pub mod TwoTurns

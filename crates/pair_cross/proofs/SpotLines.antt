@@ -12,7 +12,8 @@ use Rattle.steps.specs.Boards.{at}
 use Rattle.steps.specs.Loops.{each, range}
 use Rattle.steps.proofs.Loops.{each_keeps}
 use Rattle.lanes.specs.code.Lanes.{lane_at}
-use Rattle.pair_cross.specs.code.Spots.{ones, spots_of, spot_sets, sets_put, DigitLanes}
+use Rattle.candidates.specs.Masks.{place_mask}
+use Rattle.pair_cross.specs.code.Spots.{spots_of, spot_sets, sets_put, DigitLanes}
 
 module _ (b : ℕ) (x : ℕ → ℕ) where
   abbrev put : ℕ → List ℕ → List ℕ
@@ -41,25 +42,25 @@ module _ (b : ℕ) (x : ℕ → ℕ) where
 pub record Written (p : List ℕ) (first line : ℕ) (q : List ℕ) : Type 0 where
   pub size : length q ≡ 432
   pub below : line ≤ 9
-  pub spots : (l d : ℕ) → l < line → d < 16 → lane_at q d l ≡ spots_of p (first + l) (at ones d)
+  pub spots : (l d : ℕ) → l < line → d < 16 → lane_at q d l ≡ spots_of p (first + l) (place_mask d)
 
 module _ (p : List ℕ) (first : ℕ) where
   pub written_start : Written p first 0 (replicate 432 0)
   written_start = record { size = refl; below = omega arith; spots = λ l d h k. absurd (omega arith) }
 
-  pub written_on : {line : ℕ} {q o sets digits : List ℕ} → line < 9 → Written p first line q → digits ≡ ones → sets ≡ spot_sets p (first + line) digits → o ≡ sets_put line sets q → Written p first (line + 1) o
+  pub written_on : {line : ℕ} {q o sets : List ℕ} → line < 9 → Written p first line q → sets ≡ spot_sets p (first + line) → o ≡ sets_put line sets q → Written p first (line + 1) o
   unfolding sets_put spot_sets
-  written_on {line} {q} {o} {sets} {digits} h w is-ones is-sets e = record {
+  written_on {line} {q} {o} {sets} h w is-sets e = record {
     size = ap length e ∙ puts-size (48 * line) (at sets) 16 0 q ∙ w.size;
     below = omega arith;
     spots = λ l d k m. go l d k m (ℕ_discrete l line);
   }
     where
-      go : (l d : ℕ) → l < line + 1 → d < 16 → Dec (l ≡ line) → lane_at o d l ≡ spots_of p (first + l) (at ones d)
+      go : (l d : ℕ) → l < line + 1 → d < 16 → Dec (l ≡ line) → lane_at o d l ≡ spots_of p (first + l) (place_mask d)
       go l d k m (yes s) =
-          subst (λ (i : ℕ). lane_at o d i ≡ spots_of p (first + i) (at ones d)) (sym s)
+          subst (λ (i : ℕ). lane_at o d i ≡ spots_of p (first + i) (place_mask d)) (sym s)
           (ap (λ (z : List ℕ). at z (48 * line + d)) e ∙ puts-here (48 * line) (at sets) 16 0 q d (omega arith) (omega arith) (omega (arith, w.size))
-          ∙ ap (λ (z : List ℕ). at z d) is-sets ∙ at-up_to (λ d. spots_of p (first + line) (at digits d)) 0 16 d m ∙ ap (λ (z : List ℕ). spots_of p (first + line) (at z d)) is-ones)
+          ∙ ap (λ (z : List ℕ). at z d) is-sets ∙ at-up_to (λ d. spots_of p (first + line) (place_mask d)) 0 16 d m)
       go l d k m (no s) =
           ap (λ (z : List ℕ). at z (48 * l + d)) e ∙ puts-other (48 * line) (at sets) 16 0 q (48 * l + d) (λ i a c r. s (omega arith))
           ∙ w.spots l d (omega arith) m

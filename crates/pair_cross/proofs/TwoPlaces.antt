@@ -1,10 +1,11 @@
 -- Two lines that hold two places: of their 36 instances only that of those two loses anything. Assumes nothing.
 use mathlib.Core.Path.{◌≡◌, refl, sym, ap, ◌∙◌, subst}
 use mathlib.Core.Logic.{◌≢◌, ◌⊎◌, inl, inr}
+use mathlib.Core.Bool.{Bool, true}
 use mathlib.Core.List.{List}
 use Prim.Native.Nat.{ℕ, ◌<◌}
 use native.Mathlib.Omega.{arith}
-use borrow.Author.Tests.{eq-eqb, ne_eqb}
+use borrow.Author.Tests.{eq-eqb, eqb-true, ne_eqb}
 use lib.Dec.{eqb}
 use Rattle.candidates.specs.Masks.{minus, count, lowest, tail, Sub}
 use Rattle.candidates.proofs.FewDigits.{Pair, count-pair, count-two}
@@ -69,3 +70,22 @@ module _ (held : ℕ) (small : held < 512) (two : count held ≡ 2) where
       ∙ ap (λ (x : ℕ). two_turn g F i j held x (second_of (pair_at (lowest held) (lowest (tail held)))) m) w.first
       ∙ ap (λ (x : ℕ). two_turn g F i j held (lowest held) x m) w.second
       ∙ hits g F i j m
+
+-- the two places, as code reads them off what the lines hold
+pub record TwoRead (held a b : ℕ) : Type 0 where
+  pub two : count held ≡ 2
+  pub first : a ≡ lowest held
+  pub second : b ≡ lowest (tail held)
+  pub first-below : a < 9
+  pub second-below : b < 9
+
+pub two-read : {held a b rest : ℕ} {t : Bool} → held < 512 → t ≡ eqb (count held) 2 → t ≡ true → a ≡ lowest held → rest ≡ tail held → b ≡ lowest rest → TwoRead held a b
+two-read {held} small asked is first rest-is second =
+    let two = eqb-true (count held) 2 (sym asked ∙ is) in
+    let later = second ∙ ap lowest rest-is in record {
+      two = two;
+      first = first;
+      second = later;
+      first-below = omega (arith, first, first-place held small two);
+      second-below = omega (arith, later, second-place held small two);
+    }

@@ -28,8 +28,7 @@ fn cross_due(
 {
     let first = 9 * half;
     let places = open_places(doors, 16 * half);
-    let mut digit: usize = 0;
-    while digit < 9 {
+    for digit in 0..9 {
         if due[digit] != 0 {
             two_frame(
                 givens,
@@ -40,7 +39,6 @@ fn cross_due(
                 lane_masks(digits, digit),
             );
         }
-        digit += 1;
     }
 }
 

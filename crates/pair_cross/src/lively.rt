@@ -22,13 +22,10 @@ pub fn tally_of(nine: &[u16; 9]) -> Tally
     let mut once: u16 = 0;
     let mut twice: u16 = 0;
     let mut thrice: u16 = 0;
-    let mut line: usize = 0;
-    while line < 9 {
-        let held = nine[line];
-        thrice = masks::join(thrice, masks::meet(twice, held));
-        twice = masks::join(twice, masks::meet(once, held));
-        once = masks::join(once, held);
-        line += 1;
+    for held in nine {
+        thrice = masks::join(thrice, masks::meet(twice, *held));
+        twice = masks::join(twice, masks::meet(once, *held));
+        once = masks::join(once, *held);
     }
     Tally {
         once,
@@ -71,10 +68,8 @@ pub fn any_hot(nine: &[u16; 9], twice: u16) -> u16
     ensures { result ≡ any_hot (at nine.now) twice }
 {
     let mut any: u16 = 0;
-    let mut line: usize = 0;
-    while line < 9 {
-        any = masks::join(any, heat(nine[line], twice));
-        line += 1;
+    for held in nine {
+        any = masks::join(any, heat(*held, twice));
     }
     any
 }
@@ -86,27 +81,21 @@ fn same_above(lines: &[u16; 9], line: usize) -> u16
 {
     let held = few(lines[line]);
     let mut found: u16 = 0;
-    let mut other: usize = line + 1;
-    while other < 9 {
+    for other in line + 1..9 {
         found = masks::join(found, same(held, lines[other]));
-        other += 1;
     }
     found
 }
 
-// What two equal lines of at most two places hold. Written out, so that the compiler sees all pairs and takes sixteen lanes at once.
+// What two equal lines of at most two places hold.
 fn two_same(lines: &[u16; 9]) -> u16
     ensures { result ≡ twins (at lines.now) }
 {
     let mut found: u16 = 0;
-    found = masks::join(found, same_above(lines, 0));
-    found = masks::join(found, same_above(lines, 1));
-    found = masks::join(found, same_above(lines, 2));
-    found = masks::join(found, same_above(lines, 3));
-    found = masks::join(found, same_above(lines, 4));
-    found = masks::join(found, same_above(lines, 5));
-    found = masks::join(found, same_above(lines, 6));
-    masks::join(found, same_above(lines, 7))
+    for line in 0..8 {
+        found = masks::join(found, same_above(lines, line));
+    }
+    found
 }
 
 // Nothing only if no two lines make the others lose anything of the places that can be lost, `free`.
@@ -132,10 +121,8 @@ pub fn lively_lanes(lanes: &[u16; 432], free: &[u16; 16], first: usize) -> [u16;
     ensures { result ≡ lively_sets lanes.now free.now first }
 {
     let mut sets = [0u16; 16];
-    let mut nth: usize = 0;
-    while nth < 16 {
-        sets[nth] = lively(lanes, first + nth, free[nth]);
-        nth += 1;
+    for (nth, set) in sets.iter_mut().enumerate() {
+        *set = lively(lanes, first + nth, free[nth]);
     }
     sets
 }

@@ -24,8 +24,7 @@ fn pair_due(
     ensures masks_after { masks.new ≡ pair_family givens.now family masks.old }
     ensures log_after { log.new ≡ log_after givens.now (family_instances family) masks.old log.old }
 {
-    let mut nth: usize = 0;
-    while nth < 9 {
+    for nth in 0..9 {
         if due[nth] != 0 {
             let lane = 16 * family + nth;
             two_frame(
@@ -37,7 +36,6 @@ fn pair_due(
                 lane_masks(lanes, lane),
             );
         }
-        nth += 1;
     }
 }
 
@@ -76,9 +74,7 @@ pub fn pair_lanes(
     ensures lanes_after { lanes.new ≡ laid masks.new }
     ensures log_after { log.new ≡ log_after givens.now (instances Pair) masks.old log.old }
 {
-    let mut family: usize = 0;
-    while family < 3 {
+    for family in 0..3 {
         pair_family(givens, masks, log, doors, lanes, family);
-        family += 1;
     }
 }

@@ -35,10 +35,8 @@ fn open_held(held: &[u16; 9], doors: &[u16; 9]) -> u16
     ensures { result ≡ open_held held.now doors.now }
 {
     let mut found: u16 = 0;
-    let mut line: usize = 0;
-    while line < 9 {
+    for line in 0..9 {
         found = masks::join(found, masks::meet(held[line], doors[line]));
-        line += 1;
     }
     found
 }
@@ -48,10 +46,8 @@ fn lines_left(held: &[u16; 9], doors: &[u16; 9], lost: u16) -> [u16; 9]
     ensures { result ≡ lines_left held.now doors.now lost }
 {
     let mut left = [0u16; 9];
-    let mut line: usize = 0;
-    while line < 9 {
-        left[line] = masks::lose(held[line], masks::meet(doors[line], lost));
-        line += 1;
+    for (line, places) in left.iter_mut().enumerate() {
+        *places = masks::lose(held[line], masks::meet(doors[line], lost));
     }
     left
 }
@@ -115,12 +111,10 @@ fn line_turns(
     ensures log_after { log.new ≡ log_after givens.now (line_instances frame i) masks.old log.old }
 {
     let mut heat = start;
-    let mut j: usize = i + 1;
-    while j < 9 {
+    for j in i + 1..9 {
         if asks(held[i], held[j], heat) {
             heat = two_turn(givens, masks, log, frame, doors, held, heat, i, j);
         }
-        j += 1;
     }
     heat
 }
@@ -154,11 +148,9 @@ pub fn two_frame(
 {
     let mut held = start;
     let mut heat = heat_of(&held);
-    let mut i: usize = 0;
-    while i < 9 {
+    for i in 0..9 {
         if leads(held[i], heat) {
             heat = line_turns(givens, masks, log, frame, doors, &mut held, heat, i);
         }
-        i += 1;
     }
 }

@@ -6,11 +6,6 @@ ghost use Rattle.pair_cross.specs.code.Spots.{spots_of, spot_sets, open_places, 
 
 use candidates::masks;
 
-// Each digit alone. Lent: sixteen of them are met at once, and a constant is copied where it is read by a variable.
-const ONES: [u16; 16] = [
-    1, 2, 4, 8, 16, 32, 64, 128, 256, 512, 1024, 2048, 4096, 8192, 16384, 32768,
-];
-
 fn spot(held: u16, one: u16, place: usize) -> u16
     ensures { result ≡ cond (eqb (bit_and held one) 0) 0 (place_mask place) }
 {
@@ -26,24 +21,20 @@ fn spots(lanes: &[u16; 432], lane: usize, one: u16) -> u16
     ensures { result ≡ spots_of lanes.now lane one }
 {
     let mut found: u16 = 0;
-    let mut place: usize = 0;
-    while place < 9 {
+    for place in 0..9 {
         found = masks::join(found, spot(lanes[48 * place + lane], one, place));
-        place += 1;
     }
     found
 }
 
 // The same for each digit.
-fn spot_sets(lanes: &[u16; 432], lane: usize, ones: &[u16; 16]) -> [u16; 16]
+fn spot_sets(lanes: &[u16; 432], lane: usize) -> [u16; 16]
     requires { lane < 48 }
-    ensures { result ≡ spot_sets lanes.now lane ones.now }
+    ensures { result ≡ spot_sets lanes.now lane }
 {
     let mut sets = [0u16; 16];
-    let mut digit: usize = 0;
-    while digit < 16 {
-        sets[digit] = spots(lanes, lane, ones[digit]);
-        digit += 1;
+    for (digit, set) in sets.iter_mut().enumerate() {
+        *set = spots(lanes, lane, masks::digit_mask(digit));
     }
     sets
 }
@@ -54,10 +45,8 @@ pub fn open_places(doors: &[u16; 432], first: usize) -> [u16; 9]
     ensures { result ≡ open_places doors.now first }
 {
     let mut nine = [0u16; 9];
-    let mut line: usize = 0;
-    while line < 9 {
-        nine[line] = spots(doors, first + line, 1);
-        line += 1;
+    for (line, places) in nine.iter_mut().enumerate() {
+        *places = spots(doors, first + line, 1);
     }
     nine
 }
@@ -66,11 +55,8 @@ fn put_sets(digits: &mut [u16; 432], line: usize, sets: &[u16; 16])
     requires { line < 9 }
     ensures { digits.new ≡ sets_put line sets.now digits.old }
 {
-    let mut digit: usize = 0;
-    while digit < 16 {
-        let set = sets[digit];
-        digits[48 * line + digit] = set;
-        digit += 1;
+    for (digit, set) in sets.iter().enumerate() {
+        digits[48 * line + digit] = *set;
     }
 }
 
@@ -79,13 +65,10 @@ pub fn digit_lanes(lanes: &[u16; 432], first: usize) -> [u16; 432]
     requires { first ≤ 32 }
     ensures { DigitLanes lanes.now first result }
 {
-    let ones = ONES;
     let mut digits = [0u16; 432];
-    let mut line: usize = 0;
-    while line < 9 {
-        let sets = spot_sets(lanes, first + line, &ones);
+    for line in 0..9 {
+        let sets = spot_sets(lanes, first + line);
         put_sets(&mut digits, line, &sets);
-        line += 1;
     }
     digits
 }
@@ -103,12 +86,9 @@ fn places_if(held: u16, one: u16) -> u16
 pub fn places_of_digits(held: u16) -> [u16; 16]
     ensures { result ≡ places_if held }
 {
-    let ones = ONES;
     let mut sets = [0u16; 16];
-    let mut digit: usize = 0;
-    while digit < 16 {
-        sets[digit] = places_if(held, ones[digit]);
-        digit += 1;
+    for (digit, set) in sets.iter_mut().enumerate() {
+        *set = places_if(held, masks::digit_mask(digit));
     }
     sets
 }

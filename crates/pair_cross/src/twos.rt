@@ -20,31 +20,6 @@ pub enum Frame {
     Lines(usize, usize),
 }
 
-// Two different numbers 0 to 8, the first rising and then the second.
-const FIRSTS: [u8; 36] = [
-    0, 0, 0, 0, 0, 0, 0, 0, 1, 1, 1, 1, 1, 1, 1, 2, 2, 2, 2, 2, 2, 3, 3, 3, 3, 3, 4, 4, 4, 4, 5, 5,
-    5, 6, 6, 7,
-];
-
-const SECONDS: [u8; 36] = [
-    1, 2, 3, 4, 5, 6, 7, 8, 2, 3, 4, 5, 6, 7, 8, 3, 4, 5, 6, 7, 8, 4, 5, 6, 7, 8, 5, 6, 7, 8, 6, 7,
-    8, 7, 8, 8,
-];
-
-fn wide(number: u8) -> usize
-    ensures { result ≡ number }
-{
-    number as usize
-}
-
-// A number of a table that the caller has copied out: a constant is not to be indexed inside a loop.
-fn entry(table: &[u8; 36], pair: usize) -> usize
-    requires { pair < 36 }
-    ensures { result ≡ at table.now pair }
-{
-    wide(table[pair])
-}
-
 // All places that the other lines can lose to two lines that hold these: none of more than two, those two, or any.
 pub fn reach(held: u16) -> u16
     ensures { result ≡ reach_of held }
@@ -159,21 +134,9 @@ pub fn two_lines(
         note_two(log, frame, i, j, a, b);
         return;
     }
-    let firsts = FIRSTS;
-    let seconds = SECONDS;
-    let mut pair: usize = 0;
-    while pair < 36 {
-        two_at(
-            givens,
-            masks,
-            log,
-            frame,
-            i,
-            j,
-            held,
-            entry(&firsts, pair),
-            entry(&seconds, pair),
-        );
-        pair += 1;
+    for a in 0..9 {
+        for b in a + 1..9 {
+            two_at(givens, masks, log, frame, i, j, held, a, b);
+        }
     }
 }

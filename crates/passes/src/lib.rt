@@ -86,8 +86,7 @@ fn sweep(
     ensures tally_after { tally.new ≡ tally_with (removed_each givens.now kinds masks.old) masks.new tally.old }
 {
     let mut still = idle;
-    let mut nth: usize = 0;
-    while nth < 6 {
+    for nth in 0..6 {
         if still == 6 {
             return 6;
         }
@@ -102,7 +101,6 @@ fn sweep(
                 return 5;
             }
         }
-        nth += 1;
     }
     still
 }
@@ -123,15 +121,13 @@ fn sweep_on(
     let doors = lanes_of(&doors(givens));
     let mut lanes = lanes_of(masks);
     let mut idle: usize = 0;
-    let mut sweeps: usize = 0;
-    while sweeps < 730 {
+    for sweeps in 0..730 {
         idle = sweep(givens, masks, log, tally, &doors, &mut lanes, idle);
-        sweeps += 1;
         if idle == 6 {
-            return sweeps;
+            return sweeps + 1;
         }
     }
-    sweeps
+    730
 }
 
 // What settling counts.

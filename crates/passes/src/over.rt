@@ -13,10 +13,8 @@ fn beside_one(masks: &[u16; 81]) -> u16
     ensures { result ≡ beside_one masks.now }
 {
     let mut more: u16 = 0;
-    let mut cell: usize = 0;
-    while cell < 81 {
-        more = masks::join(more, masks::lose_lowest(masks::meet(masks[cell], 511)));
-        cell += 1;
+    for mask in masks {
+        more = masks::join(more, masks::lose_lowest(masks::meet(*mask, 511)));
     }
     more
 }
@@ -26,11 +24,9 @@ fn lacked(lanes: &[u16; 432]) -> u16
     ensures { result ≡ lacked_in lanes.now }
 {
     let mut digits: u16 = 0;
-    let mut unit: usize = 0;
-    while unit < 27 {
+    for unit in 0..27 {
         let nine = lane_masks(lanes, 16 * (unit / 9) + unit % 9);
         digits = masks::join(digits, masks::lose(511, join_all(&nine)));
-        unit += 1;
     }
     digits
 }

@@ -10,21 +10,21 @@ use Rattle.locked.proofs.RestDue.{outs-less, now-skips, first-skips}
 use Rattle.locked.proofs.locked_lanes.Goals.{else-due-ne0, then-due-ne0}
 use Rattle.locked.proofs.locked_lanes.Goals as goal
 
-pub returns-then-end-unit : goal.returns-then-end-unit
-returns-then-end-unit c =
+pub returns-then-end-start : goal.returns-then-end-start
+returns-then-end-start c =
     let a = c.args in
     let g = a.givens.now in
-    let s = c.first_due-unit.result in
-    let left = (first-skips g a.masks.now a.log.now c.requires.1 c.requires.0 c.put_rests.ensures c.first_due-unit.ensures).2 in record {
-      masks_after = turns-over (locked_unit g) a.end s c.if-end-unit.true left.0;
+    let s = c.first_due-start.result in
+    let left = (first-skips g a.masks.now a.log.now c.requires.1 c.requires.0 c.put_rests.ensures c.first_due-start.ensures).2 in record {
+      masks_after = turns-over (locked_unit g) a.end s c.if-end-start.true left.0;
       lanes_after = c.requires.0.masks;
-      log_after = log-over g unit_instances a.end s a.masks.now a.log.now c.if-end-unit.true left.1;
+      log_after = log-over g unit_instances a.end s a.masks.now a.log.now c.if-end-start.true left.1;
     }
 
 pub loop-unit-init : goal.loop-unit-init
 loop-unit-init c =
     let a = c.args in
-    let w = first-skips a.givens.now a.masks.now a.log.now c.requires.1 c.requires.0 c.put_rests.ensures c.first_due-unit.ensures in
+    let w = first-skips a.givens.now a.masks.now a.log.now c.requires.1 c.requires.0 c.put_rests.ensures c.first_due-start.ensures in
     (w.0, w.2.0, w.1, w.2.1)
 
 pub locked_unit-requires : goal.locked_unit-requires

@@ -11,6 +11,3 @@ abbrev pub invariant-loop-unit : goal.invariant-loop-unit
 invariant-loop-unit l =
     (l.first ≤ l.unit) × (each (locked_unit l.givens) (range (l.end - l.unit) l.unit) l.masks ≡ each (locked_unit l.givens) (range (l.end - l.first) l.first) l.initial.masks) × Outs l.givens l.masks l.boxes l.rests
     × (log_after l.givens (for (range (l.end - l.unit) l.unit) unit_instances) l.masks l.log ≡ log_after l.givens (for (range (l.end - l.first) l.first) unit_instances) l.initial.masks l.initial.log)
-
-abbrev pub decreases-loop-unit : goal.decreases-loop-unit
-decreases-loop-unit l = l.end - l.unit

@@ -10,6 +10,3 @@ use Rattle.locked.proofs.locked_unit.Given as goal
 
 abbrev pub invariant-loop-digit : goal.invariant-loop-digit
 invariant-loop-digit l = Going Alike (locked_digit l.givens l.unit) l.initial.masks l.masks l.digit × (log_after l.givens (for (range (9 - l.digit) l.digit) (digit_instances l.unit)) l.masks l.log ≡ log_after l.givens (unit_instances l.unit) l.initial.masks l.initial.log)
-
-abbrev pub decreases-loop-digit : goal.decreases-loop-digit
-decreases-loop-digit l = 9 - l.digit

@@ -29,7 +29,7 @@ loop-nth-init c =
     let a = c.args in
     let g = a.givens.now in
     let noted = ap (λ (xs : List Instance). log_after g xs a.masks.now a.log.now) (sweep-blocks g) in
-    (omega arith, c.requires.0.masks, going_start g a.masks.now a.idle c.requires.1, noted, c.requires.3, sweep-tally g c.requires.3)
+    (c.requires.0.masks, going_start g a.masks.now a.idle c.requires.1, noted, c.requires.3, sweep-tally g c.requires.3)
 
 pub returns-then-still-eq6 : goal.returns-then-still-eq6
 returns-then-still-eq6 c =
@@ -37,13 +37,13 @@ returns-then-still-eq6 c =
     let g = a.givens.now in
     let w = c.loop-nth.nth in
     let inv = c.loop-nth.invariant in
-    let swept = swept-early g inv.0 inv.2 c.requires.2 c.if-still-eq6.true in
-    let noted = sym (left-silent g inv.0 inv.2 swept c.loop-nth.log) ∙ inv.3 in
-    let counted = sym (left-uncounted g inv.4 (range (6 - w) w) (inv.2.rest ∙ sym swept.swept)) ∙ inv.5 in record {
+    let swept = swept-early g (omega arith) inv.1 c.requires.2 c.if-still-eq6.true in
+    let noted = sym (left-silent g (omega arith) inv.1 swept c.loop-nth.log) ∙ inv.2 in
+    let counted = sym (left-uncounted g inv.3 (range (6 - w) w) (inv.1.rest ∙ sym swept.swept)) ∙ inv.4 in record {
       swept = swept;
-      lanes_after = inv.1;
+      lanes_after = inv.0;
       log_after = noted;
-      tally = inv.4;
+      tally = inv.3;
       tally_after = swept-tally g a.masks.now a.tally.now counted;
     }
 
@@ -56,7 +56,7 @@ tally_pass-requires c =
     let done = c.nth_pass.ensures in
     let t = c.total-left.ensures in
     let within : l.nth < 6 = omega arith in
-    (within, omega (arith, t, ap total done.masks_after, pass-fewer g l.nth l.masks, inv.4.left), inv.4.few)
+    (within, omega (arith, t, ap total done.masks_after, pass-fewer g l.nth l.masks, inv.3.left), inv.3.few)
 
 pub loop-nth-preserved : goal.loop-nth-preserved
 loop-nth-preserved c =
@@ -67,20 +67,20 @@ loop-nth-preserved c =
     let done = c.nth_pass.ensures in
     let t = c.total-left.ensures in
     let within : l.nth < 6 = omega arith in
-    let below : l.still < 6 = omega (arith, inv.2.few, c.if-still-eq6.false) in
+    let below : l.still < 6 = omega (arith, inv.1.few, c.if-still-eq6.false) in
     let m = c.nth_pass.new.masks in
-    let noting = noting-on g l.nth l.masks l.log within done.masks_after done.log_after inv.3 in
+    let noting = noting-on g l.nth l.masks l.log within done.masks_after done.log_after inv.2 in
     let w : (Tally m c.if-left-tally.tally × ◌≡◌ {A = List ℕ × List ℕ} (m, c.if-left-tally.tally) (tally_turn g l.nth (l.masks, l.tally))) × Going g a.masks.now a.idle (l.nth + 1) c.if-left-tally.still m = (
     elim c.if-left-tally.branch [
       | then-left-tally x ↦
-          let same = pass_same g l.nth l.masks done.masks_after (sym t ∙ x.if-left-tally.true ∙ inv.4.left) in
-          (tally-turn g inv.4 l.nth within done.masks_after (inr (same, x.tally-is)), rw x.still-is (going-idle g within below inv.2 done.masks_after same))
+          let same = pass_same g l.nth l.masks done.masks_after (sym t ∙ x.if-left-tally.true ∙ inv.3.left) in
+          (tally-turn g inv.3 l.nth within done.masks_after (inr (same, x.tally-is)), rw x.still-is (going-idle g within below inv.1 done.masks_after same))
       | else-left-tally+else-is_over x ↦
-          let other = λ (q : m ≡ l.masks). x.if-left-tally.false (t ∙ ap total q ∙ sym inv.4.left) in
-          (tally-turn g inv.4 l.nth within done.masks_after (inl (x.tally-is ∙ x.tally_pass.ensures ∙ ap (λ (n : ℕ). tallied l.nth n l.tally) t)), rw x.still-is (going-changed g within below inv.2 done.masks_after other))
+          let other = λ (q : m ≡ l.masks). x.if-left-tally.false (t ∙ ap total q ∙ sym inv.3.left) in
+          (tally-turn g inv.3 l.nth within done.masks_after (inl (x.tally-is ∙ x.tally_pass.ensures ∙ ap (λ (n : ℕ). tallied l.nth n l.tally) t)), rw x.still-is (going-changed g within below inv.1 done.masks_after other))
     ]
     ) in
-    (omega arith, done.lanes_after, w.1, noting, w.0.0, turn-done (tally_turn g) 6 l.nth within w.0.1 inv.5)
+    (done.lanes_after, w.1, noting, w.0.0, turn-done (tally_turn g) 6 l.nth within w.0.1 inv.4)
 
 pub returns-then-is_over : goal.returns-then-is_over
 returns-then-is_over c =
@@ -91,14 +91,14 @@ returns-then-is_over c =
     let done = c.nth_pass.ensures in
     let t = c.total-left.ensures in
     let within : l.nth < 6 = omega arith in
-    let below : l.still < 6 = omega (arith, inv.2.few, c.if-still-eq6.false) in
-    let noting = noting-on g l.nth l.masks l.log within done.masks_after done.log_after inv.3 in
+    let below : l.still < 6 = omega (arith, inv.1.few, c.if-still-eq6.false) in
+    let noting = noting-on g l.nth l.masks l.log within done.masks_after done.log_after inv.2 in
     let next : l.nth + 1 ≤ 6 = omega arith in
-    let tally = tally-turn g inv.4 l.nth within done.masks_after (inl (c.tally_pass.ensures ∙ ap (λ (n : ℕ). tallied l.nth n l.tally) t)) in
-    let going = going-changed g within below inv.2 done.masks_after (λ q. c.if-left-tally.false (t ∙ ap total q ∙ sym inv.4.left)) in
+    let tally = tally-turn g inv.3 l.nth within done.masks_after (inl (c.tally_pass.ensures ∙ ap (λ (n : ℕ). tallied l.nth n l.tally) t)) in
+    let going = going-changed g within below inv.1 done.masks_after (λ q. c.if-left-tally.false (t ∙ ap total q ∙ sym inv.3.left)) in
     let settled = over-settled g c.nth_pass.new.masks _ done.lanes_after (sym c.is_over.ensures ∙ c.if-is_over.true) in
     let swept = swept-over g next going settled refl (omega arith) in
-    let counted = sym (left-uncounted g tally.0 (range (6 - (l.nth + 1)) (l.nth + 1)) (going.rest ∙ sym swept.swept)) ∙ turn-done (tally_turn g) 6 l.nth within tally.1 inv.5 in record {
+    let counted = sym (left-uncounted g tally.0 (range (6 - (l.nth + 1)) (l.nth + 1)) (going.rest ∙ sym swept.swept)) ∙ turn-done (tally_turn g) 6 l.nth within tally.1 inv.4 in record {
       swept = swept;
       lanes_after = done.lanes_after;
       log_after = sym (left-silent g next going swept _) ∙ noting;
@@ -113,10 +113,10 @@ returns c =
     let w = c.loop-nth.nth in
     let inv = c.loop-nth.invariant in
     let over = c.loop-nth-test.false in
-    let noted = log-over g (pass_instances g) 6 w c.loop-nth.masks c.loop-nth.log over inv.3 in record {
-      swept = swept-end g inv.0 inv.2 over;
-      lanes_after = inv.1;
+    let noted = log-over g (pass_instances g) 6 w c.loop-nth.masks c.loop-nth.log over inv.2 in record {
+      swept = swept-end g (omega arith) inv.1 over;
+      lanes_after = inv.0;
       log_after = noted;
-      tally = inv.4;
-      tally_after = swept-tally g a.masks.now a.tally.now (turns-over (tally_turn g) 6 w over inv.5);
+      tally = inv.3;
+      tally_after = swept-tally g a.masks.now a.tally.now (turns-over (tally_turn g) 6 w over inv.4);
     }

@@ -1,3 +1,4 @@
+-- `locked::rests::first_some` meets its contract. Assumes nothing.
 use mathlib.Core.Path.{sym, ◌∙◌}
 use Rattle.locked.proofs.FirstDue.{none-joined}
 use Rattle.locked.proofs.rests.first_some.Goals as goal

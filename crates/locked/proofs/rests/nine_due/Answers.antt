@@ -12,7 +12,7 @@ loop-nth-init c = fill_start _ 9 (replicate 9 0) refl
 pub loop-nth-preserved : goal.loop-nth-preserved
 loop-nth-preserved c =
     let l = c.loop-nth in
-    fill_on _ 9 l.nth l.due l.invariant (omega arith) c.due_digits.ensures
+    fill_on _ 9 l.nth l.digits-items l.invariant (omega arith) c.due_digits.ensures
 
 pub returns : goal.returns
-returns c = fill_end _ 9 c.loop-nth.nth c.loop-nth.due c.loop-nth.invariant c.loop-nth-test.false
+returns c = fill_end _ 9 c.loop-nth.nth c.loop-nth.digits-items c.loop-nth.invariant c.loop-nth-test.false

@@ -8,4 +8,4 @@ pub returns : goal.returns
 unfolding put_rests
 returns c =
     let a = c.args in
-    c.put_boxes.ensures ∙ ap (put_lanes a.lanes.now a.doors.now (not a.boxes) 6 32 48) c.put_lines.ensures
+    c.put_lanes-2.ensures ∙ ap (put_lanes a.lanes.now a.doors.now (not a.boxes) 6 32 48) c.put_lanes.ensures

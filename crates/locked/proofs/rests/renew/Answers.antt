@@ -16,9 +16,9 @@ made nine u r many e = rw many e
 pub returns-then-unit-ge18 : goal.returns-then-unit-ge18
 returns-then-unit-ge18 c =
     let a = c.args in
-    made a.own.now a.unit a.rests.now (six-lines c.if-unit-ge18.true) c.put_six.ensures
+    made a.own.now a.unit a.rests.now (six-lines c.if-unit-ge18.true) c.put_lane.ensures
 
 pub returns-else-unit-ge18 : goal.returns-else-unit-ge18
 returns-else-unit-ge18 c =
     let a = c.args in
-    made a.own.now a.unit a.rests.now (three-boxes c.if-unit-ge18.false) c.put_three.ensures
+    made a.own.now a.unit a.rests.now (three-boxes c.if-unit-ge18.false) c.put_lane-else-unit-ge18.ensures

@@ -6,17 +6,17 @@ use Rattle.pair_cross.specs.code.Lively.{any_hot}
 use Rattle.pair_cross.proofs.lively.any_hot.Invariants.{turn}
 use Rattle.pair_cross.proofs.lively.any_hot.Goals as goal
 
-pub loop-line-init : goal.loop-line-init
+pub loop-held-init : goal.loop-held-init
 unfolding any_hot
-loop-line-init c = (omega arith, refl)
+loop-held-init c = refl
 
-pub loop-line-preserved : goal.loop-line-preserved
-loop-line-preserved c =
-    let l = c.loop-line in
+pub loop-held-preserved : goal.loop-held-preserved
+loop-held-preserved c =
+    let l = c.loop-held in
     let a = c.args in
-    (omega arith, turn-done (turn a.nine.now a.twice) 9 l.line (omega arith) (c.join-any.ensures ∙ ap (union l.any) c.heat.ensures) l.invariant.1)
+    turn-done (turn a.nine.now a.twice) 9 l.held-index (omega arith) (c.join-any.ensures ∙ ap (union l.any) c.heat.ensures) l.invariant
 
 pub returns : goal.returns
 returns c =
     let a = c.args in
-    turns-over (turn a.nine.now a.twice) 9 c.loop-line.line c.loop-line-test.false c.loop-line.invariant.1
+    turns-over (turn a.nine.now a.twice) 9 c.loop-held.held-index c.loop-held-test.false c.loop-held.invariant

@@ -10,15 +10,15 @@ use Rattle.pair_cross.proofs.lively.same_above.Goals as goal
 
 pub loop-other-init : goal.loop-other-init
 unfolding twins_above
-loop-other-init c = (omega arith, refl)
+loop-other-init c = refl
 
 pub loop-other-preserved : goal.loop-other-preserved
 loop-other-preserved c =
     let l = c.loop-other in
     let a = c.args in
-    (omega arith, turn-done (turn a.lines.now a.line) 9 l.other (omega arith) (c.join-found.ensures ∙ ap (union l.found) (c.same.ensures ∙ ap (λ (x : ℕ). twin x (at a.lines.now l.other)) c.few-held.ensures)) l.invariant.1)
+    turn-done (turn a.lines.now a.line) 9 l.other (omega arith) (c.join-found.ensures ∙ ap (union l.found) (c.same.ensures ∙ ap (λ (x : ℕ). twin x (at a.lines.now l.other)) c.few-held.ensures)) l.invariant
 
 pub returns : goal.returns
 returns c =
     let a = c.args in
-    turns-over (turn a.lines.now a.line) 9 c.loop-other.other c.loop-other-test.false c.loop-other.invariant.1
+    turns-over (turn a.lines.now a.line) 9 c.loop-other.other c.loop-other-test.false c.loop-other.invariant

@@ -1,7 +1,7 @@
 -- `pair_cross::lively::tally_of` meets its contract. The invariant: the lines that are left still make the whole. Assumes nothing.
 use mathlib.Core.Path.{◌≡◌}
 use mathlib.Core.List.{List}
-use Prim.Native.Nat.{ℕ, ◌-◌, ◌≤◌}
+use Prim.Native.Nat.{ℕ, ◌-◌}
 use Rattle.steps.specs.Boards.{at}
 use Rattle.steps.specs.Loops.{each, range}
 use Rattle.pair_cross.specs.code.Lively.{tallied, tally_of}
@@ -11,8 +11,5 @@ use Rattle.pair_cross.proofs.lively.tally_of.Given as goal
 abbrev pub turn : List ℕ → ℕ → Tally → Tally
 turn nine i = tallied (at nine i)
 
-abbrev pub invariant-loop-line : goal.invariant-loop-line
-invariant-loop-line l = (l.line ≤ 9) × (each (turn l.nine) (range (9 - l.line) l.line) (record { once = l.once; twice = l.twice; thrice = l.thrice }) ≡ tally_of (at l.nine))
-
-abbrev pub decreases-loop-line : goal.decreases-loop-line
-decreases-loop-line l = 9 - l.line
+abbrev pub invariant-loop-held : goal.invariant-loop-held
+invariant-loop-held l = each (turn l.nine) (range (9 - l.held-index) l.held-index) (record { once = l.once; twice = l.twice; thrice = l.thrice }) ≡ tally_of (at l.nine)

@@ -1,6 +1,6 @@
 -- `pair_cross::pairs::pair_lanes` meets its contract. The invariant: the families that are left still make the whole, and the masks stand in the lanes. Assumes nothing.
 use mathlib.Core.Path.{◌≡◌}
-use Prim.Native.Nat.{◌-◌, ◌≤◌}
+use Prim.Native.Nat.{◌-◌}
 use Rattle.steps.specs.Loops.{each, for, range}
 use Rattle.steps.specs.Passes.{pass, instances, Pair}
 use Rattle.steps.specs.code.Logs.{log_after}
@@ -10,8 +10,5 @@ use Rattle.pair_cross.proofs.pairs.pair_lanes.Given as goal
 
 abbrev pub invariant-loop-family : goal.invariant-loop-family
 invariant-loop-family l =
-    (l.family ≤ 3) × (each (pair_family l.givens) (range (3 - l.family) l.family) l.masks ≡ pass l.givens Pair l.initial.masks) × (l.lanes ≡ laid l.masks)
+    (each (pair_family l.givens) (range (3 - l.family) l.family) l.masks ≡ pass l.givens Pair l.initial.masks) × (l.lanes ≡ laid l.masks)
     × (log_after l.givens (for (range (3 - l.family) l.family) family_instances) l.masks l.log ≡ log_after l.givens (instances Pair) l.initial.masks l.initial.log)
-
-abbrev pub decreases-loop-family : goal.decreases-loop-family
-decreases-loop-family l = 3 - l.family

@@ -14,23 +14,19 @@ loop-j-preserved c =
     let a = c.args in
     let g = a.givens.now in
     let F = a.frame in
-    let taken = lines-each g F l.invariant.2.framed a.i l.j l.masks in
+    let taken = lines-each g F l.invariant.1.framed a.i l.j l.masks in
     let block = lines_instances F a.i in
     elim c.if-asks.branch [
       | then-asks w ↦ (
-        omega arith,
-        turn-done (lines_taken g F a.i) 9 l.j (omega arith) (w.masks-is ∙ w.two_turn-heat.ensures.masks_after) l.invariant.1,
+        turn-done (lines_taken g F a.i) 9 l.j (omega arith) (w.masks-is ∙ w.two_turn-heat.ensures.masks_after) l.invariant.0,
         seen_same w.two_turn-heat.ensures.seen w.masks-is w.held-is w.heat-is,
-        omega (arith, l.invariant.3),
-        log-done g block 9 l.j l.masks l.log (omega arith) (w.masks-is ∙ w.two_turn-heat.ensures.masks_after ∙ sym taken) (w.log-is ∙ w.two_turn-heat.ensures.log_after) l.invariant.4,
+        log-done g block 9 l.j l.masks l.log (omega arith) (w.masks-is ∙ w.two_turn-heat.ensures.masks_after ∙ sym taken) (w.log-is ∙ w.two_turn-heat.ensures.log_after) l.invariant.2,
       )
       | else-asks w ↦
-          let idle = cold-seen l.invariant.2 a.i l.j l.invariant.3 (omega arith) (sym c.asks.ensures ∙ w.if-asks.false) in (
-            omega arith,
-            turn-done (lines_taken g F a.i) 9 l.j (omega arith) (w.masks-is ∙ sym idle) l.invariant.1,
-            seen_same l.invariant.2 w.masks-is w.held-is w.heat-is,
-            omega (arith, l.invariant.3),
-            log-done g block 9 l.j l.masks l.log (omega arith) (w.masks-is ∙ sym (taken ∙ idle)) (w.log-is ∙ sym (log-idle g (block l.j) l.masks l.log (taken ∙ idle))) l.invariant.4,
+          let idle = cold-seen l.invariant.1 a.i l.j (omega arith) (omega arith) (sym c.asks.ensures ∙ w.if-asks.false) in (
+            turn-done (lines_taken g F a.i) 9 l.j (omega arith) (w.masks-is ∙ sym idle) l.invariant.0,
+            seen_same l.invariant.1 w.masks-is w.held-is w.heat-is,
+            log-done g block 9 l.j l.masks l.log (omega arith) (w.masks-is ∙ sym (taken ∙ idle)) (w.log-is ∙ sym (log-idle g (block l.j) l.masks l.log (taken ∙ idle))) l.invariant.2,
           )
     ]
 
@@ -39,7 +35,7 @@ returns c =
     let l = c.loop-j in
     let a = c.args in
     let g = a.givens.now in record {
-      masks_after = turns-over (lines_taken g a.frame a.i) 9 l.j c.loop-j-test.false l.invariant.1;
-      seen = l.invariant.2;
-      log_after = log-over g (lines_instances a.frame a.i) 9 l.j l.masks l.log c.loop-j-test.false l.invariant.4;
+      masks_after = turns-over (lines_taken g a.frame a.i) 9 l.j c.loop-j-test.false l.invariant.0;
+      seen = l.invariant.1;
+      log_after = log-over g (lines_instances a.frame a.i) 9 l.j l.masks l.log c.loop-j-test.false l.invariant.2;
     }

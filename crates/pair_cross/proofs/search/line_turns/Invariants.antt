@@ -1,6 +1,6 @@
 -- `pair_cross::search::line_turns` meets its contract. The invariant: the lines that are left still make the whole, and the lines that are kept are those of the board. Assumes nothing.
 use mathlib.Core.Path.{◌≡◌}
-use Prim.Native.Nat.{◌-◌, ◌≤◌, ◌<◌}
+use Prim.Native.Nat.{◌-◌}
 use Rattle.steps.specs.Loops.{each, for, range, above}
 use Rattle.steps.specs.code.Logs.{log_after}
 use Rattle.pair_cross.specs.code.Twos.{lines_taken, lines_instances, line_instances}
@@ -9,8 +9,5 @@ use Rattle.pair_cross.proofs.search.line_turns.Given as goal
 
 abbrev pub invariant-loop-j : goal.invariant-loop-j
 invariant-loop-j l =
-    (l.j ≤ 9) × (each (lines_taken l.givens l.frame l.i) (range (9 - l.j) l.j) l.masks ≡ each (lines_taken l.givens l.frame l.i) (above l.i 9) l.initial.masks) × Seen l.givens l.masks l.frame l.doors l.held l.heat × (l.i < l.j)
+    (each (lines_taken l.givens l.frame l.i) (range (9 - l.j) l.j) l.masks ≡ each (lines_taken l.givens l.frame l.i) (above l.i 9) l.initial.masks) × Seen l.givens l.masks l.frame l.doors l.held l.heat
     × (log_after l.givens (for (range (9 - l.j) l.j) (lines_instances l.frame l.i)) l.masks l.log ≡ log_after l.givens (line_instances l.frame l.i) l.initial.masks l.initial.log)
-
-abbrev pub decreases-loop-j : goal.decreases-loop-j
-decreases-loop-j l = 9 - l.j

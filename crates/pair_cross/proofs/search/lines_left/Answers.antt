@@ -15,7 +15,7 @@ pub loop-line-preserved : goal.loop-line-preserved
 loop-line-preserved c =
     let l = c.loop-line in
     let a = c.args in
-    fill_on _ 9 l.line l.left l.invariant (omega arith) (c.lose.ensures ∙ ap (minus (at a.held.now l.line)) c.meet.ensures)
+    fill_on _ 9 l.line l.places-items l.invariant (omega arith) (c.lose.ensures ∙ ap (minus (at a.held.now l.line)) c.meet.ensures)
 
 pub returns : goal.returns
-returns c = fill_end _ 9 c.loop-line.line c.loop-line.left c.loop-line.invariant c.loop-line-test.false
+returns c = fill_end _ 9 c.loop-line.line c.loop-line.places-items c.loop-line.invariant c.loop-line-test.false

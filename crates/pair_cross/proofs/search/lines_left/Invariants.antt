@@ -1,6 +1,5 @@
 -- `pair_cross::search::lines_left` meets its contract. The invariant: the lines that are left still make the whole. Assumes nothing.
 use mathlib.Core.Path.{◌≡◌}
-use Prim.Native.Nat.{◌-◌}
 use lib.Bits.{bit_and}
 use Rattle.candidates.specs.Masks.{minus}
 use Rattle.grid.proofs.Fills.{filled}
@@ -9,7 +8,4 @@ use Rattle.pair_cross.specs.code.Search.{lines_left}
 use Rattle.pair_cross.proofs.search.lines_left.Given as goal
 
 abbrev pub invariant-loop-line : goal.invariant-loop-line
-invariant-loop-line l = filled (λ k. minus (at l.held k) (bit_and (at l.doors k) l.lost)) 9 l.line l.left ≡ lines_left l.held l.doors l.lost
-
-abbrev pub decreases-loop-line : goal.decreases-loop-line
-decreases-loop-line l = 9 - l.line
+invariant-loop-line l = filled (λ k. minus (at l.held k) (bit_and (at l.doors k) l.lost)) 9 l.line l.places-items ≡ lines_left l.held l.doors l.lost

@@ -8,15 +8,15 @@ use Rattle.pair_cross.proofs.search.open_held.Goals as goal
 
 pub loop-line-init : goal.loop-line-init
 unfolding open_held
-loop-line-init c = (omega arith, refl)
+loop-line-init c = refl
 
 pub loop-line-preserved : goal.loop-line-preserved
 loop-line-preserved c =
     let l = c.loop-line in
     let a = c.args in
-    (omega arith, turn-done (turn a.held.now a.doors.now) 9 l.line (omega arith) (c.join-found.ensures ∙ ap (union l.found) c.meet.ensures) l.invariant.1)
+    turn-done (turn a.held.now a.doors.now) 9 l.line (omega arith) (c.join-found.ensures ∙ ap (union l.found) c.meet.ensures) l.invariant
 
 pub returns : goal.returns
 returns c =
     let a = c.args in
-    turns-over (turn a.held.now a.doors.now) 9 c.loop-line.line c.loop-line-test.false c.loop-line.invariant.1
+    turns-over (turn a.held.now a.doors.now) 9 c.loop-line.line c.loop-line-test.false c.loop-line.invariant

@@ -12,7 +12,7 @@ loop-line-init c = fill_start _ 9 (replicate 9 0) refl
 pub loop-line-preserved : goal.loop-line-preserved
 loop-line-preserved c =
     let l = c.loop-line in
-    fill_on _ 9 l.line l.nine l.invariant (omega arith) c.spots.ensures
+    fill_on _ 9 l.line l.places-items l.invariant (omega arith) c.spots.ensures
 
 pub returns : goal.returns
-returns c = fill_end _ 9 c.loop-line.line c.loop-line.nine c.loop-line.invariant c.loop-line-test.false
+returns c = fill_end _ 9 c.loop-line.line c.loop-line.places-items c.loop-line.invariant c.loop-line-test.false

@@ -7,15 +7,15 @@ use Rattle.pair_cross.proofs.spots.put_sets.Goals as goal
 
 pub loop-digit-init : goal.loop-digit-init
 unfolding sets_put
-loop-digit-init c = (omega arith, refl)
+loop-digit-init c = refl
 
 pub loop-digit-preserved : goal.loop-digit-preserved
 loop-digit-preserved c =
     let l = c.loop-digit in
     let a = c.args in
-    (omega arith, turn-done (turn a.line a.sets.now) 16 l.digit (omega arith) refl l.invariant.1)
+    turn-done (turn a.line a.sets.now) 16 l.digit (omega arith) refl l.invariant
 
 pub returns : goal.returns
 returns c =
     let a = c.args in
-    turns-over (turn a.line a.sets.now) 16 c.loop-digit.digit c.loop-digit-test.false c.loop-digit.invariant.1
+    turns-over (turn a.line a.sets.now) 16 c.loop-digit.digit c.loop-digit-test.false c.loop-digit.invariant

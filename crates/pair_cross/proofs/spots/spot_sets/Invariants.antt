@@ -1,13 +1,9 @@
 -- `pair_cross::spots::spot_sets` meets its contract. The invariant: the digits that are left still make the whole. Assumes nothing.
 use mathlib.Core.Path.{◌≡◌}
-use Prim.Native.Nat.{◌-◌}
 use Rattle.grid.proofs.Fills.{filled}
-use Rattle.steps.specs.Boards.{at}
+use Rattle.candidates.specs.Masks.{place_mask}
 use Rattle.pair_cross.specs.code.Spots.{spots_of, spot_sets}
 use Rattle.pair_cross.proofs.spots.spot_sets.Given as goal
 
 abbrev pub invariant-loop-digit : goal.invariant-loop-digit
-invariant-loop-digit l = filled (λ d. spots_of l.lanes l.lane (at l.ones d)) 16 l.digit l.sets ≡ spot_sets l.lanes l.lane l.ones
-
-abbrev pub decreases-loop-digit : goal.decreases-loop-digit
-decreases-loop-digit l = 16 - l.digit
+invariant-loop-digit l = filled (λ d. spots_of l.lanes l.lane (place_mask d)) 16 l.digit l.set-items ≡ spot_sets l.lanes l.lane

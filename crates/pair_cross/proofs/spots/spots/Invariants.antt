@@ -2,7 +2,7 @@
 use mathlib.Core.Path.{◌≡◌}
 use mathlib.Core.Bool.{cond}
 use mathlib.Core.List.{List}
-use Prim.Native.Nat.{ℕ, ◌-◌, ◌≤◌}
+use Prim.Native.Nat.{ℕ, ◌-◌}
 use lib.Bits.{bit_and}
 use lib.Dec.{eqb}
 use Rattle.candidates.specs.Masks.{union, place_mask}
@@ -15,7 +15,4 @@ abbrev pub turn : List ℕ → ℕ → ℕ → ℕ → ℕ → ℕ
 turn p l one i k = union k (cond (eqb (bit_and (lane_at p l i) one) 0) 0 (place_mask i))
 
 abbrev pub invariant-loop-place : goal.invariant-loop-place
-invariant-loop-place l = (l.place ≤ 9) × (each (turn l.lanes l.lane l.one) (range (9 - l.place) l.place) l.found ≡ spots_of l.lanes l.lane l.one)
-
-abbrev pub decreases-loop-place : goal.decreases-loop-place
-decreases-loop-place l = 9 - l.place
+invariant-loop-place l = each (turn l.lanes l.lane l.one) (range (9 - l.place) l.place) l.found ≡ spots_of l.lanes l.lane l.one

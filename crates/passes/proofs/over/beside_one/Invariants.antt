@@ -1,7 +1,11 @@
 -- `passes::over::beside_one` meets its contract. The invariant: the cells that are left still make the whole. Assumes nothing.
 use mathlib.Core.Path.{◌≡◌}
 use mathlib.Core.List.{List}
+<<<<<<< HEAD
 use Prim.Native.Nat.{ℕ, ◌-◌, ◌≤◌}
+=======
+use Prim.Native.Nat.{ℕ, ◌-◌}
+>>>>>>> b619c28605314a799dc7d544f7b0d62cc3fbf751
 use lib.Bits.{bit_and}
 use Rattle.candidates.specs.Masks.{union, tail}
 use Rattle.steps.specs.Boards.{at}
@@ -13,8 +17,5 @@ use Rattle.passes.proofs.over.beside_one.Given as goal
 abbrev pub turn : List ℕ → ℕ → ℕ → ℕ
 turn m c k = union k (tail (bit_and (at m c) 511))
 
-abbrev pub invariant-loop-cell : goal.invariant-loop-cell
-invariant-loop-cell l = (l.cell ≤ 81) × (each (turn l.masks) (range (81 - l.cell) l.cell) l.more ≡ beside_one l.masks)
-
-abbrev pub decreases-loop-cell : goal.decreases-loop-cell
-decreases-loop-cell l = 81 - l.cell
+abbrev pub invariant-loop-mask : goal.invariant-loop-mask
+invariant-loop-mask l = each (turn l.masks) (range (81 - l.mask-index) l.mask-index) l.more ≡ beside_one l.masks

@@ -9,12 +9,12 @@ use Rattle.passes.proofs.over.lacked.Goals as goal
 
 pub loop-unit-init : goal.loop-unit-init
 unfolding lacked_in
-loop-unit-init c = (omega arith, refl)
+loop-unit-init c = refl
 
 pub loop-unit-preserved : goal.loop-unit-preserved
 loop-unit-preserved c =
     let did = c.join-digits.ensures ∙ ap (union c.loop-unit.digits) (c.lose.ensures ∙ ap (minus 511) (c.join_all.ensures ∙ ap joined c.lane_masks-nine.ensures)) in
-    (omega arith, turn-done (turn c.args.lanes.now) 27 c.loop-unit.unit (omega arith) did c.loop-unit.invariant.1)
+    turn-done (turn c.args.lanes.now) 27 c.loop-unit.unit (omega arith) did c.loop-unit.invariant
 
 pub returns : goal.returns
-returns c = turns-over (turn c.args.lanes.now) 27 c.loop-unit.unit c.loop-unit-test.false c.loop-unit.invariant.1
+returns c = turns-over (turn c.args.lanes.now) 27 c.loop-unit.unit c.loop-unit-test.false c.loop-unit.invariant

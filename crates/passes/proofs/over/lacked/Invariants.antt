@@ -1,7 +1,11 @@
 -- `passes::over::lacked` meets its contract. The invariant: the units that are left still make the whole. Assumes nothing.
 use mathlib.Core.Path.{◌≡◌}
 use mathlib.Core.List.{List}
+<<<<<<< HEAD
 use Prim.Native.Nat.{ℕ, ◌-◌, ◌≤◌}
+=======
+use Prim.Native.Nat.{ℕ, ◌-◌}
+>>>>>>> b619c28605314a799dc7d544f7b0d62cc3fbf751
 use Rattle.candidates.specs.Masks.{minus, union}
 use Rattle.steps.specs.Loops.{each, range}
 use Rattle.cells.specs.code.Unions.{joined}
@@ -14,7 +18,4 @@ abbrev pub turn : List ℕ → ℕ → ℕ → ℕ
 turn p u k = union k (minus 511 (joined (lane_masks p (lane_of u))))
 
 abbrev pub invariant-loop-unit : goal.invariant-loop-unit
-invariant-loop-unit l = (l.unit ≤ 27) × (each (turn l.lanes) (range (27 - l.unit) l.unit) l.digits ≡ lacked_in l.lanes)
-
-abbrev pub decreases-loop-unit : goal.decreases-loop-unit
-decreases-loop-unit l = 27 - l.unit
+invariant-loop-unit l = each (turn l.lanes) (range (27 - l.unit) l.unit) l.digits ≡ lacked_in l.lanes
