@@ -1,10 +1,8 @@
 // The links of X-chains among the open holders of a digit. A unit's strong link is kept as a number, and only cells with a strong link are gone on to.
-// 81 is no cell.
-ghost use Rattle.std.specs.Prelude.{◌≡◌, cond, ◌+◌, ◌≤◌, ◌<◌};
+ghost use Rattle.std.specs.Prelude.{◌≡◌, cond, ◌+◌, ◌<◌, length};
 ghost use Rattle.grid.specs.Cells.{sees};
 ghost use Rattle.steps.specs.Loops.{select};
-ghost use Rattle.chains.specs.code.Lists.{Lists, listed};
-ghost use Rattle.chains.specs.code.XLinks.{pair_sum, pair_sums, own_unit, other_of, is_linked, link_at};
+ghost use Rattle.chains.specs.code.XLinks.{pair_sum, pair_sums, own_unit, some_cell, other_of, is_linked, link_at};
 
 use crate::links::holders_in;
 use crate::lists::Cells;
@@ -17,24 +15,24 @@ fn sum_of(first: u8, second: u8) -> u16
     first as u16 + second as u16 + 1
 }
 
-// Of just two cells the sum and one more, so that the one tells the other; else 0.
-fn pair_sum(found: Cells) -> u16
-    ensures { result ≡ pair_sum (listed found.cells found.count) }
+// Of just two cells the sum and one more, so that the one tells the other; else 0, below what any cell and its link make, so that one comparison tells both.
+fn pair_sum(found: &[u8]) -> u16
+    ensures { result ≡ pair_sum found.now }
 {
-    if found.count != 2 {
-        return 0;
+    if let [first, second] = found {
+        return sum_of(*first, *second);
     }
-    sum_of(found.cells[0], found.cells[1])
+    0
 }
 
 // That of each unit's holders.
-pub fn pair_sums(holders: &[u8; 81], count: usize) -> [u16; 27]
-    requires { count ≤ 81 }
-    ensures { result ≡ pair_sums (listed holders.now count) }
+fn pair_sums(holders: &Cells<81>) -> [u16; 27]
+    ensures { result ≡ pair_sums holders.now }
 {
     let mut sums = [0u16; 27];
     for unit in 0..27 {
-        sums[unit] = pair_sum(holders_in(holders, count, Scope::Unit(unit)));
+        let found = holders_in(holders, Scope::Unit(unit));
+        sums[unit] = pair_sum(found.as_slice());
     }
     sums
 }
@@ -53,83 +51,94 @@ fn own_unit(cell: usize, nth: usize) -> usize
 }
 
 // The cell's strong link through its nth unit.
-fn other_of(sums: &[u16; 27], cell: u8, nth: usize) -> u8
-    ensures { result ≡ other_of sums.now cell nth }
+fn other_of(sums: &[u16; 27], cell: u8, nth: usize) -> Option<u8>
+    ensures { result ≡ some_cell (other_of sums.now cell nth) }
 {
     let unit = own_unit(cell as usize, nth);
     if 27 <= unit {
-        return 81;
+        return None;
     }
     let sum = sums[unit];
     let one = cell as u16;
     if sum <= one {
-        return 81;
+        return None;
     }
     let other = sum - one - 1;
     if 81 <= other {
-        return 81;
+        return None;
     }
-    other as u8
+    Some(other as u8)
 }
 
 // Whether the cell has a strong link.
 fn is_linked(sums: &[u16; 27], cell: u8) -> bool
     ensures { result ≡ is_linked sums.now cell }
 {
-    if other_of(sums, cell, 0) < 81 {
+    if other_of(sums, cell, 0).is_some() {
         return true;
     }
-    if other_of(sums, cell, 1) < 81 {
+    if other_of(sums, cell, 1).is_some() {
         return true;
     }
-    other_of(sums, cell, 2) < 81
+    other_of(sums, cell, 2).is_some()
 }
 
 // The holders that have one.
-pub fn linked_cells(holders: &[u8; 81], count: usize, sums: &[u16; 27]) -> Cells
-    requires { count ≤ 81 }
-    ensures { Lists result (select (is_linked sums.now) (listed holders.now count)) }
+fn linked_cells(holders: &Cells<81>, sums: &[u16; 27]) -> Cells<81>
+    ensures { result ≡ select (is_linked sums.now) holders.now }
 {
-    let mut list = [0u8; 81];
-    let mut found: usize = 0;
-    for i in 0..count {
-        let cell = holders[i];
-        if is_linked(sums, cell) {
-            list[found] = cell;
-            found += 1;
+    let mut list = Cells::new();
+    for cell in holders.as_slice() {
+        if is_linked(sums, *cell) {
+            list.push(*cell);
         }
     }
-    Cells {
-        cells: list,
-        count: found,
-    }
+    list
 }
 
-fn if_seen(cell: u8, next: u8) -> u8
-    ensures { result ≡ cond (sees cell next) next 81 }
+fn if_seen(cell: u8, next: u8) -> Option<u8>
+    ensures { result ≡ some_cell (cond (sees cell next) next 81) }
 {
-    if are_peers(cell as usize, next as usize) {
-        return next;
+    if next < 81 && are_peers(cell as usize, next as usize) {
+        return Some(next);
     }
-    81
+    None
 }
 
-// The ith cell that the walk may go on to: of three strong links, or of the linked cells the ith if it is seen.
-pub fn link_at(linked: &[u8; 81], sums: &[u16; 27], weak: bool, cell: u8, i: usize) -> u8
-    requires { i < 81 }
-    ensures { result ≡ link_at linked.now sums.now weak cell i }
-{
-    if weak {
-        return if_seen(cell, linked[i]);
-    }
-    other_of(sums, cell, i)
+// The cells that have a strong link, rising, and what each unit's holders sum to.
+#[derive(Drop)]
+pub struct Links {
+    pub linked: Cells<81>,
+    pub sums: [u16; 27],
 }
 
-pub fn link_count(weak: bool, count: usize) -> usize
-    ensures { result ≡ cond weak count 3 }
-{
-    if weak {
-        return count;
+impl Links {
+    pub fn new(holders: &Cells<81>) -> Self
+        ensures sums { result.sums ≡ pair_sums holders.now }
+        ensures linked { result.linked ≡ select (is_linked result.sums) holders.now }
+    {
+        let sums = pair_sums(holders);
+        let linked = linked_cells(holders, &sums);
+        Links { linked, sums }
     }
-    3
+
+    // The ith cell that the walk may go on to: of three strong links, or of the linked cells the ith if it is seen.
+    pub fn link_at(&self, weak: bool, cell: u8, i: usize) -> Option<u8>
+        requires { i < cond weak (length self.now.linked) 3 }
+        ensures { result ≡ some_cell (link_at self.now.linked self.now.sums weak cell i) }
+    {
+        if weak {
+            return if_seen(cell, self.linked.as_slice()[i]);
+        }
+        other_of(&self.sums, cell, i)
+    }
+
+    pub fn count(&self, weak: bool) -> usize
+        ensures { result ≡ cond weak (length self.now.linked) 3 }
+    {
+        if weak {
+            return self.linked.len();
+        }
+        3
+    }
 }
