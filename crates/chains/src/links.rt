@@ -1,8 +1,7 @@
 // The links of a chain among the open holders of a digit.
-ghost use Rattle.std.specs.Prelude.{◌≡◌, ℕ, List, cond, ltb, [], ◌∷◌, ◌++◌, ◌≤◌, length};
+ghost use Rattle.std.specs.Prelude.{◌≡◌, ℕ, List, [], ◌∷◌, ◌++◌, ◌≤◌, length};
 ghost use Rattle.grid.specs.Units.{in_unit};
 ghost use Rattle.grid.specs.code.Scopes.{in_scope};
-ghost use Rattle.steps.specs.Boards.{at};
 ghost use Rattle.steps.specs.Loops.{select};
 ghost use Rattle.steps.specs.Chains.{two_of};
 ghost use Rattle.chains.specs.code.Links.{others, unit_counts, weak_in, strong_in, links_in};
@@ -56,15 +55,6 @@ fn unit_counts(holders: &Cells<81>) -> [u8; 27]
     counts
 }
 
-fn unit_count(counts: &[u8; 27], unit: usize) -> u8
-    ensures { result ≡ cond (ltb unit 27) (at counts.now unit) 0 }
-{
-    if unit < 27 {
-        return counts[unit];
-    }
-    0
-}
-
 // The open holders of a digit, rising, and how many of them each unit has.
 #[derive(Drop)]
 pub struct Holders {
@@ -100,7 +90,7 @@ impl Holders {
         requires { length links.old ≤ 79 }
         ensures { links.new ≡ links.old ++ others cell (two_of (select (in_unit unit) self.now)) }
     {
-        if unit_count(&self.counts, unit) == 2 {
+        if self.counts.get(unit).copied().unwrap_or(0) == 2 {
             let pair = holders_in(&self.cells, Scope::Unit(unit));
             push_pair(links, pair.as_slice(), cell);
         }
@@ -129,8 +119,9 @@ impl Holders {
         ensures { result ≡ links_in self.now weak cell }
     {
         if weak {
-            return self.weak_links(cell);
+            self.weak_links(cell)
+        } else {
+            self.strong_links(cell)
         }
-        self.strong_links(cell)
     }
 }

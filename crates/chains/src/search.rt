@@ -13,19 +13,17 @@ fn between(start: u8, end: u8, cell: u8) -> Option<usize>
 {
     let at = cell as usize;
     if are_peers(start as usize, at) && are_peers(end as usize, at) {
-        return Some(at);
+        Some(at)
+    } else {
+        None
     }
-    None
 }
 
 // The lowest holder that sees both ends of a path of four cells or more, if they see each other.
 fn find_aic_elimination(holders: &[u8], depth: usize, start: u8, end: u8) -> Option<usize>
     ensures { found_cell result ≡ elimination_in holders.now depth start end }
 {
-    if depth < 3 {
-        return None;
-    }
-    if !are_peers(start as usize, end as usize) {
+    if depth < 3 || !are_peers(start as usize, end as usize) {
         return None;
     }
     for cell in holders {

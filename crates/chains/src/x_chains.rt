@@ -16,13 +16,7 @@ use grid::are_peers;
 fn end_sees(ends: &[bool; 81], end: u8, cell: u8) -> bool
     ensures { result ≡ end_sees ends.now cell end }
 {
-    if 81 <= end {
-        return false;
-    }
-    if !ends[end as usize] {
-        return false;
-    }
-    are_peers(end as usize, cell as usize)
+    end < 81 && ends[end as usize] && are_peers(end as usize, cell as usize)
 }
 
 // Whether some marked end sees the cell; ends are linked cells.

@@ -41,13 +41,11 @@ fn pair_sums(holders: &Cells<81>) -> [u16; 27]
 fn own_unit(cell: usize, nth: usize) -> usize
     ensures { result ≡ own_unit cell nth }
 {
-    if nth == 0 {
-        return row_of(cell);
+    match nth {
+        0 => row_of(cell),
+        1 => 9 + col_of(cell),
+        _ => 18 + box_of(cell),
     }
-    if nth == 1 {
-        return 9 + col_of(cell);
-    }
-    18 + box_of(cell)
 }
 
 // The cell's strong link through its nth unit.
@@ -64,23 +62,16 @@ fn other_of(sums: &[u16; 27], cell: u8, nth: usize) -> Option<u8>
         return None;
     }
     let other = sum - one - 1;
-    if 81 <= other {
-        return None;
-    }
-    Some(other as u8)
+    if other < 81 { Some(other as u8) } else { None }
 }
 
 // Whether the cell has a strong link.
 fn is_linked(sums: &[u16; 27], cell: u8) -> bool
     ensures { result ≡ is_linked sums.now cell }
 {
-    if other_of(sums, cell, 0).is_some() {
-        return true;
-    }
-    if other_of(sums, cell, 1).is_some() {
-        return true;
-    }
-    other_of(sums, cell, 2).is_some()
+    other_of(sums, cell, 0).is_some()
+        || other_of(sums, cell, 1).is_some()
+        || other_of(sums, cell, 2).is_some()
 }
 
 // The holders that have one.
@@ -100,9 +91,10 @@ fn if_seen(cell: u8, next: u8) -> Option<u8>
     ensures { result ≡ some_cell (cond (sees cell next) next 81) }
 {
     if next < 81 && are_peers(cell as usize, next as usize) {
-        return Some(next);
+        Some(next)
+    } else {
+        None
     }
-    None
 }
 
 // The cells that have a strong link, rising, and what each unit's holders sum to.
@@ -128,17 +120,15 @@ impl Links {
         ensures { result ≡ some_cell (link_at self.now.linked self.now.sums weak cell i) }
     {
         if weak {
-            return if_seen(cell, self.linked.as_slice()[i]);
+            if_seen(cell, self.linked.as_slice()[i])
+        } else {
+            other_of(&self.sums, cell, i)
         }
-        other_of(&self.sums, cell, i)
     }
 
     pub fn count(&self, weak: bool) -> usize
         ensures { result ≡ cond weak (length self.now.linked) 3 }
     {
-        if weak {
-            return self.linked.len();
-        }
-        3
+        if weak { self.linked.len() } else { 3 }
     }
 }

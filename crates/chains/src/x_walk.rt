@@ -10,10 +10,8 @@ fn mark(ends: &mut [bool; 81], depth: usize, cell: u8, weak: bool)
     requires { cell < 81 }
     ensures { ends.new ≡ marked (end_here weak depth cell) ends.old }
 {
-    if weak {
-        if 3 <= depth {
-            ends[cell as usize] = true;
-        }
+    if weak && 3 <= depth {
+        ends[cell as usize] = true;
     }
 }
 

@@ -3,17 +3,16 @@ use native.Mathlib.Omega.{arith}
 use Rattle.chains.specs.code.Links.{between_at}
 use Rattle.chains.proofs.Searching.{ends, goes_on, finds-none}
 use Rattle.chains.proofs.Holders.{short-path, unseen-ends, seen-ends}
+use Rattle.chains.proofs.search.find_aic_elimination.Goals.{then-depth-lt3-via-then-depth-lt3, then-depth-lt3-via-else-depth-lt3+then-not-are_peers}
 use Rattle.chains.proofs.search.find_aic_elimination.Goals as goal
 
 pub returns-then-depth-lt3 : goal.returns-then-depth-lt3
 returns-then-depth-lt3 c =
     let a = c.args in
-    sym (short-path a.holders.now a.depth a.start a.end (omega arith))
-
-pub returns-then-not-are_peers : goal.returns-then-not-are_peers
-returns-then-not-are_peers c =
-    let a = c.args in
-    sym (unseen-ends a.holders.now a.depth a.start a.end (omega arith) (sym c.are_peers.ensures ∙ c.if-not-are_peers.true))
+    elim c.then-depth-lt3.branch [
+      | then-depth-lt3-via-then-depth-lt3 w ↦ sym (short-path a.holders.now a.depth a.start a.end (omega arith))
+      | then-depth-lt3-via-else-depth-lt3+then-not-are_peers w ↦ sym (unseen-ends a.holders.now a.depth a.start a.end (omega arith) (sym w.are_peers.ensures ∙ w.if-not-are_peers.true))
+    ]
 
 pub loop-cell-init : goal.loop-cell-init
 loop-cell-init c =
