@@ -51,7 +51,8 @@ impl<const N: usize> Cells<N> {
     }
 
     pub fn len(&self) -> usize
-        ensures { result ≡ length self.now }
+        ensures length { result ≡ length self.now }
+        ensures few { length self.now ≤ N }
     {
         self.as_slice().len()
     }

@@ -1,12 +1,12 @@
 // The links of X-chains among the open holders of a digit. A unit's strong link is kept as a number, and only cells with a strong link are gone on to.
 ghost use Rattle.std.specs.Prelude.{◌≡◌, cond, ◌+◌, ◌<◌, length};
 ghost use Rattle.grid.specs.Cells.{sees};
+ghost use Rattle.grid.specs.Units.{in_unit};
 ghost use Rattle.steps.specs.Loops.{select};
 ghost use Rattle.chains.specs.code.XLinks.{pair_sum, pair_sums, own_unit, some_cell, other_of, is_linked, link_at};
 
-use crate::links::holders_in;
 use crate::lists::Cells;
-use grid::scopes::Scope;
+use grid::scopes::{Scope, in_scope};
 use grid::{are_peers, box_of, col_of, row_of};
 
 fn sum_of(first: u8, second: u8) -> u16
@@ -15,24 +15,32 @@ fn sum_of(first: u8, second: u8) -> u16
     first as u16 + second as u16 + 1
 }
 
-// Of just two cells the sum and one more, so that the one tells the other; else 0, below what any cell and its link make, so that one comparison tells both.
-fn pair_sum(found: &[u8]) -> u16
-    ensures { result ≡ pair_sum found.now }
+// Of the unit's holders, if they are just two, the sum and one more, so that the one tells the other; else 0, which is below every such sum.
+fn pair_sum(holders: &Cells<81>, unit: usize) -> u16
+    ensures { result ≡ pair_sum (select (in_unit unit) holders.now) }
 {
-    if let [first, second] = found {
+    let mut pair: Cells<2> = Cells::new();
+    for cell in holders.as_slice() {
+        if in_scope(Scope::Unit(unit), *cell) {
+            if pair.len() == 2 {
+                return 0;
+            }
+            pair.push(*cell);
+        }
+    }
+    if let [first, second] = pair.as_slice() {
         return sum_of(*first, *second);
     }
     0
 }
 
-// That of each unit's holders.
+// That of each unit.
 fn pair_sums(holders: &Cells<81>) -> [u16; 27]
     ensures { result ≡ pair_sums holders.now }
 {
     let mut sums = [0u16; 27];
     for unit in 0..27 {
-        let found = holders_in(holders, Scope::Unit(unit));
-        sums[unit] = pair_sum(found.as_slice());
+        sums[unit] = pair_sum(holders, unit);
     }
     sums
 }

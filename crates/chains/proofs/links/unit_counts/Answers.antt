@@ -13,7 +13,7 @@ loop-unit-init c = fill_start _ 27 (replicate 27 0) refl
 
 pub loop-unit-preserved : goal.loop-unit-preserved
 loop-unit-preserved c =
-    fill_on _ 27 c.loop-unit.unit c.loop-unit.counts c.loop-unit.invariant (omega arith) (c.len.ensures ∙ ap (λ (l : List ℕ). length l) c.holders_in-found.ensures)
+    fill_on _ 27 c.loop-unit.unit c.loop-unit.counts c.loop-unit.invariant (omega arith) (c.len.ensures.length ∙ ap (λ (l : List ℕ). length l) c.holders_in-found.ensures)
 
 pub returns : goal.returns
 returns c = fill_end _ 27 c.loop-unit.unit c.loop-unit.counts c.loop-unit.invariant c.loop-unit-test.false

@@ -37,14 +37,14 @@ returns-then-contains t c =
 pub returns-then-is_some : goal.returns-then-is_some
 returns-then-is_some t c =
     let a = c.args in
-    let here = c.find_aic_elimination-here.ensures ∙ ap₂ (λ (hs : List ℕ) (k : ℕ). elimination_in hs k a.start a.cell) c.as_slice.ensures c.len-depth.ensures in
+    let here = c.find_aic_elimination-here.ensures ∙ ap₂ (λ (hs : List ℕ) (k : ℕ). elimination_in hs k a.start a.cell) c.as_slice.ensures c.len-depth.ensures.length in
     sym (eliminates a.holders.now (length a.path.now) a.start a.weak (reverse a.path.now) a.cell c.requires (length-reverse a.path.now) (met a.cell a.path.now ∙ sym c.contains.ensures ∙ c.if-contains.false) c.find_aic_elimination-here.result here (sym c.is_some.ensures ∙ c.if-is_some.true))
 
 pub returns-then-depth-eq6 : goal.returns-then-depth-eq6
 returns-then-depth-eq6 t c =
     let a = c.args in
-    let here = c.find_aic_elimination-here.ensures ∙ ap₂ (λ (hs : List ℕ) (k : ℕ). elimination_in hs k a.start a.cell) c.as_slice.ensures c.len-depth.ensures in
-    sym (deepest a.holders.now (length a.path.now) a.start a.weak (reverse a.path.now) a.cell c.requires (length-reverse a.path.now) (met a.cell a.path.now ∙ sym c.contains.ensures ∙ c.if-contains.false) c.find_aic_elimination-here.result here (sym c.is_some.ensures ∙ c.if-is_some.false) (sym c.len-depth.ensures ∙ c.if-depth-eq6.true))
+    let here = c.find_aic_elimination-here.ensures ∙ ap₂ (λ (hs : List ℕ) (k : ℕ). elimination_in hs k a.start a.cell) c.as_slice.ensures c.len-depth.ensures.length in
+    sym (deepest a.holders.now (length a.path.now) a.start a.weak (reverse a.path.now) a.cell c.requires (length-reverse a.path.now) (met a.cell a.path.now ∙ sym c.contains.ensures ∙ c.if-contains.false) c.find_aic_elimination-here.result here (sym c.is_some.ensures ∙ c.if-is_some.false) (sym c.len-depth.ensures.length ∙ c.if-depth-eq6.true))
 
 pub returns-then-is_some-2 : goal.returns-then-is_some-2
 returns-then-is_some-2 t c =
@@ -52,7 +52,7 @@ returns-then-is_some-2 t c =
     let longer = c.followed_by-longer in
     let xs = c.as_slice-next-items in
     let i = c.loop-next.next-index in
-    let here = c.find_aic_elimination-here.ensures ∙ ap₂ (λ (hs : List ℕ) (k : ℕ). elimination_in hs k a.start a.cell) c.as_slice.ensures c.len-depth.ensures in
+    let here = c.find_aic_elimination-here.ensures ∙ ap₂ (λ (hs : List ℕ) (k : ℕ). elimination_in hs k a.start a.cell) c.as_slice.ensures c.len-depth.ensures.length in
     ends (deeper a.holders.now a.start a.weak a.path.now longer.result) xs.result.now i c.loop-next.invariant c.build_chain-found.result (omega arith)
     (answered a.holders.now a.start a.weak a.path.now longer.result a.cell (at xs.result.now i) c.build_chain-found.result longer.ensures c.build_chain-found.ensures)
     (sym c.is_some-in-loop-next.ensures ∙ c.if-is_some-2.true)
@@ -73,6 +73,6 @@ returns t c =
     let a = c.args in
     let longer = c.followed_by-longer in
     let xs = c.as_slice-next-items in
-    let here = c.find_aic_elimination-here.ensures ∙ ap₂ (λ (hs : List ℕ) (k : ℕ). elimination_in hs k a.start a.cell) c.as_slice.ensures c.len-depth.ensures in
+    let here = c.find_aic_elimination-here.ensures ∙ ap₂ (λ (hs : List ℕ) (k : ℕ). elimination_in hs k a.start a.cell) c.as_slice.ensures c.len-depth.ensures.length in
     finds-none (deeper a.holders.now a.start a.weak a.path.now longer.result) xs.result.now c.loop-next.next-index c.loop-next.invariant (omega arith)
     ∙ left a.holders.now a.start a.weak a.path.now longer.result a.cell c.find_aic_elimination-here.result xs.result.now c.requires (met a.cell a.path.now ∙ sym c.contains.ensures ∙ c.if-contains.false) here (sym c.is_some.ensures ∙ c.if-is_some.false) longer.ensures (xs.ensures.same ∙ c.links-links.ensures)

@@ -34,8 +34,8 @@ pub returns-then-depth-eq5 : goal.returns-then-depth-eq5
 returns-then-depth-eq5 t c =
     let a = c.args in
     c.mark.ensures
-    ∙ ap (λ (k : ℕ). marked (end_here a.weak k a.cell) a.ends.now) c.len-depth.ensures
-    ∙ deepest a.links.now.linked a.links.now.sums (length a.path.now) a.weak (reverse a.path.now) a.cell c.requires.0 (length-reverse a.path.now) (met a.cell a.path.now ∙ sym c.contains.ensures ∙ c.if-contains.false) (sym c.len-depth.ensures ∙ c.if-depth-eq5.true) a.ends.now
+    ∙ ap (λ (k : ℕ). marked (end_here a.weak k a.cell) a.ends.now) c.len-depth.ensures.length
+    ∙ deepest a.links.now.linked a.links.now.sums (length a.path.now) a.weak (reverse a.path.now) a.cell c.requires.0 (length-reverse a.path.now) (met a.cell a.path.now ∙ sym c.contains.ensures ∙ c.if-contains.false) (sym c.len-depth.ensures.length ∙ c.if-depth-eq5.true) a.ends.now
 
 pub loop-i-preserved : goal.loop-i-preserved
 loop-i-preserved t c =
@@ -55,6 +55,6 @@ returns t c =
     let f = marks a.links.now.linked a.links.now.sums a.cell a.weak a.path.now in
     let r = c.count-i-end.result in
     turns-over f r c.loop-i.i (omega arith) c.loop-i.invariant
-    ∙ ap (each f (up_to r)) (c.mark.ensures ∙ ap (λ (k : ℕ). marked (end_here a.weak k a.cell) a.ends.now) c.len-depth.ensures)
+    ∙ ap (each f (up_to r)) (c.mark.ensures ∙ ap (λ (k : ℕ). marked (end_here a.weak k a.cell) a.ends.now) c.len-depth.ensures.length)
     ∙ ap (λ (n : ℕ). each f (up_to n) (marked (end_here a.weak (length a.path.now) a.cell) a.ends.now)) c.count-i-end.ensures
     ∙ onward a.links.now.linked a.links.now.sums (length a.path.now) a.weak (reverse a.path.now) a.cell c.requires.0 (length-reverse a.path.now) (met a.cell a.path.now ∙ sym c.contains.ensures ∙ c.if-contains.false) a.ends.now
