@@ -5,8 +5,7 @@ use lib.ListN.{length}
 use native.Mathlib.Omega.{arith}
 use Rattle.std.proofs.lemmas.List.{drop_more}
 use Rattle.grid.specs.code.Scopes.{in_scope}
-use Rattle.chains.proofs.Listing.{has-room, chosen, passed}
-use Rattle.chains.proofs.links.holders_in.Goals.{then-in_scope, else-in_scope}
+use Rattle.chains.proofs.Listing.{has-room}
 use Rattle.chains.proofs.links.holders_in.Goals as goal
 
 pub push-requires : goal.push-requires
@@ -16,12 +15,3 @@ push-requires c =
     let few = s.ensures.few in
     let same = ap (λ (l : List ℕ). length l) s.ensures.same in
     (omega arith, has-room (in_scope c.args.scope) l.list s.result.now 81 (drop_more s.result.now l.cell-index 0 (omega arith)) l.invariant (omega (arith, few, same)) (sym c.in_scope.ensures ∙ c.if-in_scope.true))
-
-pub loop-cell-preserved : goal.loop-cell-preserved
-loop-cell-preserved c =
-    let l = c.loop-cell in
-    let next = drop_more c.as_slice-cell-items.result.now l.cell-index 0 (omega arith) in
-    elim c.if-in_scope.branch [
-      | then-in_scope w ↦ chosen (in_scope c.args.scope) l.list next l.invariant (sym c.in_scope.ensures ∙ w.if-in_scope.true) (w.list-is ∙ w.push.ensures)
-      | else-in_scope w ↦ passed (in_scope c.args.scope) l.list next l.invariant (sym c.in_scope.ensures ∙ w.if-in_scope.false) w.list-is
-    ]

@@ -5,8 +5,7 @@ use lib.ListN.{length}
 use native.Mathlib.Omega.{arith}
 use Rattle.std.proofs.lemmas.List.{drop_more}
 use Rattle.chains.specs.code.XLinks.{is_linked}
-use Rattle.chains.proofs.Listing.{has-room, chosen, passed}
-use Rattle.chains.proofs.x_links.linked_cells.Goals.{then-is_linked, else-is_linked}
+use Rattle.chains.proofs.Listing.{has-room}
 use Rattle.chains.proofs.x_links.linked_cells.Goals as goal
 
 pub push-requires : goal.push-requires
@@ -16,12 +15,3 @@ push-requires c =
     let few = s.ensures.few in
     let same = ap (λ (l : List ℕ). length l) s.ensures.same in
     (omega arith, has-room (is_linked c.args.sums.now) l.list s.result.now 81 (drop_more s.result.now l.cell-index 0 (omega arith)) l.invariant (omega (arith, few, same)) (sym c.is_linked.ensures ∙ c.if-is_linked.true))
-
-pub loop-cell-preserved : goal.loop-cell-preserved
-loop-cell-preserved c =
-    let l = c.loop-cell in
-    let next = drop_more c.as_slice-cell-items.result.now l.cell-index 0 (omega arith) in
-    elim c.if-is_linked.branch [
-      | then-is_linked w ↦ chosen (is_linked c.args.sums.now) l.list next l.invariant (sym c.is_linked.ensures ∙ w.if-is_linked.true) (w.list-is ∙ w.push.ensures)
-      | else-is_linked w ↦ passed (is_linked c.args.sums.now) l.list next l.invariant (sym c.is_linked.ensures ∙ w.if-is_linked.false) w.list-is
-    ]
