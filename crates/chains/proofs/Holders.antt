@@ -12,6 +12,7 @@ use lib.ListN.{length}
 use Rattle.candidates.proofs.Tests.{by-test, cond-true, cond-false}
 use Rattle.grid.specs.Cells.{row, col, box, sees, cells, peers}
 use Rattle.grid.specs.Units.{unit, in_unit}
+use Rattle.std.proofs.lemmas.List.{get_or_past}
 use Rattle.grid.proofs.Lists.{at-up_to, select-none}
 use Rattle.grid.proofs.Units.{unit-is, past-table}
 use Rattle.steps.specs.Boards.{at}
@@ -72,17 +73,13 @@ any-unit u = go (dec_lt u 27)
 
 -- ---- how many holders a unit has
 
-pub counted : (hs counts : List ℕ) (u : ℕ) → counts ≡ unit_counts hs → cond (ltb u 27) (at counts u) 0 ≡ length (select (in_unit u) hs)
+pub counted : (hs counts : List ℕ) (u : ℕ) → counts ≡ unit_counts hs → at counts u ≡ length (select (in_unit u) hs)
 unfolding unit_counts
-counted hs counts u e = go (dec_lt u 27)
+counted hs counts u e = ap (λ (l : List ℕ). at l u) e ∙ go (dec_lt u 27)
   where
-    go : Dec (u < 27) → cond (ltb u 27) (at counts u) 0 ≡ length (select (in_unit u) hs)
-    go (yes h) =
-        cond-true (ltb u 27) (at counts u) 0 (lt-ltb u 27 h) ∙ ap (λ (l : List ℕ). at l u) e
-        ∙ at-up_to (λ u. length (select (in_unit u) hs)) 0 27 u h
-    go (no n) =
-        cond-false (ltb u 27) (at counts u) 0 (le-ltb u 27 (omega arith))
-        ∙ sym (ap (λ (l : List ℕ). length l) (select-none (in_unit u) hs (λ c m. past-rule u (omega arith) c)))
+    go : Dec (u < 27) → at (unit_counts hs) u ≡ length (select (in_unit u) hs)
+    go (yes h) = at-up_to (λ u. length (select (in_unit u) hs)) 0 27 u h
+    go (no n) = get_or_past (unit_counts hs) u 0 (omega arith) ∙ sym (ap (λ (l : List ℕ). length l) (select-none (in_unit u) hs (λ c m. past-rule u (omega arith) c)))
 
 -- ---- an elimination
 

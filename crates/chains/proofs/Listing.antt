@@ -1,104 +1,68 @@
--- A list of cells that is read entry by entry, and one that is made entry by entry. Assumes nothing.
+-- A list that is read member by member, and one that is made member by member. Assumes nothing.
 use mathlib.Core.Path.{◌≡◌, refl, sym, ap, ap₂, ◌∙◌}
-use mathlib.Core.Bool.{Bool, true, false, cond, not}
+use mathlib.Core.Bool.{Bool, true, false, cond, not, ◌||◌}
 use mathlib.Core.List.{List, [], ◌∷◌, ◌++◌, map, append_assoc, append-nil}
-use Prim.Native.Nat.{ℕ, zero, suc, ◌+◌, ◌-◌, ◌≤◌, ◌<◌}
-use native.Mathlib.Nat.{sub-zero}
-use native.Mathlib.Numerals.{add-one}
+use Prim.Native.Nat.{ℕ, zero, suc, ◌+◌, ◌≤◌, ◌<◌}
 use native.Mathlib.Omega.{arith}
 use borrow.Author.Tests.{eq-eqb, ne_eqb}
 use lib.Dec.{eqb}
-use lib.ListN.{length, take, drop, set, replicate, length-map, length-set}
-use lib.Seq.{drop-cons, take-suc-set, append_snoc}
+use lib.ListN.{length, take, drop}
+use lib.Seq.{drop-cons, take-length, append_snoc}
+use Rattle.std.specs.List.{list_any}
+use Rattle.std.proofs.lemmas.List.{length-append}
 use Rattle.candidates.proofs.Tests.{cond-true, cond-false}
-use Rattle.grid.proofs.Lists.{range_length, range-on, range-end}
 use Rattle.steps.specs.Boards.{at}
-use Rattle.steps.specs.Loops.{each, range, select}
-use Rattle.chains.specs.code.Lists.{listed, Lists}
+use Rattle.steps.specs.Loops.{any, range, select, up_to}
 use Rattle.steps.specs.Chains.{two_of}
 use Rattle.chains.specs.code.Links.{others}
 
--- ---- reading: what is left of the first n entries at i
+-- ---- reading
 
-abbrev pub rest : List ℕ → ℕ → ℕ → List ℕ
-rest cs n i = map (at cs) (range (n - i) i)
+as-taken : (xs : List ℕ) (n k : ℕ) → k + n ≤ length xs → map (at xs) (range n k) ≡ take n (drop k xs)
+as-taken xs zero k h = refl
+as-taken xs (suc n) k h =
+    ap (λ (l : List ℕ). at xs k ∷ l) (as-taken xs n (suc k) (omega arith)) ∙ sym (ap (take (suc n)) (drop-cons xs k 0 (omega arith)))
 
-pub rest_all : (cs : List ℕ) (n : ℕ) → rest cs n 0 ≡ listed cs n
-rest_all cs n = ap (λ (k : ℕ). map (at cs) (range k 0)) (sub-zero n)
+pub entries : (xs : List ℕ) → map (at xs) (up_to (length xs)) ≡ xs
+entries xs = as-taken xs (length xs) 0 (omega arith) ∙ take-length xs
 
-pub rest-on : (cs : List ℕ) (n i : ℕ) → i < n → rest cs n i ≡ at cs i ∷ rest cs n (i + 1)
-rest-on cs n i h = ap (map (at cs)) (range-on n i h)
+pub any-is : (f : ℕ → Bool) (xs : List ℕ) → any f xs ≡ list_any f xs
+any-is f [] = refl
+any-is f (x ∷ xs) = ap (λ (t : Bool). f x || t) (any-is f xs)
 
-pub rest_end : (cs : List ℕ) (n i : ℕ) → n ≤ i → rest cs n i ≡ []
-rest_end cs n i h = ap (map (at cs)) (range-end n i h)
+-- ---- making: a selection of which ys stand in the list, and l is still to be looked at
 
--- a loop over the entries: one more is done, and all are
-module _ {S : Type 0} (f : ℕ → S → S) (cs : List ℕ) (n i : ℕ) {s whole : S} where
-  pub rest-done : {next : S} → i < n → next ≡ f (at cs i) s → each f (rest cs n i) s ≡ whole → each f (rest cs n (i + 1)) next ≡ whole
-  unfolding each
-  rest-done h e inv = ap (each f (rest cs n (i + 1))) e ∙ sym (ap (λ (l : List ℕ). each f l s) (rest-on cs n i h)) ∙ inv
+pub few-selected : (f : ℕ → Bool) (xs : List ℕ) → length (select f xs) ≤ length xs
+few-selected f [] = omega arith
+few-selected f (x ∷ xs) = go (f x) (few-selected f xs)
+  where
+    go : (t : Bool) → length (select f xs) ≤ length xs → length (cond t (x ∷ select f xs) (select f xs)) ≤ length (x ∷ xs)
+    go true h = omega (arith, h)
+    go false h = omega (arith, h)
 
-  pub rest_over : n ≤ i → each f (rest cs n i) s ≡ whole → s ≡ whole
-  unfolding each
-  rest_over h inv = sym (ap (λ (l : List ℕ). each f l s) (rest_end cs n i h)) ∙ inv
+module _ (f : ℕ → Bool) (ys : List ℕ) {x : ℕ} {l xs whole : List ℕ} (next : l ≡ x ∷ xs) (inv : ys ++ select f l ≡ whole) where
+  at_next : ys ++ select f (x ∷ xs) ≡ whole
+  at_next = ap (λ (l : List ℕ). ys ++ select f l) (sym next) ∙ inv
 
--- ---- making
+  pub chosen : {zs : List ℕ} → f x ≡ true → zs ≡ ys ++ (x ∷ []) → zs ++ select f xs ≡ whole
+  chosen t p =
+      ap (λ (l : List ℕ). l ++ select f xs) p ∙ append_snoc ys x (select f xs)
+      ∙ ap (λ (l : List ℕ). ys ++ l) (sym (cond-true (f x) (x ∷ select f xs) (select f xs) t)) ∙ at_next
 
-as-taken : (cs : List ℕ) (n k : ℕ) → k + n ≤ length cs → map (at cs) (range n k) ≡ take n (drop k cs)
-as-taken cs zero k h = refl
-as-taken cs (suc n) k h =
-    ap (λ (l : List ℕ). at cs k ∷ l) (as-taken cs n (suc k) (omega arith)) ∙ sym (ap (take (suc n)) (drop-cons cs k 0 (omega arith)))
+  pub passed : {zs : List ℕ} → f x ≡ false → zs ≡ ys → zs ++ select f xs ≡ whole
+  passed t p =
+      ap (λ (l : List ℕ). l ++ select f xs) p
+      ∙ ap (λ (l : List ℕ). ys ++ l) (sym (cond-false (f x) (x ∷ select f xs) (select f xs) t)) ∙ at_next
 
-pub listed-set : (cs : List ℕ) (n c : ℕ) → n < length cs → listed (set cs n c) (n + 1) ≡ listed cs n ++ (c ∷ [])
-listed-set cs n c h =
-    as-taken (set cs n c) (n + 1) 0 (omega (arith, length-set cs n c)) ∙ ap (λ (k : ℕ). take k (set cs n c)) (add-one n) ∙ take-suc-set cs n c h
-    ∙ ap (λ (l : List ℕ). l ++ (c ∷ [])) (sym (as-taken cs n 0 (omega arith)))
+  -- a member that is chosen still has room
+  pub room : f x ≡ true → length ys < length whole
+  room t =
+      let e = sym (length-append ys (x ∷ select f xs)) ∙ ap length (ap (λ (l : List ℕ). ys ++ l) (sym (cond-true (f x) (x ∷ select f xs) (select f xs) t)) ∙ at_next) in
+      omega (arith, e)
 
--- A selection that is made: cs has n entries of it, at most one for each of the i that were looked at, and xs are still to be looked at.
-pub record Gathered (f : ℕ → Bool) (cs : List ℕ) (n i : ℕ) (xs whole : List ℕ) : Type 0 where
-  pub room : length cs ≡ 81
-  pub few : n ≤ i
-  pub so_far : listed cs n ++ select f xs ≡ whole
-
-module _ (f : ℕ → Bool) where
-  pub none_yet : {xs whole : List ℕ} → select f xs ≡ whole → Gathered f (replicate 81 0) 0 0 xs whole
-  none_yet e = record { room = refl; few = omega arith; so_far = e }
-
-  module _ (cs : List ℕ) (n i : ℕ) {x : ℕ} {l xs whole : List ℕ} (next : l ≡ x ∷ xs) (inv : Gathered f cs n i l whole) where
-    at_next : listed cs n ++ select f (x ∷ xs) ≡ whole
-    at_next = ap (λ (l : List ℕ). listed cs n ++ select f l) (sym next) ∙ inv.so_far
-
-    pub chosen : {ds : List ℕ} {k : ℕ} → i < 81 → f x ≡ true → ds ≡ set cs n x → k ≡ n + 1 → Gathered f ds k (i + 1) xs whole
-    chosen h t p q =
-        let e = inv.few in
-        let r = inv.room in
-        record {
-          room = ap length p ∙ length-set cs n x ∙ r;
-          few = omega arith;
-          so_far =
-              ap₂ (λ (l : List ℕ) (j : ℕ). listed l j ++ select f xs) p q
-              ∙ ap (λ (l : List ℕ). l ++ select f xs) (listed-set cs n x (omega arith))
-              ∙ append_snoc (listed cs n) x (select f xs)
-              ∙ ap (λ (l : List ℕ). listed cs n ++ l) (sym (cond-true (f x) (x ∷ select f xs) (select f xs) t))
-              ∙ at_next;
-        }
-
-    pub passed : {ds : List ℕ} {k : ℕ} → f x ≡ false → ds ≡ cs → k ≡ n → Gathered f ds k (i + 1) xs whole
-    passed t p q =
-        let e = inv.few in
-        record {
-          room = ap length p ∙ inv.room;
-          few = omega arith;
-          so_far =
-              ap₂ (λ (l : List ℕ) (j : ℕ). listed l j ++ select f xs) p q
-              ∙ ap (λ (l : List ℕ). listed cs n ++ l) (sym (cond-false (f x) (x ∷ select f xs) (select f xs) t))
-              ∙ at_next;
-        }
-
-  pub all-looked-at : {cs : List ℕ} {n i : ℕ} {xs whole : List ℕ} → xs ≡ [] → Gathered f cs n i xs whole → i ≤ 81 → Lists (record { cells = cs; count = n }) whole
-  all-looked-at {cs} {n} e inv h =
-      let k = inv.few in
-      record { within = omega arith; are = sym (append-nil (listed cs n)) ∙ ap (λ (l : List ℕ). listed cs n ++ select f l) (sym e) ∙ inv.so_far }
+-- the same where the whole is the selection of zs: a list of n has room for it
+pub has-room : (f : ℕ → Bool) (ys zs : List ℕ) {x : ℕ} {l xs : List ℕ} (n : ℕ) → l ≡ x ∷ xs → ys ++ select f l ≡ select f zs → length zs ≤ n → f x ≡ true → length ys < n
+has-room f ys zs n next inv few t = omega (arith, room f ys next inv t, few-selected f zs, few)
 
 -- ---- the other of two
 
@@ -115,18 +79,14 @@ others-on c x xs = go (not (eqb x c))
     go true = refl
     go false = refl
 
--- the entries of a value that counts two, and of one that does not
-pub two-listed : (cs : List ℕ) (n : ℕ) → n ≡ 2 → two_of (listed cs n) ≡ at cs 0 ∷ at cs 1 ∷ []
-two-listed cs n e = ap (λ (k : ℕ). two_of (listed cs k)) e
-
-pub listed-count : (cs : List ℕ) (n : ℕ) → length (listed cs n) ≡ n
-listed-count cs n = length-map (range n 0) (at cs) ∙ range_length n 0
-
 pub no-pair : (xs : List ℕ) → (length xs ≡ 2 → ⊥) → two_of xs ≡ []
 no-pair xs h = cond-false (eqb (length xs) 2) xs [] (ne_eqb (length xs) 2 h)
 
-pub not-two : (cs : List ℕ) (n : ℕ) → (n ≡ 2 → ⊥) → two_of (listed cs n) ≡ []
-not-two cs n h = no-pair (listed cs n) (λ e. h (sym (listed-count cs n) ∙ e))
+pub few-others : (c : ℕ) (xs : List ℕ) → length (others c (two_of xs)) ≤ 2
+few-others c [] = omega arith
+few-others c (x ∷ []) = omega arith
+few-others c (x ∷ y ∷ []) = few-selected (λ e. not (eqb e c)) (x ∷ y ∷ [])
+few-others c (x ∷ y ∷ z ∷ xs) = omega (arith, ap (λ (l : List ℕ). length (others c l)) (no-pair (x ∷ y ∷ z ∷ xs) (λ e. omega (arith, e))))
 
 -- ---- three lists one after the other
 

@@ -1,15 +1,16 @@
--- A search of a list entry by entry: the first answer that is one. Assumes nothing.
+-- A search of a list member by member: the first answer that is one. Assumes nothing.
 use mathlib.Core.Path.{◌≡◌, refl, sym, ap, ◌∙◌}
 use mathlib.Core.Bool.{true, false, true≢false, false≢true}
 use mathlib.Core.List.{List}
 use mathlib.Core.Option.{Option, none}
 use Prim.Native.Nat.{ℕ, ◌+◌, ◌≤◌, ◌<◌}
+use lib.ListN.{length, drop, drop_of_length-le}
+use Rattle.std.proofs.lemmas.List.{at_drop_more}
 use Rattle.steps.specs.Boards.{at}
 use Rattle.steps.specs.Chains.{or_else, first_some}
 use Rattle.std.specs.Prelude.{is_some, Some, None}
 use Rattle.std.specs.Prelude as std
 use Rattle.chains.specs.code.Links.{found_cell}
-use Rattle.chains.proofs.Listing.{rest, rest-on, rest_end}
 
 pub or-found : (o : std.Option ℕ) (p : Option ℕ) → is_some o ≡ true → or_else (found_cell o) p ≡ found_cell o
 or-found None p t = absurd (false≢true t)
@@ -19,19 +20,19 @@ pub or_nothing : (o : std.Option ℕ) (p : Option ℕ) → is_some o ≡ false �
 or_nothing None p t = refl
 or_nothing (Some e) p t = absurd (true≢false t)
 
--- at entry i of the first n, where the answer is o
-module _ (f : ℕ → Option ℕ) (cs : List ℕ) (n i : ℕ) {whole : Option ℕ} (inv : first_some f (rest cs n i) ≡ whole) where
-  at_entry : {o : Option ℕ} → i < n → o ≡ f (at cs i) → or_else o (first_some f (rest cs n (i + 1))) ≡ whole
+-- at member i, where the answer is o
+module _ (f : ℕ → Option ℕ) (xs : List ℕ) (i : ℕ) {whole : Option ℕ} (inv : first_some f (drop i xs) ≡ whole) where
+  at_member : {p : Option ℕ} → i < length xs → p ≡ f (at xs i) → or_else p (first_some f (drop (i + 1) xs)) ≡ whole
   unfolding first_some
-  at_entry h e =
-      ap (λ (o : Option ℕ). or_else o (first_some f (rest cs n (i + 1)))) e ∙ sym (ap (first_some f) (rest-on cs n i h)) ∙ inv
+  at_member h e =
+      ap (λ (p : Option ℕ). or_else p (first_some f (drop (i + 1) xs))) e ∙ sym (at_drop_more (first_some f) xs i 0 h) ∙ inv
 
-  pub ends : (o : std.Option ℕ) → i < n → found_cell o ≡ f (at cs i) → is_some o ≡ true → found_cell o ≡ whole
-  ends o h e t = sym (or-found o (first_some f (rest cs n (i + 1))) t) ∙ at_entry h e
+  pub ends : (o : std.Option ℕ) → i < length xs → found_cell o ≡ f (at xs i) → is_some o ≡ true → found_cell o ≡ whole
+  ends o h e t = sym (or-found o (first_some f (drop (i + 1) xs)) t) ∙ at_member h e
 
-  pub goes_on : (o : std.Option ℕ) → i < n → found_cell o ≡ f (at cs i) → is_some o ≡ false → first_some f (rest cs n (i + 1)) ≡ whole
-  goes_on o h e t = sym (or_nothing o (first_some f (rest cs n (i + 1))) t) ∙ at_entry h e
+  pub goes_on : (o : std.Option ℕ) → i < length xs → found_cell o ≡ f (at xs i) → is_some o ≡ false → first_some f (drop (i + 1) xs) ≡ whole
+  goes_on o h e t = sym (or_nothing o (first_some f (drop (i + 1) xs)) t) ∙ at_member h e
 
-  pub finds-none : n ≤ i → none ≡ whole
+  pub finds-none : length xs ≤ i → none ≡ whole
   unfolding first_some
-  finds-none h = sym (ap (first_some f) (rest_end cs n i h)) ∙ inv
+  finds-none h = sym (ap (first_some f) (drop_of_length-le xs h)) ∙ inv

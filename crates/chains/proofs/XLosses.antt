@@ -13,6 +13,7 @@ use lib.Seq.{ext_get_or, get_or-set_same, get_or-set_other}
 use Rattle.candidates.specs.Masks.{single}
 use Rattle.candidates.proofs.Held.{Held, held-power, held-ext, none-held}
 use Rattle.candidates.proofs.Tests.{both, both_left, both_right, cond-true, cond-false}
+use Rattle.std.specs.List.{list_any}
 use Rattle.grid.specs.Cells.{sees, cells}
 use Rattle.grid.proofs.Lists.{mem-select, select-mem, range-mem, each_same}
 use Rattle.steps.specs.Boards.{at, is_open}
@@ -28,8 +29,8 @@ use Rattle.steps.proofs.Losses.{Lost, lost-digits}
 use Rattle.steps.proofs.Spots.{holder-holds, holds-holder}
 use Rattle.steps.proofs.Steps.{all-length}
 use Rattle.grid.proofs.Units.{member_below}
-use Rattle.chains.specs.code.Lists.{listed}
-use Rattle.chains.specs.code.XLinks.{pair_sums, is_linked, walk_ends, marked, no_ends, end_sees, lose_caught, lose_seen, lose_from}
+use Rattle.chains.specs.code.XLinks.{pair_sums, is_linked, walk_ends, marked, no_ends, end_sees, ends_of, lose_caught, lose_from}
+use Rattle.chains.proofs.Listing.{any-is}
 use Rattle.chains.proofs.XWalks.{hs, sums, in-hs, hs-in, in-linked, unlinked, unlinked-ends, ends-are}
 
 -- ---- marks
@@ -121,16 +122,16 @@ module _ (g m : List ℕ) (d : ℕ) where
       go true t = t
       go false t = absurd (mathlib.Core.List.Memᴰ.not-nil (subst (λ (xs : List ℕ). Memᴰ z xs) (unlinked-ends g m d k t 6 []) l))
 
-  module _ (linked : List ℕ) (count : ℕ) (are : listed linked count ≡ select (is_linked (sums g m d)) (hs g m d)) where
+  module _ (linked : List ℕ) (are : linked ≡ select (is_linked (sums g m d)) (hs g m d)) where
     abbrev ls : List ℕ
-    ls = listed linked count
+    ls = linked
 
     abbrev marks : ℕ → List Bool
-    marks s = marked (walk_ends linked count (sums g m d) 6 false [] s) no_ends
+    marks s = ends_of linked (sums g m d) s
 
     -- a holder that sees the start and a marked end
     abbrev catches : ℕ → ℕ → Bool
-    catches s x = sees s x && any (end_sees (marks s) x) ls
+    catches s x = sees s x && list_any (end_sees (marks s) x) ls
 
     in-ls : {c : ℕ} → Memᴰ c ls → Memᴰ c (hs g m d) × (is_linked (sums g m d) c ≡ true)
     in-ls {c} k = mem-select (is_linked (sums g m d)) (hs g m d) c (subst (λ (l : List ℕ). Memᴰ c l) are k)
@@ -140,8 +141,8 @@ module _ (g m : List ℕ) (d : ℕ) where
 
     marked-end : (s z : ℕ) → Memᴰ s (hs g m d) → get_or (marks s) z false ≡ true → Memᴰ z (chain_ends g m d s)
     marked-end s z k t =
-        subst (λ (l : List ℕ). Memᴰ z l) (ends-are g m d linked count are 6 false [] s k)
-        (⊎_elim (λ l. l) (λ e. absurd (true≢false (sym e ∙ unmarked z))) (mark-in (walk_ends linked count (sums g m d) 6 false [] s) no_ends z t))
+        subst (λ (l : List ℕ). Memᴰ z l) (ends-are g m d linked are 6 false [] s k)
+        (⊎_elim (λ l. l) (λ e. absurd (true≢false (sym e ∙ unmarked z))) (mark-in (walk_ends linked (sums g m d) 6 false [] s) no_ends z t))
       where
         unmarked : (z : ℕ) → get_or no_ends z false ≡ false
         unmarked z = none 81 z
@@ -153,8 +154,8 @@ module _ (g m : List ℕ) (d : ℕ) where
 
     end_marked : (s z : ℕ) → Memᴰ s (hs g m d) → z < 81 → Memᴰ z (chain_ends g m d s) → get_or (marks s) z false ≡ true
     end_marked s z k h l =
-        in-mark (walk_ends linked count (sums g m d) 6 false [] s) no_ends z h
-        (inl (subst (λ (l : List ℕ). Memᴰ z l) (sym (ends-are g m d linked count are 6 false [] s k)) l))
+        in-mark (walk_ends linked (sums g m d) 6 false [] s) no_ends z h
+        (inl (subst (λ (l : List ℕ). Memᴰ z l) (sym (ends-are g m d linked are 6 false [] s k)) l))
 
     -- ---- what is caught
 
@@ -162,10 +163,10 @@ module _ (g m : List ℕ) (d : ℕ) where
     unfolding caught
     caught-holder s x k t =
         let a = in-ls k in
-        let w = any-member (end_sees (marks s) x) ls (both_right (sees s x) (any (end_sees (marks s) x) ls) t) in
+        let w = any-member (end_sees (marks s) x) ls (any-is (end_sees (marks s) x) ls ∙ both_right (sees s x) (list_any (end_sees (marks s) x) ls) t) in
         let r = seen w.0 (leb 81 w.0) refl w.2 in
         member-any (λ s. any (λ e. sees s x && sees e x) (chain_ends g m d s)) (select (holds g m d) cells) s a.0
-        (member-any (λ e. sees s x && sees e x) (chain_ends g m d s) w.0 (marked-end s w.0 a.0 r.0) (both (both_left (sees s x) (any (end_sees (marks s) x) ls) t) r.1))
+        (member-any (λ e. sees s x && sees e x) (chain_ends g m d s) w.0 (marked-end s w.0 a.0 r.0) (both (both_left (sees s x) (list_any (end_sees (marks s) x) ls) t) r.1))
       where
         seen : (z : ℕ) (b : Bool) → leb 81 z ≡ b → cond b false (get_or (marks s) z false && sees z x) ≡ true → (get_or (marks s) z false ≡ true) × (sees z x ≡ true)
         seen z true e t = absurd (true≢false (sym t))
@@ -194,8 +195,8 @@ module _ (g m : List ℕ) (d : ℕ) where
     abbrev losers : List ℕ
     losers = for ls (λ s. select (catches s) (hs g m d))
 
-    one-start : (s : ℕ) (n : List ℕ) → lose_from g (single d) (hs g m d) linked count (sums g m d) s n ≡ each (λ x. lose_at (is_open g) x (single d)) (select (catches s) (hs g m d)) n
-    unfolding lose_from lose_seen
+    one-start : (s : ℕ) (n : List ℕ) → lose_from g (single d) (hs g m d) linked (sums g m d) s n ≡ each (λ x. lose_at (is_open g) x (single d)) (select (catches s) (hs g m d)) n
+    unfolding lose_from
     one-start s n =
         each_same (lose_caught g (single d) ls s (marks s)) (λ x n. cond (catches s x) (lose_at (is_open g) x (single d) n) n) (hs g m d)
         (λ x k n. ap (λ (o : List ℕ). cond (catches s x) o n) (cond-true (ltb x 81) (lose_at (is_open g) x (single d) n) n (lt-ltb x 81 (in-hs g m d k).0))) n
@@ -243,24 +244,24 @@ module _ (g m : List ℕ) (d : ℕ) where
         let q = lost-digits (is_open g) loses cells m c j in
         (λ t. let w = p.0 t in q.1 (w.0, λ l. w.1 (from c j w.0 l)), λ t. let w = q.0 t in p.1 (w.0, λ l. w.1 (to c j l)))))
 
-    pub digit-is : each (lose_from g (single d) (hs g m d) linked count (sums g m d)) ls m ≡ x_chain_digit g d m
+    pub digit-is : each (lose_from g (single d) (hs g m d) linked (sums g m d)) ls m ≡ x_chain_digit g d m
     digit-is =
-        each_same (lose_from g (single d) (hs g m d) linked count (sums g m d)) (λ s. each (λ x. lose_at (is_open g) x (single d)) (select (catches s) (hs g m d))) ls (λ s k n. one-start s n) m
+        each_same (lose_from g (single d) (hs g m d) linked (sums g m d)) (λ s. each (λ x. lose_at (is_open g) x (single d)) (select (catches s) (hs g m d))) ls (λ s k n. one-start s n) m
         ∙ sym (each-for (λ x. lose_at (is_open g) x (single d)) ls (λ s. select (catches s) (hs g m d)) m) ∙ lost-same
 
--- ---- the arrays of the code: the holders, the units' sums and the linked cells
+-- ---- the lists of the code: the holders, the units' sums and the linked cells
 
-module _ (g m : List ℕ) (d : ℕ) (held ss linked : List ℕ) (count : ℕ) (eh : held ≡ hs g m d) (es : ss ≡ pair_sums held) (el : listed linked count ≡ select (is_linked ss) held) where
+module _ (g m : List ℕ) (d : ℕ) (held ss linked : List ℕ) (eh : held ≡ hs g m d) (es : ss ≡ pair_sums held) (el : linked ≡ select (is_linked ss) held) where
   sums-are : ss ≡ sums g m d
   sums-are = es ∙ ap pair_sums eh
 
-  linked-are : listed linked count ≡ select (is_linked (sums g m d)) (hs g m d)
+  linked-are : linked ≡ select (is_linked (sums g m d)) (hs g m d)
   linked-are = el ∙ (λ i. select (is_linked (sums-are i)) (eh i))
 
-  pub linked-below : (j : ℕ) → j < count → at linked j < 81
-  linked-below j h = (in-hs g m d (in-linked g m d linked count linked-are j h)).0
+  pub linked-below : (j : ℕ) → j < length linked → at linked j < 81
+  linked-below j h = (in-hs g m d (in-linked g m d linked linked-are j h)).0
 
-  pub digit-over : {k : ℕ} → k ≡ single d → each (lose_from g k held linked count ss) (listed linked count) m ≡ x_chain_digit g d m
+  pub digit-over : {k : ℕ} → k ≡ single d → each (lose_from g k held linked ss) linked m ≡ x_chain_digit g d m
   digit-over {k} ek =
-      ap (λ (k : ℕ). each (lose_from g k held linked count ss) (listed linked count) m) ek
-      ∙ (λ i. each (lose_from g (single d) (eh i) linked count (sums-are i)) (listed linked count) m) ∙ digit-is g m d linked count linked-are
+      ap (λ (k : ℕ). each (lose_from g k held linked ss) linked m) ek
+      ∙ (λ i. each (lose_from g (single d) (eh i) linked (sums-are i)) linked m) ∙ digit-is g m d linked linked-are

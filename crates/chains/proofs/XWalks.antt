@@ -12,7 +12,7 @@ use Rattle.candidates.proofs.Tests.{cond-true, cond-false, neither}
 use Rattle.grid.specs.Cells.{sees, cells}
 use Rattle.grid.specs.Units.{in_unit}
 use Rattle.grid.proofs.Cells.{row_below, col-below, box-below, row_in, col-in, box_in_lem}
-use Rattle.grid.proofs.Lists.{at-up_to, mem-select, select-mem, range-mem, mem-range}
+use Rattle.grid.proofs.Lists.{at-up_to, mem-select, place-mem, select-mem, range-mem, mem-range}
 use Rattle.steps.specs.Boards.{at}
 use Rattle.steps.specs.Chains.{on_path, two_of, weak_links, strong_links}
 use Rattle.steps.specs.Loops.{for, select, range, up_to}
@@ -21,8 +21,8 @@ use Rattle.steps.specs.XChains.{ends_from}
 use Rattle.steps.proofs.Links.{strong-link}
 use Rattle.steps.proofs.Loops.{for-in, for-same, in-up_to, up_to-in, for-append}
 use Rattle.steps.proofs.Spots.{holder-holds, holds-holder}
-use Rattle.chains.specs.code.Lists.{listed}
 use Rattle.chains.specs.code.Links.{others, weak_in, strong_in}
+use Rattle.chains.proofs.Listing.{entries}
 use Rattle.chains.specs.code.XLinks.{pair_sum, pair_sums, own_unit, other_in, other_of, is_linked, end_here, if_cell, walk_ends}
 use Rattle.chains.proofs.Holders.{open-holders, weak-is, strong-is}
 
@@ -199,26 +199,20 @@ module _ (g m : List ℕ) (d : ℕ) where
       go true = refl
       go false = refl
 
-  module _ (linked : List ℕ) (count : ℕ) (are : listed linked count ≡ select (is_linked sums) hs) where
-    pub in-linked : (i : ℕ) → i < count → Memᴰ (at linked i) hs
-    in-linked i h =
-        (mem-select (is_linked sums) hs (at linked i)
-        (subst (λ (l : List ℕ). Memᴰ (at linked i) l) are (map-in (at linked) (up_to count) i (up_to-in count i h)))).0
-      where
-        map-in : (f : ℕ → ℕ) (xs : List ℕ) (x : ℕ) → Memᴰ x xs → Memᴰ (f x) (map f xs)
-        map-in f [] x k = absurd (mathlib.Core.List.Memᴰ.not-nil k)
-        map-in f (y ∷ xs) x k = ⊎_elim (λ e. mathlib.Core.List.Memᴰ.head (ap f e)) (λ l. mathlib.Core.List.Memᴰ.tail (map-in f xs x l)) (mathlib.Core.List.Memᴰ.cases_cons k)
+  module _ (linked : List ℕ) (are : linked ≡ select (is_linked sums) hs) where
+    pub in-linked : (i : ℕ) → i < length linked → Memᴰ (at linked i) hs
+    in-linked i h = (mem-select (is_linked sums) hs (at linked i) (subst (λ (l : List ℕ). Memᴰ (at linked i) l) are (place-mem linked 0 i h))).0
 
     -- the cells that are gone on to
     abbrev seen : ℕ → ℕ → ℕ
     seen c z = cond (sees c z) z 81
 
     weak-on : (c : ℕ) (f : ℕ → List ℕ) → ((z : ℕ) → Memᴰ z hs → is_linked sums z ≡ false → f z ≡ [])
-        → for (up_to count) (λ i. if_cell (seen c (at linked i)) (f (seen c (at linked i)))) ≡ for (weak_links g m d c) f
+        → for (up_to (length linked)) (λ i. if_cell (seen c (at linked i)) (f (seen c (at linked i)))) ≡ for (weak_links g m d c) f
     unfolding weak_in
     weak-on c f none =
-        sym (for-map (at linked) (up_to count) (λ z. if_cell (seen c z) (f (seen c z))))
-        ∙ ap (λ (l : List ℕ). for l (λ z. if_cell (seen c z) (f (seen c z)))) are
+        sym (for-map (at linked) (up_to (length linked)) (λ z. if_cell (seen c z) (f (seen c z))))
+        ∙ ap (λ (l : List ℕ). for l (λ z. if_cell (seen c z) (f (seen c z)))) (entries linked ∙ are)
         ∙ for-select (is_linked sums) hs (λ z. if_cell (seen c z) (f (seen c z)))
         ∙ for-same (λ z. cond (is_linked sums z) (if_cell (seen c z) (f (seen c z))) []) (λ z. cond (sees c z) (f z) []) hs (λ z k. one z k (is_linked sums z) refl (sees c z))
         ∙ sym (for-select (sees c) hs f) ∙ ap (λ (l : List ℕ). for l f) (weak-is g m d c)
@@ -231,24 +225,24 @@ module _ (g m : List ℕ) (d : ℕ) where
 
     -- ---- the ends
 
-    pub ends-are : (n : ℕ) (weak : Bool) (path : List ℕ) (c : ℕ) → Memᴰ c hs → walk_ends linked count sums n weak path c ≡ ends_from g m d n weak path c
+    pub ends-are : (n : ℕ) (weak : Bool) (path : List ℕ) (c : ℕ) → Memᴰ c hs → walk_ends linked sums n weak path c ≡ ends_from g m d n weak path c
     unfolding walk_ends ends_from
     ends-are zero weak path c k = refl
     ends-are (suc n) true path c k =
         ap (λ (l : List ℕ). cond (on_path c path) [] (end_here true (length path) c ++ l))
-        (for-same (λ i. if_cell (seen c (at linked i)) (walk_ends linked count sums n false (c ∷ path) (seen c (at linked i)))) (λ i. if_cell (seen c (at linked i)) (ends_from g m d n false (c ∷ path) (seen c (at linked i)))) (up_to count)
-        (λ i l. one (at linked i) (ends-are n false (c ∷ path) (at linked i) (in-linked i (in-up_to count i l))) (sees c (at linked i)))
+        (for-same (λ i. if_cell (seen c (at linked i)) (walk_ends linked sums n false (c ∷ path) (seen c (at linked i)))) (λ i. if_cell (seen c (at linked i)) (ends_from g m d n false (c ∷ path) (seen c (at linked i)))) (up_to (length linked))
+        (λ i l. one (at linked i) (ends-are n false (c ∷ path) (at linked i) (in-linked i (in-up_to (length linked) i l))) (sees c (at linked i)))
         ∙ weak-on c (ends_from g m d n false (c ∷ path)) (λ z l t. unlinked-ends l t n (c ∷ path)))
       where
-        one : (z : ℕ) → walk_ends linked count sums n false (c ∷ path) z ≡ ends_from g m d n false (c ∷ path) z → (t : Bool) → if_cell (cond t z 81) (walk_ends linked count sums n false (c ∷ path) (cond t z 81)) ≡ if_cell (cond t z 81) (ends_from g m d n false (c ∷ path) (cond t z 81))
+        one : (z : ℕ) → walk_ends linked sums n false (c ∷ path) z ≡ ends_from g m d n false (c ∷ path) z → (t : Bool) → if_cell (cond t z 81) (walk_ends linked sums n false (c ∷ path) (cond t z 81)) ≡ if_cell (cond t z 81) (ends_from g m d n false (c ∷ path) (cond t z 81))
         one z e true = ap (if_cell z) e
         one z e false = refl
     ends-are (suc n) false path c k =
         ap (λ (l : List ℕ). cond (on_path c path) [] ([] ++ l))
-        (for-same (λ i. if_cell (other_of sums c i) (walk_ends linked count sums n true (c ∷ path) (other_of sums c i))) (λ i. if_cell (other_of sums c i) (ends_from g m d n true (c ∷ path) (other_of sums c i))) (up_to 3)
+        (for-same (λ i. if_cell (other_of sums c i) (walk_ends linked sums n true (c ∷ path) (other_of sums c i))) (λ i. if_cell (other_of sums c i) (ends_from g m d n true (c ∷ path) (other_of sums c i))) (up_to 3)
         (λ i l. one i (λ t. ends-are n true (c ∷ path) (other_of sums c i) (other-in k i (in-up_to 3 i l) t)) (ltb (other_of sums c i) 81) refl) ∙ strong-on k (ends_from g m d n true (c ∷ path)))
       where
-        one : (i : ℕ) → (ltb (other_of sums c i) 81 ≡ true → walk_ends linked count sums n true (c ∷ path) (other_of sums c i) ≡ ends_from g m d n true (c ∷ path) (other_of sums c i))
-            → (t : Bool) → ltb (other_of sums c i) 81 ≡ t → cond t (walk_ends linked count sums n true (c ∷ path) (other_of sums c i)) [] ≡ cond t (ends_from g m d n true (c ∷ path) (other_of sums c i)) []
+        one : (i : ℕ) → (ltb (other_of sums c i) 81 ≡ true → walk_ends linked sums n true (c ∷ path) (other_of sums c i) ≡ ends_from g m d n true (c ∷ path) (other_of sums c i))
+            → (t : Bool) → ltb (other_of sums c i) 81 ≡ t → cond t (walk_ends linked sums n true (c ∷ path) (other_of sums c i)) [] ≡ cond t (ends_from g m d n true (c ∷ path) (other_of sums c i)) []
         one i e true t = e t
         one i e false t = refl

@@ -1,4 +1,3 @@
 -- How the code goes about it: nothing here needs belief.
-pub mod Lists
 pub mod Links
 pub mod XLinks

@@ -9,7 +9,6 @@ use cells::lose_at;
 
 mod links;
 mod lists;
-mod paths;
 mod search;
 pub mod x_chains;
 mod x_links;

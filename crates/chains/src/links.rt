@@ -1,141 +1,127 @@
-// The links of a chain among the open holders of a digit: `count` cells that are lent.
-ghost use Rattle.std.specs.Prelude.{◌≡◌, cond, [], ◌∷◌, ◌++◌, ◌+◌, ◌≤◌, ◌<◌, ltb};
+// The links of a chain among the open holders of a digit.
+ghost use Rattle.std.specs.Prelude.{◌≡◌, ℕ, List, [], ◌∷◌, ◌++◌, ◌≤◌, length};
 ghost use Rattle.grid.specs.Units.{in_unit};
 ghost use Rattle.grid.specs.code.Scopes.{in_scope};
-ghost use Rattle.steps.specs.Boards.{at};
 ghost use Rattle.steps.specs.Loops.{select};
-ghost use Rattle.chains.specs.code.Lists.{Lists, listed};
 ghost use Rattle.steps.specs.Chains.{two_of};
 ghost use Rattle.chains.specs.code.Links.{others, unit_counts, weak_in, strong_in, links_in};
 
 use crate::lists::Cells;
 use grid::scopes::{Scope, in_scope};
 use grid::{box_of, col_of, row_of};
+use std::marker::Model;
 
-pub fn holders_in(holders: &[u8; 81], count: usize, scope: Scope) -> Cells
-    requires { count ≤ 81 }
-    ensures { Lists result (select (in_scope scope) (listed holders.now count)) }
+pub fn holders_in(holders: &Cells<81>, scope: Scope) -> Cells<81>
+    ensures { result ≡ select (in_scope scope) holders.now }
 {
-    let mut list = [0u8; 81];
-    let mut found: usize = 0;
-    for i in 0..count {
-        let cell = holders[i];
-        if in_scope(scope, cell) {
-            list[found] = cell;
-            found += 1;
+    let mut list = Cells::new();
+    for cell in holders.as_slice() {
+        if in_scope(scope, *cell) {
+            list.push(*cell);
         }
     }
-    Cells {
-        cells: list,
-        count: found,
-    }
+    list
 }
 
-fn push_other(links: Cells, other: u8, cell: u8) -> Cells
-    requires { links.count < 81 }
-    ensures { (result.count ≤ links.count + 1) × (listed result.cells result.count ≡ listed links.cells links.count ++ others cell (other ∷ [])) }
+fn push_other(links: &mut Cells<81>, other: u8, cell: u8)
+    requires { length links.old ≤ 80 }
+    ensures { links.new ≡ links.old ++ others cell (other ∷ []) }
 {
-    if other == cell {
-        return links;
-    }
-    let at = links.count;
-    let mut cells = links.cells;
-    cells[at] = other;
-    Cells {
-        cells,
-        count: at + 1,
+    if other != cell {
+        links.push(other);
     }
 }
 
 // Of just two holders of a unit, those that are not the cell.
-fn push_pair(links: Cells, holders: Cells, cell: u8) -> Cells
-    requires { links.count ≤ 79 }
-    ensures { (result.count ≤ links.count + 2) × (listed result.cells result.count ≡ listed links.cells links.count ++ others cell (two_of (listed holders.cells holders.count))) }
+fn push_pair(links: &mut Cells<81>, holders: &[u8], cell: u8)
+    requires { length links.old ≤ 79 }
+    ensures { links.new ≡ links.old ++ others cell (two_of holders.now) }
 {
-    if holders.count != 2 {
-        return links;
+    if let [first, second] = holders {
+        push_other(links, *first, cell);
+        push_other(links, *second, cell);
     }
-    let first = holders.cells[0];
-    let second = holders.cells[1];
-    push_other(push_other(links, first, cell), second, cell)
 }
 
 // How many holders each unit has.
-pub fn unit_counts(holders: &[u8; 81], count: usize) -> [u8; 27]
-    requires { count ≤ 81 }
-    ensures { result ≡ unit_counts (listed holders.now count) }
+fn unit_counts(holders: &Cells<81>) -> [u8; 27]
+    ensures { result ≡ unit_counts holders.now }
 {
     let mut counts = [0u8; 27];
     for unit in 0..27 {
-        let found = holders_in(holders, count, Scope::Unit(unit));
-        counts[unit] = found.count as u8;
+        let found = holders_in(holders, Scope::Unit(unit));
+        counts[unit] = found.len() as u8;
     }
     counts
 }
 
-fn unit_count(counts: &[u8; 27], unit: usize) -> u8
-    ensures { result ≡ cond (ltb unit 27) (at counts.now unit) 0 }
-{
-    if unit < 27 {
-        return counts[unit];
+// The open holders of a digit, rising, and how many of them each unit has.
+#[derive(Drop)]
+pub struct Holders {
+    cells: Cells<81>,
+    counts: [u8; 27],
+}
+
+// Clauses see the holders.
+impl Model for Holders {
+    ghost Value = { List ℕ };
+
+    ghost view = { λ h. h.cells };
+
+    ghost invariant = { λ h. h.counts ≡ unit_counts h.cells };
+}
+
+impl Holders {
+    pub fn new(cells: Cells<81>) -> Self
+        ensures { result ≡ cells }
+    {
+        let counts = unit_counts(&cells);
+        Holders { cells, counts }
     }
-    0
-}
 
-// The links through a unit after those that are handed in. Most units have more holders than two, so their counts are asked first.
-fn push_unit(
-    holders: &[u8; 81],
-    count: usize,
-    counts: &[u8; 27],
-    unit: usize,
-    cell: u8,
-    links: Cells,
-) -> Cells
-    requires { (count ≤ 81) × (links.count ≤ 79) × (counts.now ≡ unit_counts (listed holders.now count)) }
-    ensures { (result.count ≤ links.count + 2) × (listed result.cells result.count ≡ listed links.cells links.count ++ others cell (two_of (select (in_unit unit) (listed holders.now count)))) }
-{
-    if unit_count(counts, unit) != 2 {
-        return links;
+    pub fn as_slice(&self) -> &[u8]
+        ensures { result.now ≡ self.now }
+    {
+        self.cells.as_slice()
     }
-    push_pair(links, holders_in(holders, count, Scope::Unit(unit)), cell)
-}
 
-// Rows, columns and boxes of the cell with just two holders: the other one. Repeats are kept.
-fn find_strong_links(holders: &[u8; 81], count: usize, counts: &[u8; 27], cell: u8) -> Cells
-    requires { (count ≤ 81) × (counts.now ≡ unit_counts (listed holders.now count)) }
-    ensures { Lists result (strong_in (listed holders.now count) cell) }
-{
-    let at = cell as usize;
-    let none = Cells {
-        cells: [0u8; 81],
-        count: 0,
-    };
-    let row = push_unit(holders, count, counts, row_of(at), cell, none);
-    let col = push_unit(holders, count, counts, 9 + col_of(at), cell, row);
-    push_unit(holders, count, counts, 18 + box_of(at), cell, col)
-}
-
-// Other holders that the cell sees, rising.
-fn find_weak_links(holders: &[u8; 81], count: usize, cell: u8) -> Cells
-    requires { count ≤ 81 }
-    ensures { Lists result (weak_in (listed holders.now count) cell) }
-{
-    holders_in(holders, count, Scope::Peers(cell as usize))
-}
-
-// `counts` are the holders of each unit.
-pub fn find_links(
-    holders: &[u8; 81],
-    count: usize,
-    counts: &[u8; 27],
-    weak: bool,
-    cell: u8,
-) -> Cells
-    requires { (count ≤ 81) × (counts.now ≡ unit_counts (listed holders.now count)) }
-    ensures { Lists result (links_in (listed holders.now count) weak cell) }
-{
-    if weak {
-        return find_weak_links(holders, count, cell);
+    // The links through a unit after those that are there. Most units have more holders than two, so their counts are asked first.
+    fn push_unit(&self, links: &mut Cells<81>, unit: usize, cell: u8)
+        requires { length links.old ≤ 79 }
+        ensures { links.new ≡ links.old ++ others cell (two_of (select (in_unit unit) self.now)) }
+    {
+        if self.counts.get(unit).copied().unwrap_or(0) == 2 {
+            let pair = holders_in(&self.cells, Scope::Unit(unit));
+            push_pair(links, pair.as_slice(), cell);
+        }
     }
-    find_strong_links(holders, count, counts, cell)
+
+    // Rows, columns and boxes of the cell with just two holders: the other one. Repeats are kept.
+    fn strong_links(&self, cell: u8) -> Cells<81>
+        ensures { result ≡ strong_in self.now cell }
+    {
+        let at = cell as usize;
+        let mut links = Cells::new();
+        self.push_unit(&mut links, row_of(at), cell);
+        self.push_unit(&mut links, 9 + col_of(at), cell);
+        self.push_unit(&mut links, 18 + box_of(at), cell);
+        links
+    }
+
+    // Other holders that the cell sees, rising.
+    fn weak_links(&self, cell: u8) -> Cells<81>
+        ensures { result ≡ weak_in self.now cell }
+    {
+        holders_in(&self.cells, Scope::Peers(cell as usize))
+    }
+
+    pub fn links(&self, weak: bool, cell: u8) -> Cells<81>
+        ensures { result ≡ links_in self.now weak cell }
+    {
+        if weak {
+            self.weak_links(cell)
+        } else {
+            self.strong_links(cell)
+        }
+    }
 }

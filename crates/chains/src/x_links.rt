@@ -1,14 +1,12 @@
 // The links of X-chains among the open holders of a digit. A unit's strong link is kept as a number, and only cells with a strong link are gone on to.
-// 81 is no cell.
-ghost use Rattle.std.specs.Prelude.{◌≡◌, cond, ◌+◌, ◌≤◌, ◌<◌};
+ghost use Rattle.std.specs.Prelude.{◌≡◌, cond, ◌+◌, ◌<◌, length};
 ghost use Rattle.grid.specs.Cells.{sees};
+ghost use Rattle.grid.specs.Units.{in_unit};
 ghost use Rattle.steps.specs.Loops.{select};
-ghost use Rattle.chains.specs.code.Lists.{Lists, listed};
-ghost use Rattle.chains.specs.code.XLinks.{pair_sum, pair_sums, own_unit, other_of, is_linked, link_at};
+ghost use Rattle.chains.specs.code.XLinks.{pair_sum, pair_sums, own_unit, some_cell, other_of, is_linked, link_at};
 
-use crate::links::holders_in;
 use crate::lists::Cells;
-use grid::scopes::Scope;
+use grid::scopes::{Scope, in_scope};
 use grid::{are_peers, box_of, col_of, row_of};
 
 fn sum_of(first: u8, second: u8) -> u16
@@ -17,24 +15,32 @@ fn sum_of(first: u8, second: u8) -> u16
     first as u16 + second as u16 + 1
 }
 
-// Of just two cells the sum and one more, so that the one tells the other; else 0.
-fn pair_sum(found: Cells) -> u16
-    ensures { result ≡ pair_sum (listed found.cells found.count) }
+// Of the unit's holders, if they are just two, the sum and one more, so that the one tells the other; else 0, which is below every such sum.
+fn pair_sum(holders: &Cells<81>, unit: usize) -> u16
+    ensures { result ≡ pair_sum (select (in_unit unit) holders.now) }
 {
-    if found.count != 2 {
-        return 0;
+    let mut pair: Cells<2> = Cells::new();
+    for cell in holders.as_slice() {
+        if in_scope(Scope::Unit(unit), *cell) {
+            if pair.len() == 2 {
+                return 0;
+            }
+            pair.push(*cell);
+        }
     }
-    sum_of(found.cells[0], found.cells[1])
+    if let [first, second] = pair.as_slice() {
+        return sum_of(*first, *second);
+    }
+    0
 }
 
-// That of each unit's holders.
-pub fn pair_sums(holders: &[u8; 81], count: usize) -> [u16; 27]
-    requires { count ≤ 81 }
-    ensures { result ≡ pair_sums (listed holders.now count) }
+// That of each unit.
+fn pair_sums(holders: &Cells<81>) -> [u16; 27]
+    ensures { result ≡ pair_sums holders.now }
 {
     let mut sums = [0u16; 27];
     for unit in 0..27 {
-        sums[unit] = pair_sum(holders_in(holders, count, Scope::Unit(unit)));
+        sums[unit] = pair_sum(holders, unit);
     }
     sums
 }
@@ -43,93 +49,94 @@ pub fn pair_sums(holders: &[u8; 81], count: usize) -> [u16; 27]
 fn own_unit(cell: usize, nth: usize) -> usize
     ensures { result ≡ own_unit cell nth }
 {
-    if nth == 0 {
-        return row_of(cell);
+    match nth {
+        0 => row_of(cell),
+        1 => 9 + col_of(cell),
+        _ => 18 + box_of(cell),
     }
-    if nth == 1 {
-        return 9 + col_of(cell);
-    }
-    18 + box_of(cell)
 }
 
 // The cell's strong link through its nth unit.
-fn other_of(sums: &[u16; 27], cell: u8, nth: usize) -> u8
-    ensures { result ≡ other_of sums.now cell nth }
+fn other_of(sums: &[u16; 27], cell: u8, nth: usize) -> Option<u8>
+    ensures { result ≡ some_cell (other_of sums.now cell nth) }
 {
     let unit = own_unit(cell as usize, nth);
     if 27 <= unit {
-        return 81;
+        return None;
     }
     let sum = sums[unit];
     let one = cell as u16;
     if sum <= one {
-        return 81;
+        return None;
     }
     let other = sum - one - 1;
-    if 81 <= other {
-        return 81;
-    }
-    other as u8
+    if other < 81 { Some(other as u8) } else { None }
 }
 
 // Whether the cell has a strong link.
 fn is_linked(sums: &[u16; 27], cell: u8) -> bool
     ensures { result ≡ is_linked sums.now cell }
 {
-    if other_of(sums, cell, 0) < 81 {
-        return true;
-    }
-    if other_of(sums, cell, 1) < 81 {
-        return true;
-    }
-    other_of(sums, cell, 2) < 81
+    other_of(sums, cell, 0).is_some()
+        || other_of(sums, cell, 1).is_some()
+        || other_of(sums, cell, 2).is_some()
 }
 
 // The holders that have one.
-pub fn linked_cells(holders: &[u8; 81], count: usize, sums: &[u16; 27]) -> Cells
-    requires { count ≤ 81 }
-    ensures { Lists result (select (is_linked sums.now) (listed holders.now count)) }
+fn linked_cells(holders: &Cells<81>, sums: &[u16; 27]) -> Cells<81>
+    ensures { result ≡ select (is_linked sums.now) holders.now }
 {
-    let mut list = [0u8; 81];
-    let mut found: usize = 0;
-    for i in 0..count {
-        let cell = holders[i];
-        if is_linked(sums, cell) {
-            list[found] = cell;
-            found += 1;
+    let mut list = Cells::new();
+    for cell in holders.as_slice() {
+        if is_linked(sums, *cell) {
+            list.push(*cell);
         }
     }
-    Cells {
-        cells: list,
-        count: found,
+    list
+}
+
+fn if_seen(cell: u8, next: u8) -> Option<u8>
+    ensures { result ≡ some_cell (cond (sees cell next) next 81) }
+{
+    if next < 81 && are_peers(cell as usize, next as usize) {
+        Some(next)
+    } else {
+        None
     }
 }
 
-fn if_seen(cell: u8, next: u8) -> u8
-    ensures { result ≡ cond (sees cell next) next 81 }
-{
-    if are_peers(cell as usize, next as usize) {
-        return next;
-    }
-    81
+// The cells that have a strong link, rising, and what each unit's holders sum to.
+#[derive(Drop)]
+pub struct Links {
+    pub linked: Cells<81>,
+    pub sums: [u16; 27],
 }
 
-// The ith cell that the walk may go on to: of three strong links, or of the linked cells the ith if it is seen.
-pub fn link_at(linked: &[u8; 81], sums: &[u16; 27], weak: bool, cell: u8, i: usize) -> u8
-    requires { i < 81 }
-    ensures { result ≡ link_at linked.now sums.now weak cell i }
-{
-    if weak {
-        return if_seen(cell, linked[i]);
+impl Links {
+    pub fn new(holders: &Cells<81>) -> Self
+        ensures sums { result.sums ≡ pair_sums holders.now }
+        ensures linked { result.linked ≡ select (is_linked result.sums) holders.now }
+    {
+        let sums = pair_sums(holders);
+        let linked = linked_cells(holders, &sums);
+        Links { linked, sums }
     }
-    other_of(sums, cell, i)
-}
 
-pub fn link_count(weak: bool, count: usize) -> usize
-    ensures { result ≡ cond weak count 3 }
-{
-    if weak {
-        return count;
+    // The ith cell that the walk may go on to: of three strong links, or of the linked cells the ith if it is seen.
+    pub fn link_at(&self, weak: bool, cell: u8, i: usize) -> Option<u8>
+        requires { i < cond weak (length self.now.linked) 3 }
+        ensures { result ≡ some_cell (link_at self.now.linked self.now.sums weak cell i) }
+    {
+        if weak {
+            if_seen(cell, self.linked.as_slice()[i])
+        } else {
+            other_of(&self.sums, cell, i)
+        }
     }
-    3
+
+    pub fn count(&self, weak: bool) -> usize
+        ensures { result ≡ cond weak (length self.now.linked) 3 }
+    {
+        if weak { self.linked.len() } else { 3 }
+    }
 }

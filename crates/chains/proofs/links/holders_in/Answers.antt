@@ -1,17 +1,17 @@
-use mathlib.Core.Path.{sym, ◌∙◌}
+use mathlib.Core.Path.{sym, ap, ◌∙◌}
+use mathlib.Core.List.{List}
+use Prim.Native.Nat.{ℕ}
+use lib.ListN.{length}
 use native.Mathlib.Omega.{arith}
+use Rattle.std.proofs.lemmas.List.{drop_more}
 use Rattle.grid.specs.code.Scopes.{in_scope}
-use Rattle.chains.proofs.Listing.{rest-on, chosen, passed}
-use Rattle.chains.proofs.links.holders_in.Goals.{then-in_scope, else-in_scope}
+use Rattle.chains.proofs.Listing.{has-room}
 use Rattle.chains.proofs.links.holders_in.Goals as goal
 
-pub loop-i-preserved : goal.loop-i-preserved
-loop-i-preserved c =
-    let a = c.args in
-    let hs = a.holders.now in
-    let inv = c.loop-i.invariant in
-    let test = sym c.in_scope.ensures in (
-      omega arith,
-      inv.1,
-      elim c.if-in_scope.branch [ then-in_scope w ↦ chosen (in_scope a.scope) c.loop-i.list c.loop-i.found c.loop-i.i (rest-on hs a.count c.loop-i.i (omega arith)) inv.2 (omega arith) (test ∙ w.if-in_scope.true) w.list-is w.found-is | else-in_scope w ↦ passed (in_scope a.scope) c.loop-i.list c.loop-i.found c.loop-i.i (rest-on hs a.count c.loop-i.i (omega arith)) inv.2 (test ∙ w.if-in_scope.false) w.list-is w.found-is ],
-    )
+pub push-requires : goal.push-requires
+push-requires c =
+    let l = c.loop-cell in
+    let s = c.as_slice-cell-items in
+    let few = s.ensures.few in
+    let same = ap (λ (l : List ℕ). length l) s.ensures.same in
+    (omega arith, has-room (in_scope c.args.scope) l.list s.result.now 81 (drop_more s.result.now l.cell-index 0 (omega arith)) l.invariant (omega (arith, few, same)) (sym c.in_scope.ensures ∙ c.if-in_scope.true))

@@ -2,24 +2,20 @@
 -- path's length. The loop's invariant: the links that are left still decide. Assumes nothing.
 use mathlib.Core.Path.{◌≡◌}
 use mathlib.Core.Bool.{Bool, not}
-use mathlib.Core.List.{List}
+use mathlib.Core.List.{List, reverse}
 use mathlib.Core.Option.{Option}
-use Prim.Native.Nat.{ℕ, ◌-◌, ◌≤◌}
+use Prim.Native.Nat.{ℕ, ◌-◌}
+use lib.ListN.{length, drop}
 use Rattle.steps.specs.Chains.{first_some}
-use Rattle.chains.specs.code.Lists.{listed, trail}
-use Rattle.chains.specs.code.Links.{links_in, enter_in}
-use Rattle.chains.proofs.Listing.{rest}
+use Rattle.chains.specs.code.Links.{enter_in}
 use Rattle.chains.proofs.search.+build_chain.Given as goal
 
 abbrev pub decreases-build_chain : goal.decreases-build_chain
-decreases-build_chain l = 6 - l.path.length
+decreases-build_chain l = 6 - length l.path.now
 
 -- the search one level deeper
-abbrev pub deeper : List ℕ → ℕ → ℕ → Bool → ℕ → List ℕ → ℕ → ℕ → Option ℕ
-deeper holders count start weak depth cells length = enter_in (listed holders count) (6 - depth) start (not weak) (trail cells length)
+abbrev pub deeper : List ℕ → ℕ → Bool → List ℕ → List ℕ → ℕ → Option ℕ
+deeper holders start weak path longer = enter_in holders (6 - length path) start (not weak) (reverse longer)
 
-abbrev pub invariant-loop-i : goal.invariant-loop-i
-invariant-loop-i l =
-    (l.i ≤ l.links.count) × (l.links.count ≤ 81)
-    × (first_some (deeper l.holders l.count l.start l.weak l.depth l.longer.cells l.longer.length) (rest l.links.cells l.links.count l.i)
-    ≡ first_some (deeper l.holders l.count l.start l.weak l.depth l.longer.cells l.longer.length) (links_in (listed l.holders l.count) l.weak l.cell))
+abbrev pub invariant-loop-next : goal.invariant-loop-next
+invariant-loop-next l = first_some (deeper l.holders l.start l.weak l.path l.longer) (drop l.next-index l.next-items) ≡ first_some (deeper l.holders l.start l.weak l.path l.longer) l.next-items

@@ -1,17 +1,37 @@
--- `chains::x_chains::lose_from` meets its contract. Assumes nothing.
-use mathlib.Core.Path.{ap, ◌∙◌}
-use mathlib.Core.Bool.{Bool, false}
-use mathlib.Core.List.{List}
-use Prim.Native.Nat.{ℕ, ◌-◌}
-use Rattle.chains.specs.code.Lists.{listed, trail}
-use Rattle.chains.specs.code.XLinks.{walk_ends, marked, no_ends, lose_seen, lose_from}
+use mathlib.Core.Path.{◌≡◌, refl, sym, ◌∙◌}
+use mathlib.Core.Bool.{◌&&◌}
+use native.Mathlib.Omega.{arith}
+use Rattle.std.specs.List.{list_any}
+use Rattle.candidates.proofs.Tests.{cond-true, cond-false}
+use Rattle.grid.specs.Cells.{sees}
+use Rattle.grid.proofs.Lists.{member-done, members-over}
+use Rattle.steps.specs.Boards.{at}
+use Rattle.chains.specs.code.XLinks.{ends_of, end_sees, lose_caught, lose_from}
+use Rattle.chains.proofs.x_chains.lose_from.Goals.{then-catch, else-catch}
 use Rattle.chains.proofs.x_chains.lose_from.Goals as goal
 
-pub returns : goal.returns
-unfolding lose_from trail
-returns c =
-    let p = c.no_path in
+pub loop-cell-init : goal.loop-cell-init
+unfolding lose_from
+loop-cell-init c = refl
+
+pub loop-cell-preserved : goal.loop-cell-preserved
+loop-cell-preserved c =
     let a = c.args in
-    c.lose_seen.ensures
-    ∙ ap (λ (ends : List Bool). lose_seen a.givens.now a.lost (listed a.holders.now a.held) (listed a.linked.now a.count) a.start ends a.masks.now)
-    (c.walk.ensures ∙ ap (λ (k : ℕ). marked (walk_ends a.linked.now a.count a.sums.now (6 - k) false (trail p.result.cells k) a.start) no_ends) p.ensures)
+    let links = a.links.now in
+    let ends = ends_of links.linked links.sums a.start in
+    let x = at a.holders.now c.loop-cell.cell-index in
+    let start = c.from-ends.ensures.start in
+    let marked = c.from-ends.ensures.marked in
+    let linked = c.as_slice-linked.ensures.same in
+    let caught : c.catch.result ≡ (sees a.start x && list_any (end_sees ends x) links.linked) = c.catch.ensures ∙ (λ i. sees (start i) x && list_any (end_sees (marked i) x) (linked i)) in
+    member-done (lose_caught a.givens.now a.lost links.linked a.start ends) a.holders.now c.loop-cell.cell-index (omega arith)
+    (elim c.if-catch.branch [
+      | then-catch w ↦ w.masks-is ∙ w.lose_at.ensures.masks_after ∙ sym (cond-true (sees a.start x && list_any (end_sees ends x) links.linked) _ c.loop-cell.masks (sym caught ∙ w.if-catch.true))
+      | else-catch w ↦ w.masks-is ∙ sym (cond-false (sees a.start x && list_any (end_sees ends x) links.linked) _ c.loop-cell.masks (sym caught ∙ w.if-catch.false))
+    ]) c.loop-cell.invariant
+
+pub returns : goal.returns
+returns c =
+    let a = c.args in
+    let links = a.links.now in
+    members-over (lose_caught a.givens.now a.lost links.linked a.start (ends_of links.linked links.sums a.start)) a.holders.now c.loop-cell.cell-index (omega arith) c.loop-cell.invariant

@@ -1,18 +1,17 @@
-use mathlib.Core.Path.{refl, ap, ◌∙◌}
+use mathlib.Core.Path.{refl}
 use native.Mathlib.Omega.{arith}
 use lib.ListN.{replicate}
 use Rattle.grid.proofs.Fills.{fill_start, fill_on, fill_end}
-use Rattle.chains.specs.code.XLinks.{pair_sum, pair_sums}
+use Rattle.chains.specs.code.XLinks.{pair_sums}
 use Rattle.chains.proofs.x_links.pair_sums.Goals as goal
 
 pub loop-unit-init : goal.loop-unit-init
 unfolding pair_sums
-loop-unit-init c = (c.requires, fill_start _ 27 (replicate 27 0) refl)
+loop-unit-init c = fill_start _ 27 (replicate 27 0) refl
 
 pub loop-unit-preserved : goal.loop-unit-preserved
 loop-unit-preserved c =
-    let h = c.holders_in in
-    (c.loop-unit.invariant.0, fill_on _ 27 c.loop-unit.unit c.loop-unit.sums c.loop-unit.invariant.1 (omega arith) (c.pair_sum.ensures ∙ ap pair_sum h.ensures.are))
+    fill_on _ 27 c.loop-unit.unit c.loop-unit.sums c.loop-unit.invariant (omega arith) c.pair_sum.ensures
 
 pub returns : goal.returns
-returns c = fill_end _ 27 c.loop-unit.unit c.loop-unit.sums c.loop-unit.invariant.1 c.loop-unit-test.false
+returns c = fill_end _ 27 c.loop-unit.unit c.loop-unit.sums c.loop-unit.invariant c.loop-unit-test.false
