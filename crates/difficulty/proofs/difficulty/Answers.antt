@@ -1,10 +1,6 @@
 use mathlib.Core.Path.{sym, ap, subst, ◌∙◌}
-<<<<<<< HEAD
 use Rattle.stops.specs.Answer.{map}
 use Rattle.stops.proofs.Answers.{passed-on}
-=======
-use Rattle.stops.proofs.Answers.{told}
->>>>>>> 31a260140ab55e6d3e9c21c07f9a068e1eefeb1f
 use Rattle.steps.specs.Boards.{Givens}
 use Rattle.steps.proofs.Lists.{board-givens}
 use Rattle.board.specs.Boards.{board_of}

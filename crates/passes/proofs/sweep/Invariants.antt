@@ -1,10 +1,6 @@
 -- `passes::sweep` meets its contract. The invariant: where the sweep stands after its first passes (`Going`), the masks stand in the lanes, and the passes that are left still make the log and the tally. Assumes nothing.
 use mathlib.Core.Path.{◌≡◌}
-<<<<<<< HEAD
-use Prim.Native.Nat.{◌-◌, ◌≤◌}
-=======
 use Prim.Native.Nat.{◌-◌}
->>>>>>> b619c28605314a799dc7d544f7b0d62cc3fbf751
 use Rattle.steps.specs.Difficulty.{removed_each}
 use Rattle.steps.specs.Loops.{each, for, range}
 use Rattle.steps.specs.Passes.{kinds, sweep}

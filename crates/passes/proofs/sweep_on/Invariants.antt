@@ -1,10 +1,6 @@
 -- `passes::sweep_on` meets its contract. The invariant: the sweeps that are left still make what settling leaves, and with those done its count, its log and its tally; the last passes, `idle` of them, removed nothing. Assumes nothing.
 use mathlib.Core.Path.{◌≡◌}
-<<<<<<< HEAD
-use Prim.Native.Nat.{◌+◌, ◌-◌, ◌≤◌, ◌<◌}
-=======
 use Prim.Native.Nat.{◌+◌, ◌-◌, ◌<◌}
->>>>>>> b619c28605314a799dc7d544f7b0d62cc3fbf751
 use Rattle.steps.specs.Difficulty.{added, removed_in, pass_counts}
 use Rattle.steps.specs.Passes.{settle, settle_in}
 use Rattle.steps.specs.StepLists.{settling_instances}

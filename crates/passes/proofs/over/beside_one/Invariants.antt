@@ -1,11 +1,7 @@
 -- `passes::over::beside_one` meets its contract. The invariant: the cells that are left still make the whole. Assumes nothing.
 use mathlib.Core.Path.{◌≡◌}
 use mathlib.Core.List.{List}
-<<<<<<< HEAD
-use Prim.Native.Nat.{ℕ, ◌-◌, ◌≤◌}
-=======
 use Prim.Native.Nat.{ℕ, ◌-◌}
->>>>>>> b619c28605314a799dc7d544f7b0d62cc3fbf751
 use lib.Bits.{bit_and}
 use Rattle.candidates.specs.Masks.{union, tail}
 use Rattle.steps.specs.Boards.{at}

@@ -1,11 +1,7 @@
 -- `passes::over::lacked` meets its contract. The invariant: the units that are left still make the whole. Assumes nothing.
 use mathlib.Core.Path.{◌≡◌}
 use mathlib.Core.List.{List}
-<<<<<<< HEAD
-use Prim.Native.Nat.{ℕ, ◌-◌, ◌≤◌}
-=======
 use Prim.Native.Nat.{ℕ, ◌-◌}
->>>>>>> b619c28605314a799dc7d544f7b0d62cc3fbf751
 use Rattle.candidates.specs.Masks.{minus, union}
 use Rattle.steps.specs.Loops.{each, range}
 use Rattle.cells.specs.code.Unions.{joined}
