@@ -9,9 +9,9 @@ use borrow.Author.Tests.{eq-eqb, ne_eqb, eqb-true}
 use lib.Dec.{eqb, lit≤}
 use Rattle.candidates.specs.Masks.{count, single, place_mask, lowest, tail}
 use Rattle.candidates.proofs.FewDigits.{count-two}
-use Rattle.candidates.proofs.Tests.{by-test, cond-true, cond-false}
+use Rattle.candidates.proofs.Tests.{cond-true, cond-false}
 use Rattle.grid.specs.Units.{unit, in_unit}
-use Rattle.grid.proofs.Lists.{at-up_to, each-end, each_same}
+use Rattle.grid.proofs.Lists.{at-up_to, each_same}
 use Rattle.steps.specs.Boards.{at, is_open}
 use Rattle.steps.specs.Loops.{each, up_to, above}
 use Rattle.steps.specs.Ported.{spots, x_wing_at, x_wing_digit, x_wings}
@@ -60,12 +60,6 @@ module _ (g : List ℕ) (lines : Lines) (d : ℕ) (list : List ℕ) (i : ℕ) (m
   pub from-none : eqb (count (at list i)) 2 ≡ false → m ≡ wings_from g lines d list i m
   unfolding wings_from
   from-none t = sym (cond-false (eqb (count (at list i)) 2) wings m t)
-
-  -- past the nine lines there is no second one
-  pub from_past : 9 ≤ i → m ≡ wings_from g lines d list i m
-  unfolding wings_from
-  from_past h =
-      sym (by-test (λ (n : List ℕ). n ≡ m) (eqb (count (at list i)) 2) wings m (λ t. each-end (λ j. wing_at g lines d i j (at list i) (at list j)) 9 (i + 1) m (omega arith)) (λ t. refl))
 
 -- ---- the turns of module 5
 

@@ -1,6 +1,6 @@
 // X-wing (module 5): two lines that hold a digit at the same two places and no others; the two lines across lose it everywhere else.
 // The lines are the rows and those across the columns; then rows and columns are exchanged.
-ghost use Rattle.std.specs.Prelude.{◌≡◌};
+ghost use Rattle.std.specs.Prelude.{◌≡◌, ◌<◌};
 ghost use Rattle.steps.specs.Loops.{each, up_to};
 ghost use Rattle.steps.specs.Ported.{x_wings};
 ghost use Rattle.techniques.specs.code.XWings.{lines_from, across_from, wing_at, wings_from, wings_in, wing_digit, twice_of, twice_sets, spots_where, two_spots};
@@ -80,11 +80,9 @@ fn wings_from(
     list: &[u16; 9],
     first: usize,
 )
+    requires { first < 9 }
     ensures { masks.new ≡ wings_from givens.now lines digit list.now first masks.old }
 {
-    if 9 <= first {
-        return;
-    }
     let spots = list[first];
     if !masks::is_two(spots) {
         return;

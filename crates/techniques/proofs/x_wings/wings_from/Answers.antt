@@ -1,14 +1,9 @@
 use mathlib.Core.Path.{sym, ◌∙◌}
 use native.Mathlib.Omega.{arith}
 use Rattle.grid.proofs.Lists.{turn-done, turns-over}
-use Rattle.techniques.proofs.XWings.{from_past, from-none, from-two}
+use Rattle.techniques.proofs.XWings.{from-none, from-two}
 use Rattle.techniques.proofs.x_wings.wings_from.Invariants.{turn}
 use Rattle.techniques.proofs.x_wings.wings_from.Goals as goal
-
-pub returns-then-first-ge9 : goal.returns-then-first-ge9
-returns-then-first-ge9 c =
-    let a = c.args in
-    from_past a.givens.now a.lines a.digit a.list.now a.first a.masks.now c.if-first-ge9.true
 
 pub returns-then-not-is_two : goal.returns-then-not-is_two
 returns-then-not-is_two c =
