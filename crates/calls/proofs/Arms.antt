@@ -1,11 +1,12 @@
 -- A step hands back what the call of its number ensures. Assumes nothing.
-use mathlib.Core.Path.{◌≡◌, refl, sym, ap, ◌∙◌, subst}
+use mathlib.Core.Path.{◌≡◌, refl, sym, ap, ◌∙◌}
 use mathlib.Core.Bool.{Bool, false}
 use mathlib.Core.List.{List, []}
 use mathlib.Core.Option
 use mathlib.Core.Option.{Option, none, some}
 use Prim.Native.Nat.{ℕ}
-use Rattle.std.specs.Prelude.{Result, Ok, Err}
+use Rattle.std.specs.Prelude.{Result, Ok, Err, IsErrAnd}
+use Rattle.std.proofs.lemmas.Result.{err_from_is_err_and}
 use Rattle.stops.specs.Answer.{Answer, answer_of, gives, stop, passing, map}
 use Rattle.stops.specs.declared.Stop.{Stop}
 use Rattle.stops.proofs.Answers.{map-map}
@@ -23,21 +24,23 @@ use Rattle.passes.specs.declared.Counts.{Counts}
 use Rattle.eliminations.specs.code.Calls.{call_of}
 use Rattle.eliminations.specs.declared.Elimination.{Elimination}
 use Rattle.eliminations.specs.declared.Elimination.TheVariants as by
-use Rattle.calls.specs.StepNumbers.{step_call, step_answer, stepped}
+use Rattle.calls.specs.StepNumbers.{step_call, step_answer, stepped, stepping}
 use Rattle.calls.specs.code.QuietSteps.{told_of, quiet_call}
+use Rattle.calls.specs.declared.StepError.{StepError}
+use Rattle.calls.specs.declared.StepError.TheVariants.{Refused}
 use Rattle.calls.specs.declared.Stepped.{Stepped}
 use Rattle.calls.specs.declared.kinds.QuietStep.{QuietStep}
 use Rattle.calls.specs.declared.kinds.QuietStep.TheVariants as quiet
 use Rattle.calls.specs.declared.quiet.Told.{Told}
 
 -- the step of a number
-pub step_is : (b : S.Board) (k : Call) {n : ℕ} → some k ≡ step_call n → some (answer k b) ≡ step_answer n b
+pub step_is : (b : S.Board) (k : Call) (n : ℕ) → some k ≡ step_call n → some (answer k b) ≡ step_answer n b
 unfolding step_answer
-step_is b k is = ap (Option.map (λ (k : Call). answer k b)) is
+step_is b k n is = ap (Option.map (λ (k : Call). answer k b)) is
 
-pub no-step-is : (b : S.Board) {n : ℕ} → none ≡ step_call n → none ≡ step_answer n b
+pub no-step-is : (b : S.Board) (n : ℕ) → none ≡ step_call n → none ≡ step_answer n b
 unfolding step_answer
-no-step-is b is = ap (Option.map (λ (k : Call). answer k b)) is
+no-step-is b n is = ap (Option.map (λ (k : Call). answer k b)) is
 
 -- ---- parts of an answer
 
@@ -178,3 +181,7 @@ pub uncounted-search : (x : Search) → Uncounted (search_call x)
 uncounted-search search.Naked = uncounted-naked
 uncounted-search search.Hidden = uncounted-hidden
 uncounted-search search.Advanced = uncounted-advanced
+
+-- what a `?` hands on as a step's error is the stop that it met
+pub step-refused : {A : Type 0} (r : Result A StepError) {s : Stop} → IsErrAnd r (λ e. e ≡ Refused s) → stepping r ≡ some (stop s)
+step-refused r h = let p = err_from_is_err_and r h in ap stepping p.1 ∙ ap (λ (e : StepError). stepping (Err e)) p.2

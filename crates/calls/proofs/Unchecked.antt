@@ -1,11 +1,11 @@
 -- Steps that are run without a check: on boards that a list reaches none is refused. Assumes nothing.
-use mathlib.Core.Path.{◌≡◌, refl, sym, ap, subst, ◌∙◌}
-use mathlib.Core.List.{List, map}
+use mathlib.Core.Path.{◌≡◌, refl, sym, ap, subst}
+use mathlib.Core.List.{List}
 use mathlib.Core.Option
 use mathlib.Core.Option.{Option, none, some}
-use Prim.Native.Nat.{ℕ, ◌≤◌}
+use Prim.Native.Nat.{ℕ}
 use lib.IntN.{ℤ, pos}
-use lib.ListN.{length, get_or, get_or-eq_default}
+use lib.ListN.{length, get_or}
 use Rattle.stops.specs.Answer.{Answer, gives, then, passing, stop_at, value_or}
 use Rattle.stops.specs.declared.Stop.TheVariants.{BadClue, BadEntry}
 use Rattle.stops.proofs.Answers.{stop-gives}
@@ -16,19 +16,8 @@ use Rattle.steps.proofs.Searches.{none-cells}
 use Rattle.steps.proofs.Fresh.{fresh-admissible}
 use Rattle.steps.proofs.Lists.{Good, accepted, opened-good, call-admits}
 use Rattle.board.specs.Boards.{open_with_of}
-use Rattle.calls.specs.StepNumbers.{step_call, step_calls, step_answer, step_left}
+use Rattle.calls.specs.StepNumbers.{step_call, step_answer, step_left}
 use Rattle.calls.specs.code.Unchecked.{call_masks, step_masks}
-
-module _ (g m : List ℕ) where
-  -- the step of a number
-  pub masks-are : (k : Call) (j : ℕ) {n : ℕ} → n ≡ j → get_or (map some step_calls) j none ≡ some k → (outcome k g m).masks ≡ step_masks n g m
-  unfolding step_masks step_call
-  masks-are k j e is = sym (ap (λ (i : ℕ). call_masks (get_or (map some step_calls) i none) g m) e ∙ ap (λ (o : Option Call). call_masks o g m) is)
-
-  -- a number past all of them
-  pub masks-stay : {n : ℕ} → 16 ≤ n → m ≡ step_masks n g m
-  unfolding step_masks step_call
-  masks-stay past = sym (ap (λ (o : Option Call). call_masks o g m) (get_or-eq_default (map some step_calls) none past))
 
 -- ---- on boards that are admitted
 

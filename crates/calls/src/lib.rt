@@ -16,8 +16,8 @@ use stops::Stop;
 use techniques::singles::Reports;
 use techniques::{Reported, report};
 
-mod lists;
 pub mod kinds;
+mod lists;
 pub mod quiet;
 
 // Why a step is not done: its number is no step's, or its call refuses the board.
@@ -72,10 +72,12 @@ fn of_told(told: Told) -> Stepped
 pub fn step(number: u8, board: &mut Board) -> Result<Stepped, StepError>
     ensures { HandsBack (board_of board.old) (step_answer number (board_of board.old)) result (board_of board.new) }
 {
-    match step_of(number) {
-        None => Err(StepError::NoStep),
-        Some(Step::Search(search)) => Ok(of_reported(report(search, board)?)),
-        Some(Step::Quiet(quiet)) => Ok(of_told(quiet_step(
+    let Some(step) = step_of(number) else {
+        return Err(StepError::NoStep);
+    };
+    match step {
+        Step::Search(search) => Ok(of_reported(report(search, board)?)),
+        Step::Quiet(quiet) => Ok(of_told(quiet_step(
             quiet,
             &board.clues,
             &board.entries,
@@ -100,11 +102,7 @@ impl From<Stop> for ReplayError {
 }
 
 // The board after the steps of a list, one after the other, from the fresh board of clues and entries. Nothing is run where a clue, an entry or a byte is refused.
-pub fn replay(
-    clues: [i32; 81],
-    entries: [i32; 81],
-    steps: &[u8],
-) -> Result<Board, ReplayError>
+pub fn replay(clues: [i32; 81], entries: [i32; 81], steps: &[u8]) -> Result<Board, ReplayError>
     ensures { Replays clues entries steps.now result }
 {
     let board = Board::with_entries(clues, entries)?;

@@ -1,16 +1,17 @@
 // Lists of step numbers: the first byte that is none, and a list run from a board.
-ghost use Rattle.std.specs.Prelude.{◌≡◌};
-ghost use Rattle.steps.specs.Calls.{Admitted, run};
-ghost use Rattle.stops.specs.Answer.{found_of};
+ghost use Rattle.std.specs.Prelude.{◌≡◌, not, position};
+ghost use Rattle.steps.specs.Calls.{Admitted, outcome, run};
+ghost use Rattle.techniques.specs.code.Searches.{search_call};
 ghost use Rattle.board.specs.Boards.{board_of};
-ghost use Rattle.calls.specs.Replays.{calls_of, first_no_step};
+ghost use Rattle.calls.specs.Replays.{calls_of};
 ghost use Rattle.calls.specs.StepNumbers.{is_step};
+ghost use Rattle.calls.specs.code.QuietSteps.{quiet_call};
 ghost use Rattle.calls.specs.code.Unchecked.{step_masks};
 
 use crate::kinds::{QuietStep, Step, step_of};
+use board::Board;
 use board::entries::givens_of;
 use board::fresh::fresh_masks;
-use board::Board;
 use eliminations::eliminate;
 use passes::settle;
 use techniques::{Search, advance};
@@ -26,30 +27,51 @@ fn is_step(number: u8) -> bool
 
 // The index of the first byte that is no step number.
 pub fn first_no_step(steps: &[u8]) -> Option<usize>
-    ensures { found_of result ≡ first_no_step steps.now }
+    ensures { result ≡ position (λ n. not (is_step n)) steps.now }
 {
     steps.iter().position(|&number| !is_step(number))
 }
 
-// What a step leaves of masks that its check would admit; singles leave them as they are, and so does a number that is no step's.
-fn step_masks(number: u8, givens: &[u8; 81], masks: &mut [u16; 81])
-    ensures { masks.new ≡ step_masks number givens.now masks.old }
+// What a step that reports leaves of masks that its check would admit.
+#[tactic(auto, unfolding(steps::specs::Calls::outcome))]
+fn search_masks(search: Search, givens: &[u8; 81], masks: &mut [u16; 81])
+    ensures { masks.new ≡ (outcome (search_call search) givens.now masks.old).masks }
 {
-    match step_of(number) {
-        None => {}
-        Some(Step::Search(Search::Advanced)) => {
+    match search {
+        Search::Naked => {}
+        Search::Hidden => {}
+        Search::Advanced => {
             advance(givens, masks);
         }
-        Some(Step::Search(_)) => {}
-        Some(Step::Quiet(QuietStep::Update)) => *masks = fresh_masks(givens),
-        Some(Step::Quiet(QuietStep::Eliminate(elimination))) => {
-            eliminate(elimination, givens, masks)
-        }
-        Some(Step::Quiet(QuietStep::Settle)) => {
+    }
+}
+
+// What any other step leaves of them.
+#[tactic(auto, unfolding(steps::specs::Calls::outcome))]
+fn quiet_masks(step: QuietStep, givens: &[u8; 81], masks: &mut [u16; 81])
+    ensures { masks.new ≡ (outcome (quiet_call step) givens.now masks.old).masks }
+{
+    match step {
+        QuietStep::Update => *masks = fresh_masks(givens),
+        QuietStep::Eliminate(elimination) => eliminate(elimination, givens, masks),
+        QuietStep::Settle => {
             let mut none: [u8; 0] = [];
             let mut by_pass = [0usize; 6];
             settle(givens, masks, &mut none, &mut by_pass);
         }
+    }
+}
+
+// A number that is no step's leaves them as they are.
+fn step_masks(number: u8, givens: &[u8; 81], masks: &mut [u16; 81])
+    ensures { masks.new ≡ step_masks number givens.now masks.old }
+{
+    let Some(step) = step_of(number) else {
+        return;
+    };
+    match step {
+        Step::Search(search) => search_masks(search, givens, masks),
+        Step::Quiet(quiet) => quiet_masks(quiet, givens, masks),
     }
 }
 
