@@ -2,64 +2,63 @@
 // a text or clue numbers with the stop and what stands beside it, `step NUMBER FLAG REMOVED` by step numbers, a mask by its cell.
 #![tactic(auto)]
 
-use board::entries::{Pencilled, enter, rub_out};
-use board::{Board, BoardVerdict, CellMask, Counting, Verdict};
+use board::entries::{enter, rub_out};
+use board::{Board, Verdict};
 use calls::{Stepping, step};
 use printing::{number, refusal, word};
 use record::{move_back, move_record, write_record};
 use std::io;
-use stops::{Check, Stop, Writing};
+use stops::Stop;
 
 fn end(rt: &impl Print) -> io::Result<()> {
-    word(rt, b"\n")?;
-    Ok(())
+    word(rt, b"\n")
 }
 
 fn line(rt: &impl Print, name: &[u8], a: u64, b: u64) -> io::Result<()> {
     word(rt, name)?;
     number(rt, a)?;
     number(rt, b)?;
-    end(rt)?;
-    Ok(())
+    end(rt)
 }
 
 fn refused(rt: &impl Print, name: &[u8], stop: Stop) -> io::Result<()> {
     word(rt, name)?;
     refusal(rt, stop)?;
-    end(rt)?;
-    Ok(())
+    end(rt)
 }
 
-fn checked(rt: &impl Print, name: &[u8], answer: Check) -> io::Result<()> {
+// What a call answers: `a` and its value, or its stop.
+fn told(rt: &impl Print, name: &[u8], a: u64, answer: Result<u64, Stop>) -> io::Result<()> {
     match answer {
-        Check::Passed => line(rt, name, 0, 0)?,
-        Check::Refused(stop) => refused(rt, name, stop)?,
+        Ok(value) => line(rt, name, a, value),
+        Err(stop) => refused(rt, name, stop),
     }
-    Ok(())
+}
+
+fn checked(rt: &impl Print, name: &[u8], answer: Result<(), Stop>) -> io::Result<()> {
+    told(rt, name, 0, answer.map(|_| 0))
 }
 
 fn read(rt: &impl Print, name: &[u8], bytes: &[u8]) -> io::Result<()> {
-    let parsed = text::parse_string(bytes);
-    let answer = parsed.answer;
-    checked(rt, name, answer)?;
-    Ok(())
+    checked(rt, name, text::parse_string(bytes).map(|_| ()))
 }
 
 fn open(rt: &impl Print, name: &[u8], clues: [i32; 81]) -> io::Result<()> {
-    let opened = Board::new(clues);
-    let answer = opened.answer;
-    checked(rt, name, answer)?;
-    Ok(())
+    checked(rt, name, Board::new(clues).map(|_| ()))
 }
 
+// The clues of a text; none where it is refused.
 fn clues_of(bytes: &[u8]) -> [i32; 81] {
-    let parsed = text::parse_string(bytes);
-    parsed.clues
+    text::parse_string(bytes).unwrap_or([0; 81])
 }
 
+// The board of a text; empty where its clues are refused.
 fn fresh(bytes: &[u8]) -> Board {
-    let opened = Board::new(clues_of(bytes));
-    opened.board
+    Board::new(clues_of(bytes)).unwrap_or(Board {
+        clues: [0; 81],
+        entries: [0; 81],
+        masks: [0; 81],
+    })
 }
 
 fn with_clue(clues: [i32; 81], cell: usize, clue: i32) -> [i32; 81] {
@@ -71,23 +70,13 @@ fn with_clue(clues: [i32; 81], cell: usize, clue: i32) -> [i32; 81] {
 }
 
 fn mask(rt: &impl Print, name: &[u8], board: Board, cell: u32) -> io::Result<()> {
-    match board.cell_mask(cell) {
-        CellMask::Mask(mask) => line(rt, name, cell as u64, mask as u64)?,
-        CellMask::Refused(stop) => refused(rt, name, stop)?,
-    }
-    Ok(())
+    told(rt, name, cell as u64, board.cell_mask(cell).map(u64::from))
 }
 
 fn row_masks(rt: &impl Print, name: &[u8], board: Board) -> io::Result<()> {
-    mask(rt, name, board, 0)?;
-    mask(rt, name, board, 1)?;
-    mask(rt, name, board, 2)?;
-    mask(rt, name, board, 3)?;
-    mask(rt, name, board, 4)?;
-    mask(rt, name, board, 5)?;
-    mask(rt, name, board, 6)?;
-    mask(rt, name, board, 7)?;
-    mask(rt, name, board, 8)?;
+    for cell in 0..9 {
+        mask(rt, name, board, cell)?;
+    }
     Ok(())
 }
 
@@ -132,16 +121,9 @@ fn take(rt: &impl Print, name: &[u8], which: u8, board: Board) -> io::Result<Boa
 
 // Every pass, each on the same board.
 fn passes(rt: &impl Print, name: &[u8], board: Board) -> io::Result<()> {
-    take(rt, name, 1, board)?;
-    take(rt, name, 2, board)?;
-    take(rt, name, 3, board)?;
-    take(rt, name, 7, board)?;
-    take(rt, name, 8, board)?;
-    take(rt, name, 9, board)?;
-    take(rt, name, 10, board)?;
-    take(rt, name, 14, board)?;
-    take(rt, name, 11, board)?;
-    take(rt, name, 13, board)?;
+    for which in [1, 2, 3, 7, 8, 9, 10, 14, 11, 13] {
+        take(rt, name, which, board)?;
+    }
     Ok(())
 }
 
@@ -149,14 +131,12 @@ fn settle(rt: &impl Print, name: &[u8], board: Board) -> io::Result<()> {
     let done = step(12, board);
     let sweeps = done.sweeps;
     let removed = done.removed;
-    line(rt, name, sweeps as u64, removed as u64)?;
-    Ok(())
+    line(rt, name, sweeps as u64, removed as u64)
 }
 
 fn report(rt: &impl Print, cell: u8, digit: u8) -> io::Result<()> {
     number(rt, cell as u64)?;
-    number(rt, digit as u64)?;
-    Ok(())
+    number(rt, digit as u64)
 }
 
 // How many reports, and the first three.
@@ -170,8 +150,7 @@ fn reports(rt: &impl Print, name: &[u8], which: u8, board: Board) -> io::Result<
     report(rt, cells[0], digits[0])?;
     report(rt, cells[1], digits[1])?;
     report(rt, cells[2], digits[2])?;
-    end(rt)?;
-    Ok(())
+    end(rt)
 }
 
 fn verify(rt: &impl Print, name: &[u8], grid: [i32; 81]) -> io::Result<()> {
@@ -185,38 +164,36 @@ fn verify(rt: &impl Print, name: &[u8], grid: [i32; 81]) -> io::Result<()> {
 }
 
 // What a writer answers, and the first four of its eight bytes.
-fn written(rt: &impl Print, name: &[u8], writing: Writing, bytes: &[u8; 8]) -> io::Result<()> {
-    match writing {
-        Writing::Written(length) => line(rt, name, 0, length as u64)?,
-        Writing::Refused(stop) => refused(rt, name, stop)?,
-    }
+fn written(
+    rt: &impl Print,
+    name: &[u8],
+    answer: Result<usize, Stop>,
+    bytes: &[u8; 8],
+) -> io::Result<()> {
+    told(rt, name, 0, answer.map(|length| length as u64))?;
     word(rt, name)?;
     report(rt, bytes[0], bytes[1])?;
     report(rt, bytes[2], bytes[3])?;
-    end(rt)?;
-    Ok(())
+    end(rt)
 }
 
 // The record in eight lent bytes that were 255.
 fn record(rt: &impl Print, name: &[u8], board: Board) -> io::Result<()> {
     let mut bytes = [255u8; 8];
-    let writing = write_record(board, &mut bytes);
-    written(rt, name, writing, &bytes)?;
-    Ok(())
+    let answer = write_record(&board, &mut bytes);
+    written(rt, name, answer, &bytes)
 }
 
 fn moved(rt: &impl Print, name: &[u8], old: &[u8]) -> io::Result<()> {
     let mut bytes = [255u8; 8];
-    let writing = move_record(old, &mut bytes);
-    written(rt, name, writing, &bytes)?;
-    Ok(())
+    let answer = move_record(old, &mut bytes);
+    written(rt, name, answer, &bytes)
 }
 
 fn moved_back(rt: &impl Print, name: &[u8], new: &[u8]) -> io::Result<()> {
     let mut bytes = [255u8; 8];
-    let writing = move_back(new, &mut bytes);
-    written(rt, name, writing, &bytes)?;
-    Ok(())
+    let answer = move_back(new, &mut bytes);
+    written(rt, name, answer, &bytes)
 }
 
 fn empty_grid(rt: &impl Print) -> io::Result<()> {
@@ -231,8 +208,7 @@ fn empty_grid(rt: &impl Print) -> io::Result<()> {
     take(rt, b"P1 step", 6, board)?;
     passes(rt, b"P1 step", board)?;
     settle(rt, b"P1 settled", board)?;
-    record(rt, b"P1 record", board)?;
-    Ok(())
+    record(rt, b"P1 record", board)
 }
 
 fn stops(rt: &impl Print) -> io::Result<()> {
@@ -252,8 +228,7 @@ fn one_open(rt: &impl Print) -> io::Result<()> {
     );
     mask(rt, b"P5 mask", board, 0)?;
     reports(rt, b"P5 naked", 4, board)?;
-    reports(rt, b"P5 hidden", 5, board)?;
-    Ok(())
+    reports(rt, b"P5 hidden", 5, board)
 }
 
 fn filled(rt: &impl Print) -> io::Result<()> {
@@ -268,8 +243,7 @@ fn filled(rt: &impl Print) -> io::Result<()> {
         rt,
         b"P6 verify exchanged",
         with_clue(with_clue(a, 0, 2), 1, 1),
-    )?;
-    Ok(())
+    )
 }
 
 fn six_open(rt: &impl Print) -> io::Result<()> {
@@ -282,8 +256,7 @@ fn six_open(rt: &impl Print) -> io::Result<()> {
     mask(rt, b"P7 mask", board, 28)?;
     mask(rt, b"P7 mask", board, 54)?;
     mask(rt, b"P7 mask", board, 55)?;
-    passes(rt, b"P7 step", board)?;
-    Ok(())
+    passes(rt, b"P7 step", board)
 }
 
 fn pairs(rt: &impl Print) -> io::Result<()> {
@@ -305,8 +278,7 @@ fn lines(rt: &impl Print) -> io::Result<()> {
     );
     let after = take(rt, b"P10 step", 2, board)?;
     take(rt, b"P10 step", 2, after)?;
-    settle(rt, b"P10 settled", board)?;
-    Ok(())
+    settle(rt, b"P10 settled", board)
 }
 
 fn conflict(rt: &impl Print) -> io::Result<()> {
@@ -315,8 +287,7 @@ fn conflict(rt: &impl Print) -> io::Result<()> {
     let board = fresh(text);
     row_masks(rt, b"P11 mask", board)?;
     let done = step(12, board);
-    row_masks(rt, b"P11 settled", done.board)?;
-    Ok(())
+    row_masks(rt, b"P11 settled", done.board)
 }
 
 // No wide pass but Claiming removes anything, so that a sweep without it would stop at once.
@@ -325,42 +296,43 @@ fn claims(rt: &impl Print) -> io::Result<()> {
         b"...456789........................................................................",
     );
     passes(rt, b"F-5 step", board)?;
-    settle(rt, b"F-5 settled", board)?;
-    Ok(())
+    settle(rt, b"F-5 settled", board)
 }
 
-// A digit entered or rubbed out; the board after it.
-fn pencil(rt: &impl Print, name: &[u8], done: Pencilled) -> io::Result<Board> {
-    let answer = done.answer;
-    let board = done.board;
-    checked(rt, name, answer)?;
-    Ok(board)
+// A digit entered; the board after it.
+fn entering(rt: &impl Print, board: &Board, cell: u32, digit: i32) -> io::Result<Board> {
+    let mut after = *board;
+    let answer = enter(&mut after, cell, digit);
+    checked(rt, b"F-6 enter", answer)?;
+    Ok(after)
+}
+
+// The digit of a cell rubbed out; the board after it.
+fn rubbing_out(rt: &impl Print, board: &Board, cell: u32) -> io::Result<Board> {
+    let mut after = *board;
+    let answer = rub_out(&mut after, cell);
+    checked(rt, b"F-6 rub out", answer)?;
+    Ok(after)
 }
 
 fn count(rt: &impl Print, name: &[u8], board: Board) -> io::Result<()> {
-    match board.clue_count() {
-        Counting::Clues(count) => line(rt, name, 0, count as u64)?,
-        Counting::Refused(stop) => refused(rt, name, stop)?,
-    }
-    Ok(())
+    told(rt, name, 0, board.clue_count().map(|n| n as u64))
 }
 
 fn judged(rt: &impl Print, name: &[u8], verdict: Verdict) -> io::Result<()> {
     word(rt, name)?;
     match verdict {
-        Verdict::Dead => word(rt, b" dead\n")?,
-        Verdict::Finished => word(rt, b" finished\n")?,
-        Verdict::Open => word(rt, b" open\n")?,
+        Verdict::Dead => word(rt, b" dead\n"),
+        Verdict::Finished => word(rt, b" finished\n"),
+        Verdict::Open => word(rt, b" open\n"),
     }
-    Ok(())
 }
 
 fn verdict(rt: &impl Print, name: &[u8], board: Board) -> io::Result<()> {
     match board.verdict() {
-        BoardVerdict::Is(found) => judged(rt, name, found)?,
-        BoardVerdict::Refused(stop) => refused(rt, name, stop)?,
+        Ok(found) => judged(rt, name, found),
+        Err(stop) => refused(rt, name, stop),
     }
-    Ok(())
 }
 
 // The right digit and a wrong one in the open cell of P5; then the stops.
@@ -368,21 +340,21 @@ fn entered(rt: &impl Print) -> io::Result<()> {
     let board = fresh(
         b".23456789456789123789123456231564897564897231897231564312645978645978312978312645",
     );
-    let right = pencil(rt, b"F-6 enter", enter(board, 0, 1))?;
+    let right = entering(rt, &board, 0, 1)?;
     mask(rt, b"F-6 mask", right, 0)?;
     reports(rt, b"F-6 naked", 4, right)?;
     count(rt, b"F-6 count", right)?;
     verdict(rt, b"F-6 verdict", right)?;
-    let wrong = pencil(rt, b"F-6 enter", enter(board, 0, 2))?;
+    let wrong = entering(rt, &board, 0, 2)?;
     mask(rt, b"F-6 mask", wrong, 0)?;
     verdict(rt, b"F-6 verdict", wrong)?;
-    pencil(rt, b"F-6 enter", enter(board, 81, 0))?;
-    pencil(rt, b"F-6 enter", enter(board, 1, 0))?;
-    pencil(rt, b"F-6 enter", enter(board, 1, 1))?;
-    pencil(rt, b"F-6 enter", enter(right, 0, 2))?;
-    pencil(rt, b"F-6 rub out", rub_out(board, 81))?;
-    pencil(rt, b"F-6 rub out", rub_out(board, 1))?;
-    pencil(rt, b"F-6 rub out", rub_out(board, 0))?;
+    entering(rt, &board, 81, 0)?;
+    entering(rt, &board, 1, 0)?;
+    entering(rt, &board, 1, 1)?;
+    entering(rt, &right, 0, 2)?;
+    rubbing_out(rt, &board, 81)?;
+    rubbing_out(rt, &board, 1)?;
+    rubbing_out(rt, &board, 0)?;
     Ok(())
 }
 
@@ -391,9 +363,9 @@ fn rubbed(rt: &impl Print) -> io::Result<()> {
     let board = fresh(
         b".........456......789............................................................",
     );
-    let entered = pencil(rt, b"F-6 enter", enter(board, 80, 1))?;
+    let entered = entering(rt, &board, 80, 1)?;
     let after = take(rt, b"F-6 step", 2, entered)?;
-    let back = pencil(rt, b"F-6 rub out", rub_out(after, 80))?;
+    let back = rubbing_out(rt, &after, 80)?;
     line(rt, b"F-6 left", fewer(board, back), fewer(back, board))?;
     let text = b"55...............................................................................";
     let masks = fresh(text).masks;
@@ -403,12 +375,11 @@ fn rubbed(rt: &impl Print) -> io::Result<()> {
         masks,
     };
     mask(rt, b"F-6 mask", clash, 0)?;
-    let one = pencil(rt, b"F-6 enter", enter(fresh(&[b'.'; 81]), 80, 1))?;
+    let one = entering(rt, &fresh(&[b'.'; 81]), 80, 1)?;
     record(rt, b"F-8 record", one)?;
     moved(rt, b"F-8 moved", &[0; 3])?;
     moved_back(rt, b"F-8 moved back", &[0; 4])?;
-    moved_back(rt, b"F-8 moved back", &[0, 1, 80, 1, 0, 0])?;
-    Ok(())
+    moved_back(rt, b"F-8 moved back", &[0, 1, 80, 1, 0, 0])
 }
 
 fn main(rt: HostRuntime) -> io::Result<()> {
@@ -422,6 +393,5 @@ fn main(rt: HostRuntime) -> io::Result<()> {
     conflict(&rt)?;
     claims(&rt)?;
     entered(&rt)?;
-    rubbed(&rt)?;
-    Ok(())
+    rubbed(&rt)
 }
