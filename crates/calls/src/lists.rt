@@ -1,5 +1,5 @@
 // Lists of step numbers: the first byte that is none, and a list run from a board.
-ghost use Rattle.std.specs.Prelude.{◌≡◌};
+ghost use Rattle.std.specs.Prelude.{◌≡◌, not, position};
 ghost use Rattle.steps.specs.Calls.{Admitted, run};
 ghost use Rattle.board.specs.Answers.{found_cell};
 ghost use Rattle.board.specs.Boards.{board_of, no_board};
@@ -24,18 +24,20 @@ fn is_step(number: u8) -> bool
     number < STEPS
 }
 
+fn no_step_at(steps: &[u8]) -> Option<usize>
+    ensures { result ≡ position (λ n. not (is_step n)) steps.now }
+{
+    steps.iter().position(|&number| !is_step(number))
+}
+
 // The index of the first byte that is no step number.
 pub fn first_no_step(steps: &[u8]) -> Found
     ensures { found_cell result ≡ first_no_step steps.now }
 {
-    let mut index = 0;
-    while index < steps.len() {
-        if !is_step(steps[index]) {
-            return Found::At(index);
-        }
-        index += 1;
+    match no_step_at(steps) {
+        Some(index) => Found::At(index),
+        None => Found::Nothing,
     }
-    Found::Nothing
 }
 
 // What a step leaves of masks that its check would admit; singles leave them as they are, and so does a number that is no step's.
@@ -78,10 +80,8 @@ pub fn run(steps: &[u8], opened: Board) -> Board
     let entries = opened.entries;
     let mut masks = opened.masks;
     let givens = givens_of(&clues, &entries);
-    let mut index = 0;
-    while index < steps.len() {
-        step_masks(steps[index], &givens, &mut masks);
-        index += 1;
+    for &step in steps {
+        step_masks(step, &givens, &mut masks);
     }
     Board {
         clues,

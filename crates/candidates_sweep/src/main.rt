@@ -34,10 +34,8 @@ const MASKS: [u16; 6] = [0, 1, 73, 292, 511, 65535];
 // The answers of a call on all masks, rising.
 fn checksum(call: Call) -> u64 {
     let mut sum: u64 = 0;
-    let mut mask: u32 = 0;
-    while mask < 65536 {
-        sum = fold(sum, calls::answer(call, mask as u16));
-        mask += 1;
+    for mask in 0..=u16::MAX {
+        sum = fold(sum, calls::answer(call, mask));
     }
     sum
 }

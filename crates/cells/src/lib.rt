@@ -2,7 +2,7 @@
 // Every function is total: a number above 80 is no cell, has no candidate and is not open.
 #![tactic(auto)]
 
-ghost use Rattle.std.specs.Prelude.{◌≡◌, cond, not, eqb};
+ghost use Rattle.std.specs.Prelude.{◌≡◌, cond, eqb};
 ghost use Rattle.steps.specs.Boards.{is_open, total};
 ghost use Rattle.steps.specs.Passes.{changed};
 ghost use Rattle.cells.specs.code.Places.{mask_at, open_at, lose_in, lose_places, open_mask, unit_masks, all_masks, spots_in, held_places, line_spots, all_but, loose_digits};
@@ -17,10 +17,7 @@ pub mod unions;
 pub fn is_open(givens: &[u8; 81], cell: usize) -> bool
     ensures { result ≡ open_at givens.now cell }
 {
-    if cell < 81 {
-        return givens[cell] == 0;
-    }
-    false
+    cell < 81 && givens[cell] == 0
 }
 
 pub fn mask_at(masks: &[u16; 81], cell: usize) -> u16
@@ -61,12 +58,10 @@ pub fn lose_places(
     ensures value { result ≡ changed masks.old masks.new }
 {
     let mut any = false;
-    let mut place: usize = 0;
-    while place < 9 {
+    for place in 0..9 {
         if masks::has_digit(places, place) {
-            any = any | lose_at(givens, masks, unit_cell(unit, place), lost);
+            any |= lose_at(givens, masks, unit_cell(unit, place), lost);
         }
-        place += 1;
     }
     any
 }
@@ -96,10 +91,8 @@ pub fn loose_digits(givens: &[u8; 81], masks: &[u16; 81]) -> u16
     ensures { result ≡ loose_digits givens.now masks.now }
 {
     let mut held: u16 = 0;
-    let mut cell: usize = 0;
-    while cell < 81 {
+    for cell in 0..81 {
         held = masks::join(held, masks::meet(masks[cell], door(givens[cell])));
-        cell += 1;
     }
     held
 }
@@ -109,10 +102,8 @@ pub fn unit_masks(givens: &[u8; 81], masks: &[u16; 81], unit: usize) -> [u16; 9]
     ensures { result ≡ unit_masks givens.now masks.now unit }
 {
     let mut nine = [0u16; 9];
-    let mut place: usize = 0;
-    while place < 9 {
+    for place in 0..9 {
         nine[place] = open_mask(givens, masks, unit_cell(unit, place));
-        place += 1;
     }
     nine
 }
@@ -122,10 +113,8 @@ pub fn all_masks(masks: &[u16; 81], unit: usize) -> [u16; 9]
     ensures { result ≡ all_masks masks.now unit }
 {
     let mut nine = [0u16; 9];
-    let mut place: usize = 0;
-    while place < 9 {
+    for place in 0..9 {
         nine[place] = mask_at(masks, unit_cell(unit, place));
-        place += 1;
     }
     nine
 }
@@ -135,12 +124,10 @@ pub fn places_of(nine: &[u16; 9], digit: usize) -> u16
     ensures { result ≡ spots_in nine.now digit }
 {
     let mut found: u16 = 0;
-    let mut place: usize = 0;
-    while place < 9 {
-        if masks::has_digit(nine[place], digit) {
+    for (place, mask) in nine.iter().enumerate() {
+        if masks::has_digit(*mask, digit) {
             found = masks::join(found, masks::digit_mask(place));
         }
-        place += 1;
     }
     found
 }
@@ -161,11 +148,9 @@ pub fn line_spots(givens: &[u8; 81], masks: &[u16; 81], first: usize, digit: usi
     if 27 <= first {
         return list;
     }
-    let mut line: usize = 0;
-    while line < 9 {
+    for line in 0..9 {
         let nine = unit_masks(givens, masks, first + line);
         list[line] = places_of(&nine, digit);
-        line += 1;
     }
     list
 }
@@ -177,21 +162,13 @@ pub fn all_but(first: usize, second: usize) -> u16
     masks::lose_digit(masks::lose_digit(511, first), second)
 }
 
-fn differ(mask: u16, other: u16) -> bool
-    ensures { result ≡ not (eqb mask other) }
-{
-    mask != other
-}
-
 // Whether any mask differs: "whether it removed anything", once a pass is over. All are compared, with no early end, so that the compiler compares many at once.
 pub fn changed(before: [u16; 81], after: [u16; 81]) -> bool
     ensures { result ≡ changed before after }
 {
     let mut any = false;
-    let mut cell: usize = 0;
-    while cell < 81 {
-        any = any | differ(before[cell], after[cell]);
-        cell += 1;
+    for cell in 0..81 {
+        any |= before[cell] != after[cell];
     }
     any
 }
@@ -201,10 +178,8 @@ pub fn total(masks: [u16; 81]) -> usize
     ensures { result ≡ total masks }
 {
     let mut sum: u16 = 0;
-    let mut cell: usize = 0;
-    while cell < 81 {
-        sum += masks::digit_count(masks[cell]) as u16;
-        cell += 1;
+    for mask in &masks {
+        sum += masks::digit_count(*mask) as u16;
     }
     sum as usize
 }

@@ -81,7 +81,7 @@ fn line_unit(block: usize, nth: usize) -> usize
     27
 }
 
-// The nth of them.
+// The nth of them. No `Option`: 27 has no cells, so no caller has a case for it.
 pub fn met_unit(unit: usize, nth: usize) -> usize
     ensures { result ≡ met_unit unit nth }
 {

@@ -5,20 +5,11 @@ ghost use Rattle.steps.specs.Boards.{at};
 ghost use Rattle.steps.specs.code.Logs.{steps_noted, noted};
 ghost use Rattle.cells.specs.code.Notes.{steps_held};
 
-fn wide(byte: u8) -> usize
-    ensures { (result ≡ byte) × (result < 256) }
-{
-    byte as usize
-}
-
 // The byte at a place, 0 past the log's end.
 fn byte_at(log: &[u8], place: usize) -> usize
     ensures { (result ≡ at log.now place) × (result < 256) }
 {
-    if place < log.len() {
-        return wide(log[place]);
-    }
-    0
+    log.get(place).copied().map_or(0, usize::from)
 }
 
 pub fn steps_noted(log: &[u8]) -> usize
@@ -54,19 +45,23 @@ pub fn note(
     }
     let count = steps_noted(log);
     if count < 729 {
-        let place = 6 * count;
-        put(log, place, kind as u8);
-        put(log, place + 1, first as u8);
-        put(log, place + 2, second as u8);
-        put(log, place + 3, third as u8);
-        put(log, place + 4, fourth as u8);
-        put(log, place + 5, fifth as u8);
+        let step = [
+            kind as u8,
+            first as u8,
+            second as u8,
+            third as u8,
+            fourth as u8,
+            fifth as u8,
+        ];
+        for (part, byte) in step.iter().enumerate() {
+            put(log, 6 * count + part, *byte);
+        }
         put(log, 4374, ((count + 1) % 256) as u8);
         put(log, 4375, ((count + 1) / 256) as u8);
     }
 }
 
-// Steps with their count; the bytes after them are 0.
+// Steps with their count; the bytes after them are 0. A fixed buffer: the engine has no heap.
 #[derive(Clone, Copy)]
 pub struct Steps {
     pub bytes: [u8; 4374],
@@ -78,11 +73,7 @@ pub fn steps_of(log: &[u8; 4376]) -> Steps
     ensures { result ≡ steps_held log.now }
 {
     let mut bytes = [0u8; 4374];
-    let mut at: usize = 0;
-    while at < 4374 {
-        bytes[at] = log[at];
-        at += 1;
-    }
+    bytes.copy_from_slice(&log[..4374]);
     Steps {
         bytes,
         count: steps_noted(log),

@@ -8,13 +8,11 @@ use candidates::masks;
 pub fn join_all(nine: &[u16; 9]) -> u16
     ensures { result ≡ joined nine.now }
 {
-    let mut mask: u16 = 0;
-    let mut place: usize = 0;
-    while place < 9 {
-        mask = masks::join(mask, nine[place]);
-        place += 1;
+    let mut held: u16 = 0;
+    for mask in nine {
+        held = masks::join(held, *mask);
     }
-    mask
+    held
 }
 
 // A mask, or none if the place is not among these.
@@ -31,13 +29,11 @@ fn mask_if(places: u16, place: usize, mask: u16) -> u16
 pub fn join_places(nine: &[u16; 9], places: u16) -> u16
     ensures { result ≡ joined_at nine.now places }
 {
-    let mut mask: u16 = 0;
-    let mut place: usize = 0;
-    while place < 9 {
-        mask = masks::join(mask, mask_if(places, place, nine[place]));
-        place += 1;
+    let mut held: u16 = 0;
+    for (place, mask) in nine.iter().enumerate() {
+        held = masks::join(held, mask_if(places, place, *mask));
     }
-    mask
+    held
 }
 
 // The digits that two or more of the masks hold.
@@ -46,11 +42,9 @@ pub fn shared(nine: &[u16; 9]) -> u16
 {
     let mut seen: u16 = 0;
     let mut both: u16 = 0;
-    let mut place: usize = 0;
-    while place < 9 {
-        both = masks::join(both, masks::meet(seen, nine[place]));
-        seen = masks::join(seen, nine[place]);
-        place += 1;
+    for mask in nine {
+        both = masks::join(both, masks::meet(seen, *mask));
+        seen = masks::join(seen, *mask);
     }
     both
 }
@@ -69,11 +63,9 @@ fn unless_one(mask: u16) -> u16
 pub fn several(nine: &[u16; 9]) -> u16
     ensures { result ≡ several_of nine.now }
 {
-    let mut mask: u16 = 0;
-    let mut place: usize = 0;
-    while place < 9 {
-        mask = masks::join(mask, unless_one(nine[place]));
-        place += 1;
+    let mut held: u16 = 0;
+    for mask in nine {
+        held = masks::join(held, unless_one(*mask));
     }
-    mask
+    held
 }

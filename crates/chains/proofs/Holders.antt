@@ -21,7 +21,9 @@ use Rattle.steps.specs.Ported.{holds}
 use Rattle.steps.proofs.Loops.{in-up_to, first_by}
 use Rattle.chains.proofs.Searching.{or-found, or_nothing}
 use Rattle.steps.specs.Chains.{two_of}
-use Rattle.chains.specs.code.Links.{is_some, others, unit_counts, weak_in, strong_in, links_in, between_at, elimination_in, enter_in}
+use Rattle.std.specs.Prelude.{is_some}
+use Rattle.std.specs.Prelude as std
+use Rattle.chains.specs.code.Links.{found_cell, others, unit_counts, weak_in, strong_in, links_in, between_at, elimination_in, enter_in}
 
 -- ---- selections and searches
 
@@ -123,15 +125,20 @@ module _ (hs : List ℕ) (k s : ℕ) (weak : Bool) (path : List ℕ) (c : ℕ) (
     unvisited : enter_in hs (7 - k) s weak path c ≡ or_else (elimination_in hs k s c) (first_some (enter_in hs (6 - k) s (not weak) (c ∷ path)) (links_in hs weak c))
     unvisited = entered ∙ cond-false (on_path c path) none _ fresh
 
-    pub eliminates : is_some (elimination_in hs k s c) ≡ true → enter_in hs (7 - k) s weak path c ≡ elimination_in hs k s c
-    eliminates t = unvisited ∙ or-found (elimination_in hs k s c) _ t
+    -- o is the code's elimination
+    module _ (o : std.Option ℕ) (here : found_cell o ≡ elimination_in hs k s c) where
+      first-here : enter_in hs (7 - k) s weak path c ≡ or_else (found_cell o) (first_some (enter_in hs (6 - k) s (not weak) (c ∷ path)) (links_in hs weak c))
+      first-here = unvisited ∙ ap (λ (p : Option ℕ). or_else p (first_some (enter_in hs (6 - k) s (not weak) (c ∷ path)) (links_in hs weak c))) (sym here)
 
-    pub onward : is_some (elimination_in hs k s c) ≡ false → enter_in hs (7 - k) s weak path c ≡ first_some (enter_in hs (6 - k) s (not weak) (c ∷ path)) (links_in hs weak c)
-    onward t = unvisited ∙ or_nothing (elimination_in hs k s c) _ t
+      pub eliminates : is_some o ≡ true → enter_in hs (7 - k) s weak path c ≡ found_cell o
+      eliminates t = first-here ∙ or-found o _ t
 
-    pub deepest : is_some (elimination_in hs k s c) ≡ false → k ≡ 6 → enter_in hs (7 - k) s weak path c ≡ none
-    unfolding enter_in
-    deepest t e = onward t ∙ ap (λ (j : ℕ). first_some (enter_in hs (6 - j) s (not weak) (c ∷ path)) (links_in hs weak c)) e ∙ none_first (links_in hs weak c)
+      pub onward : is_some o ≡ false → enter_in hs (7 - k) s weak path c ≡ first_some (enter_in hs (6 - k) s (not weak) (c ∷ path)) (links_in hs weak c)
+      onward t = first-here ∙ or_nothing o _ t
+
+      pub deepest : is_some o ≡ false → k ≡ 6 → enter_in hs (7 - k) s weak path c ≡ none
+      unfolding enter_in
+      deepest t e = onward t ∙ ap (λ (j : ℕ). first_some (enter_in hs (6 - j) s (not weak) (c ∷ path)) (links_in hs weak c)) e ∙ none_first (links_in hs weak c)
 
 -- ---- the search
 

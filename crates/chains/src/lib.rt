@@ -4,7 +4,6 @@
 ghost use Rattle.std.specs.Prelude.{◌≡◌, ◌<◌};
 ghost use Rattle.steps.specs.Chains.{chain_digit, chains};
 
-use board::Found;
 use candidates::masks;
 use cells::lose_at;
 
@@ -21,19 +20,15 @@ fn build_aic_chains_for_digit(givens: &[u8; 81], masks: &mut [u16; 81], digit: u
     requires { digit < 9 }
     ensures { masks.new ≡ chain_digit givens.now digit masks.old }
 {
-    let found = search::chain_end(givens, masks, digit);
-    let Found::At(cell) = found else {
-        return;
-    };
-    lose_at(givens, masks, cell, masks::digit_mask(digit));
+    if let Some(cell) = search::chain_end(givens, masks, digit) {
+        lose_at(givens, masks, cell, masks::digit_mask(digit));
+    }
 }
 
 pub fn chains(givens: &[u8; 81], masks: &mut [u16; 81])
     ensures { masks.new ≡ chains givens.now masks.old }
 {
-    let mut digit: usize = 0;
-    while digit < 9 {
+    for digit in 0..9 {
         build_aic_chains_for_digit(givens, masks, digit);
-        digit += 1;
     }
 }

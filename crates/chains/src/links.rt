@@ -18,14 +18,12 @@ pub fn holders_in(holders: &[u8; 81], count: usize, scope: Scope) -> Cells
 {
     let mut list = [0u8; 81];
     let mut found: usize = 0;
-    let mut i: usize = 0;
-    while i < count {
+    for i in 0..count {
         let cell = holders[i];
         if in_scope(scope, cell) {
             list[found] = cell;
             found += 1;
         }
-        i += 1;
     }
     Cells {
         cells: list,
@@ -68,11 +66,9 @@ pub fn unit_counts(holders: &[u8; 81], count: usize) -> [u8; 27]
     ensures { result ≡ unit_counts (listed holders.now count) }
 {
     let mut counts = [0u8; 27];
-    let mut unit: usize = 0;
-    while unit < 27 {
+    for unit in 0..27 {
         let found = holders_in(holders, count, Scope::Unit(unit));
         counts[unit] = found.count as u8;
-        unit += 1;
     }
     counts
 }

@@ -20,13 +20,11 @@ pub fn candidate_positions(givens: &[u8; 81], masks: &[u16; 81], digit: usize) -
 {
     let mut list = [0u8; 81];
     let mut count: usize = 0;
-    let mut cell: usize = 0;
-    while cell < 81 {
+    for cell in 0..81 {
         if masks::has_digit(open_mask(givens, masks, cell), digit) {
             list[count] = cell as u8;
             count += 1;
         }
-        cell += 1;
     }
     Cells { cells: list, count }
 }

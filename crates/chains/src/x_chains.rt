@@ -32,12 +32,10 @@ fn some_end_sees(linked: &[u8; 81], count: usize, ends: &[bool; 81], cell: u8) -
     requires { count ≤ 81 }
     ensures { result ≡ any (end_sees ends.now cell) (listed linked.now count) }
 {
-    let mut i: usize = 0;
-    while i < count {
+    for i in 0..count {
         if end_sees(ends, linked[i], cell) {
             return true;
         }
-        i += 1;
     }
     false
 }
@@ -87,10 +85,8 @@ fn lose_seen(
     requires { (held ≤ 81) × (count ≤ 81) }
     ensures { masks.new ≡ lose_seen givens.now lost (listed holders.now held) (listed linked.now count) start ends.now masks.old }
 {
-    let mut i: usize = 0;
-    while i < held {
+    for i in 0..held {
         lose_if_caught(givens, masks, lost, linked, count, ends, start, holders[i]);
-        i += 1;
     }
 }
 
@@ -129,22 +125,18 @@ fn x_chain_digit(givens: &[u8; 81], masks: &mut [u16; 81], digit: usize)
     let linked = chosen.cells;
     let count = chosen.count;
     let lost = masks::digit_mask(digit);
-    let mut i: usize = 0;
-    while i < count {
+    for i in 0..count {
         let start = linked[i];
         lose_from(
             givens, masks, lost, &holders, held, &linked, count, &sums, start,
         );
-        i += 1;
     }
 }
 
 pub fn x_chains(givens: &[u8; 81], masks: &mut [u16; 81])
     ensures { masks.new ≡ x_chains givens.now masks.old }
 {
-    let mut digit: usize = 0;
-    while digit < 9 {
+    for digit in 0..9 {
         x_chain_digit(givens, masks, digit);
-        digit += 1;
     }
 }

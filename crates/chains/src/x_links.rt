@@ -33,10 +33,8 @@ pub fn pair_sums(holders: &[u8; 81], count: usize) -> [u16; 27]
     ensures { result ≡ pair_sums (listed holders.now count) }
 {
     let mut sums = [0u16; 27];
-    let mut unit: usize = 0;
-    while unit < 27 {
+    for unit in 0..27 {
         sums[unit] = pair_sum(holders_in(holders, count, Scope::Unit(unit)));
-        unit += 1;
     }
     sums
 }
@@ -94,14 +92,12 @@ pub fn linked_cells(holders: &[u8; 81], count: usize, sums: &[u16; 27]) -> Cells
 {
     let mut list = [0u8; 81];
     let mut found: usize = 0;
-    let mut i: usize = 0;
-    while i < count {
+    for i in 0..count {
         let cell = holders[i];
         if is_linked(sums, cell) {
             list[found] = cell;
             found += 1;
         }
-        i += 1;
     }
     Cells {
         cells: list,

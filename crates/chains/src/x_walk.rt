@@ -41,12 +41,10 @@ pub fn walk(
     }
     let longer = push(path, cell);
     let links = link_count(weak, count);
-    let mut i: usize = 0;
-    while i < links {
+    for i in 0..links {
         let next = link_at(linked, sums, weak, cell, i);
         if next < 81 {
             walk(linked, count, sums, longer, next, !weak, ends);
         }
-        i += 1;
     }
 }

@@ -2,17 +2,18 @@
 #![tactic(auto)]
 
 ghost use Rattle.std.specs.Prelude.{◌≡◌, ◌≢◌, ◌≤◌};
+ghost use Rattle.stops.specs.Answer.{answer_of, map};
 ghost use Rattle.steps.specs.Boards.{Givens, fresh};
 ghost use Rattle.steps.specs.Difficulty.{summed, pass_counts, points_of, open_cells, figure_of, difficulty_of};
 ghost use Rattle.board.specs.Boards.{board_of};
-ghost use Rattle.difficulty.specs.Ratings.{figure_in, rating_answer};
+ghost use Rattle.difficulty.specs.Ratings.{figure_in};
 ghost use Rattle.difficulty.specs.code.Rates.{rating_by, rate_of};
 
 use board::entries::givens_of;
 use board::fresh::fresh_masks;
 use board::{Board, check_given};
 use passes::settle;
-use stops::{Check, Stop};
+use stops::Stop;
 
 // Points over cells: a whole quotient and the exact remainder.
 #[derive(Clone, Copy)]
@@ -22,13 +23,6 @@ pub struct Figure {
     pub cells: usize,
     pub quotient: usize,
     pub remainder: usize,
-}
-
-// What `difficulty` answers.
-#[derive(Clone, Copy)]
-pub enum Rating {
-    Is(Figure),
-    Refused(Stop),
 }
 
 // How many cells are given no digit, by a clue or an entry.
@@ -78,38 +72,33 @@ fn figure_of(points: usize, cells: usize) -> Figure
 }
 
 // The figure by what each pass removed, or stop 19. What settling a board counts is never more than its 729 candidates.
-pub fn rating_of(givens: &[u8; 81], counts: [usize; 6]) -> Rating
+pub fn rating_of(givens: &[u8; 81], counts: [usize; 6]) -> Result<Figure, Stop>
     requires { summed counts ≤ 729 }
-    ensures { rating_answer result ≡ rating_by givens.now counts }
+    ensures { map figure_in (answer_of result) ≡ rating_by givens.now counts }
 {
     let cells = open_cells(givens);
     if cells == 0 {
-        return Rating::Refused(Stop::NoOpenCell);
+        return Err(Stop::NoOpenCell);
     }
-    Rating::Is(figure_of(points_of(counts), cells))
+    Ok(figure_of(points_of(counts), cells))
 }
 
 // The figure by the fresh masks; stop 19, before any settling.
-fn rate(givens: &[u8; 81], masks: [u16; 81]) -> Rating
+fn rate(givens: &[u8; 81], masks: [u16; 81]) -> Result<Figure, Stop>
     requires { Givens givens.now × (masks ≡ fresh givens.now) }
-    ensures { rating_answer result ≡ rate_of givens.now }
+    ensures { map figure_in (answer_of result) ≡ rate_of givens.now }
 {
     if open_cells(givens) == 0 {
-        return Rating::Refused(Stop::NoOpenCell);
+        return Err(Stop::NoOpenCell);
     }
     rating_of(givens, pass_counts(givens, masks))
 }
 
 // How hard the puzzle of clues and entries is. The handed masks are checked and play no other part.
-pub fn difficulty(board: Board) -> Rating
-    ensures { rating_answer result ≡ difficulty_of (board_of board) }
+pub fn difficulty(board: &Board) -> Result<Figure, Stop>
+    ensures { map figure_in (answer_of result) ≡ difficulty_of (board_of board.now) }
 {
-    let clues = board.clues;
-    let entries = board.entries;
-    let masks = board.masks;
-    let givens = givens_of(&clues, &entries);
-    match check_given(&clues, &entries, &givens, &masks) {
-        Check::Refused(stop) => Rating::Refused(stop),
-        Check::Passed => rate(&givens, fresh_masks(&givens)),
-    }
+    let givens = givens_of(&board.clues, &board.entries);
+    check_given(&board.clues, &board.entries, &givens, &board.masks)?;
+    rate(&givens, fresh_masks(&givens))
 }

@@ -11,7 +11,7 @@ use native.Mathlib.Decide.{ℕ_discrete}
 use native.Mathlib.Omega.{arith}
 use borrow.Author.Tests.{eqb-true, eq-eqb}
 use lib.IntN.{ℤ, pos, negsuc}
-use lib.ListN.{length, get_or, drop, drop_of_length-le}
+use lib.ListN.{length, get_or, take, drop, drop_of_length-le}
 use lib.Seq.{drop-cons}
 use Rattle.grid.specs.Lists.{range, select, all, each}
 use Rattle.grid.specs.Fillings.{same_number, among, distinct}
@@ -86,6 +86,12 @@ select-none f (x ∷ xs) h = cond-false (f x) (x ∷ select f xs) (select f xs) 
 pub range_length : (n k : ℕ) → length (range n k) ≡ n
 range_length zero k = refl
 range_length (suc n) k = ap suc (range_length n (suc k))
+
+-- the elements at the places of a range
+pub as-taken : (l : List ℕ) (n k : ℕ) → k + n ≤ length l → map (λ i. get_or l i 0) (range n k) ≡ take n (drop k l)
+as-taken l zero k h = refl
+as-taken l (suc n) k h =
+    ap (λ (m : List ℕ). get_or l k 0 ∷ m) (as-taken l n (suc k) (omega arith)) ∙ sym (ap (take (suc n)) (drop-cons l k 0 (omega arith)))
 
 -- ---- a loop over i from 0 up to n: what is left of it at i
 

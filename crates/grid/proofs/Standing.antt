@@ -26,9 +26,10 @@ next {g} {k} {ms} s r ns e is = record {
     now : ms ≡ marks_after g k
     now = s.marks refl
 
--- one turn of the code is one turn of the definition
-pub standing_on : {g : List ℤ} {k : ℕ} {ms : List ℕ} → Standing g k true ms → (r : Bool) (ns : List ℕ) → r ≡ fits ms k (number_at g k) → ns ≡ cond r (marked ms k (number_at g k)) ms → Standing g (k + 1) r ns
-standing_on {g} {k} s r ns e is = rw add-one (next s r ns e is)
+-- one turn of the code, on the number z of the cell, is one turn of the definition
+pub standing_on : {g : List ℤ} {k : ℕ} {ms ns : List ℕ} {r : Bool} {z : ℤ} → Standing g k true ms → z ≡ number_at g k → r ≡ fits ms k z → ns ≡ cond r (marked ms k z) ms → Standing g (k + 1) r ns
+standing_on {g} {k} {ms} {ns} {r} s q e is =
+    rw add-one (next s r ns (e ∙ ap (fits ms k) q) (is ∙ ap (λ (z : ℤ). cond r (marked ms k z) ms) q))
 
 -- a no stays
 pub stays-no : {g : List ℤ} {k : ℕ} {r : Bool} {ms : List ℕ} → Standing g k r ms → r ≡ false → (n : ℕ) → k ≤ n → false ≡ fine g n

@@ -9,6 +9,7 @@ ghost use Rattle.grid.specs.Fillings.{verified};
 
 use tables::{PEERS, UNITS};
 
+pub mod cell_units;
 pub mod scopes;
 mod tables;
 mod verifier;
@@ -29,6 +30,7 @@ pub fn peer_table() -> [[u8; 20]; 81]
 }
 
 // The cell at a place 0 to 8 of a unit; 81 past the table. It is worked out: an index into a constant copies it.
+// No `Option`: 81 is no cell, holds nothing and loses nothing, so no caller has a case for it.
 pub fn unit_cell(unit: usize, place: usize) -> usize
     ensures { result ≡ unit_cell unit place }
 {
@@ -70,23 +72,14 @@ pub fn box_of(cell: usize) -> usize
 pub fn positions_see_each_other(a: usize, b: usize) -> bool
     ensures { result ≡ aligned a b }
 {
-    if row_of(a) == row_of(b) {
-        return true;
-    }
-    if col_of(a) == col_of(b) {
-        return true;
-    }
-    box_of(a) == box_of(b)
+    row_of(a) == row_of(b) || col_of(a) == col_of(b) || box_of(a) == box_of(b)
 }
 
 // Whether the cells are peers: two different cells that share a unit.
 pub fn are_peers(a: usize, b: usize) -> bool
     ensures { result ≡ sees a b }
 {
-    if a == b {
-        return false;
-    }
-    positions_see_each_other(a, b)
+    a != b && positions_see_each_other(a, b)
 }
 
 // Yes exactly if all numbers are 1 to 9 and no row, column or box repeats one. Any other number is a plain no.
@@ -95,12 +88,10 @@ pub fn verify_solution(grid: &[i32; 81]) -> bool
     ensures { result ≡ verified grid.now }
 {
     let mut marks = [0u16; 27];
-    let mut band: usize = 0;
-    while band < 3 {
+    for band in 0..3 {
         if !verifier::mark_band(grid, &mut marks, band) {
             return false;
         }
-        band += 1;
     }
     true
 }

@@ -1,59 +1,23 @@
 // The verifier's pass over the cells, rising, by bands of three rows: so neither a cell's row and column nor its box are worked out anew.
 ghost use Rattle.std.specs.Prelude.{◌≡◌, true, cond, ◌+◌, ◌*◌, ◌/◌, ◌<◌};
-ghost use Rattle.grid.specs.Cells.{cell, box};
-ghost use Rattle.grid.specs.Fillings.{is_digit};
-ghost use Rattle.grid.specs.Marks.{join_at, join_units, seen, fits, marked};
+ghost use Rattle.grid.specs.Cells.{cell};
+ghost use Rattle.grid.specs.Marks.{fits, marked};
 ghost use Rattle.grid.specs.code.Standing.{Standing};
 
+use crate::cell_units::CellUnits;
 use candidates::{digits, masks};
 
-fn is_digit(number: i32) -> bool
-    ensures { result ≡ is_digit number }
-{
-    if number < 1 {
-        return false;
-    }
-    number <= 9
-}
-
-// The digits of the row, the column and the box; `block` is the box's number as a unit.
-fn seen_digits(marks: &[u16; 27], row: usize, col: usize, block: usize) -> u16
-    requires { (row < 9) × (col < 9) × (block ≡ 18 + box (cell row col)) }
-    ensures { result ≡ seen marks.now (cell row col) }
-{
-    let lines = masks::join(marks[row], marks[9 + col]);
-    masks::join(lines, marks[block])
-}
-
-// A mask joins that of a unit.
-fn join_at(marks: &mut [u16; 27], unit: usize, mask: u16)
-    requires { unit < 27 }
-    ensures { marks.new ≡ join_at unit mask marks.old }
-{
-    marks[unit] = masks::join(marks[unit], mask);
-}
-
-fn join_units(marks: &mut [u16; 27], row: usize, col: usize, block: usize, mask: u16)
-    requires { (row < 9) × (col < 9) × (block ≡ 18 + box (cell row col)) }
-    ensures { marks.new ≡ join_units (cell row col) mask marks.old }
-{
-    join_at(marks, row, mask);
-    join_at(marks, 9 + col, mask);
-    join_at(marks, block, mask);
-}
-
 // One turn: the number of a cell is tested, and marked where it fits.
-fn mark_cell(marks: &mut [u16; 27], row: usize, col: usize, block: usize, number: i32) -> bool
-    requires { (row < 9) × (col < 9) × (block ≡ 18 + box (cell row col)) }
-    ensures { (result ≡ fits marks.old (cell row col) number) × (marks.new ≡ cond result (marked marks.old (cell row col) number) marks.old) }
+fn mark_cell(marks: &mut [u16; 27], at: CellUnits, number: i32) -> bool
+    ensures { (result ≡ fits marks.old (cell at.row at.col) number) × (marks.new ≡ cond result (marked marks.old (cell at.row at.col) number) marks.old) }
 {
     let Some(place) = digits::place_of(number) else {
         return false;
     };
-    if masks::has_digit(seen_digits(marks, row, col, block), place) {
+    if masks::has_digit(at.seen_digits(marks), place) {
         return false;
     }
-    join_units(marks, row, col, block, masks::digit_mask(place));
+    at.join(marks, masks::digit_mask(place));
     true
 }
 
@@ -62,12 +26,15 @@ fn mark_row(grid: &[i32; 81], marks: &mut [u16; 27], row: usize, first: usize) -
     requires { (row < 9) × (first ≡ 18 + 3 * (row / 3)) × Standing grid.now (9 * row) true marks.old }
     ensures { Standing grid.now (9 * row + 9) result marks.new }
 {
-    let mut col: usize = 0;
-    while col < 9 {
-        if !mark_cell(marks, row, col, first + col / 3, grid[9 * row + col]) {
+    for col in 0..9 {
+        let at = CellUnits {
+            row,
+            col,
+            block: first + col / 3,
+        };
+        if !mark_cell(marks, at, grid[9 * row + col]) {
             return false;
         }
-        col += 1;
     }
     true
 }
@@ -77,12 +44,10 @@ pub fn mark_band(grid: &[i32; 81], marks: &mut [u16; 27], band: usize) -> bool
     requires { (band < 3) × Standing grid.now (27 * band) true marks.old }
     ensures { Standing grid.now (27 * band + 27) result marks.new }
 {
-    let mut row: usize = 0;
-    while row < 3 {
+    for row in 0..3 {
         if !mark_row(grid, marks, 3 * band + row, 18 + 3 * band) {
             return false;
         }
-        row += 1;
     }
     true
 }

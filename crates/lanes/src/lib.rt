@@ -34,10 +34,8 @@ fn put_row(masks: &[u16; 81], lanes: &mut [u16; 432], row: usize)
     requires { (row < 9) × Partly masks.now (9 * row) lanes.old }
     ensures { Partly masks.now (9 * row + 9) lanes.new }
 {
-    let mut col: usize = 0;
-    while col < 9 {
+    for col in 0..9 {
         put(lanes, row, col, masks[9 * row + col]);
-        col += 1;
     }
 }
 
@@ -46,10 +44,8 @@ pub fn lay(masks: &[u16; 81], lanes: &mut [u16; 432])
     requires { Laid lanes.old }
     ensures { lanes.new ≡ laid masks.now }
 {
-    let mut row: usize = 0;
-    while row < 9 {
+    for row in 0..9 {
         put_row(masks, lanes, row);
-        row += 1;
     }
 }
 
@@ -67,11 +63,8 @@ pub fn lane_masks(lanes: &[u16; 432], lane: usize) -> [u16; 9]
     ensures { result ≡ lane_masks lanes.now lane }
 {
     let mut nine = [0u16; 9];
-    let mut place: usize = 0;
-    while place < 9 {
-        let held = lanes[48 * place + lane];
-        nine[place] = held;
-        place += 1;
+    for (place, mask) in nine.iter_mut().enumerate() {
+        *mask = lanes[48 * place + lane];
     }
     nine
 }
@@ -81,10 +74,8 @@ pub fn doors(givens: &[u8; 81]) -> [u16; 81]
     ensures { result ≡ doors_of givens.now }
 {
     let mut all = [0u16; 81];
-    let mut cell: usize = 0;
-    while cell < 81 {
-        all[cell] = door(givens[cell]);
-        cell += 1;
+    for (cell, given) in givens.iter().enumerate() {
+        all[cell] = door(*given);
     }
     all
 }
@@ -95,13 +86,11 @@ fn loose_lane(lanes: &[u16; 432], doors: &[u16; 432], lane: usize) -> u16
     ensures { result ≡ loose_of lanes.now doors.now lane }
 {
     let mut held: u16 = 0;
-    let mut place: usize = 0;
-    while place < 9 {
+    for place in 0..9 {
         held = masks::join(
             held,
             masks::meet(lanes[48 * place + lane], doors[48 * place + lane]),
         );
-        place += 1;
     }
     held
 }
@@ -112,10 +101,8 @@ pub fn loose(lanes: &[u16; 432], doors: &[u16; 432], first: usize) -> [u16; 16]
     ensures { result ≡ loose_sets lanes.now doors.now first }
 {
     let mut sets = [0u16; 16];
-    let mut nth: usize = 0;
-    while nth < 16 {
-        sets[nth] = loose_lane(lanes, doors, first + nth);
-        nth += 1;
+    for (nth, set) in sets.iter_mut().enumerate() {
+        *set = loose_lane(lanes, doors, first + nth);
     }
     sets
 }
@@ -125,10 +112,8 @@ pub fn join_sets(sets: &[u16; 16]) -> u16
     ensures { result ≡ joined_sets sets.now }
 {
     let mut held: u16 = 0;
-    let mut nth: usize = 0;
-    while nth < 16 {
-        held = masks::join(held, sets[nth]);
-        nth += 1;
+    for set in sets {
+        held = masks::join(held, *set);
     }
     held
 }

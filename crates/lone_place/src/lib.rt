@@ -15,8 +15,7 @@ pub fn lone(givens: &[u8; 81], masks: &mut [u16; 81])
     ensures { masks.new ≡ pass givens.now Lone masks.old }
 {
     let mut lanes = lanes_of(masks);
-    let mut none: [u8; 0] = [];
-    lones::lone_lanes(givens, masks, &mut none, &mut lanes);
+    lones::lone_lanes(givens, masks, &mut [], &mut lanes);
 }
 
 // Place: no other cell of a unit holds d: the cell loses all but d.
@@ -25,6 +24,5 @@ pub fn place(givens: &[u8; 81], masks: &mut [u16; 81])
 {
     let doors = lanes_of(&doors(givens));
     let mut lanes = lanes_of(masks);
-    let mut none: [u8; 0] = [];
-    places::place_lanes(givens, masks, &mut none, &doors, &mut lanes);
+    places::place_lanes(givens, masks, &mut [], &doors, &mut lanes);
 }

@@ -67,12 +67,10 @@ fn lone_digits(givens: &[u8; 81], masks: &mut [u16; 81], log: &mut [u8], cell: u
     ensures log_after { log.new ≡ log_after givens.now (cell_lones cell) masks.old log.old }
 {
     let held = lone_held(givens, masks, cell);
-    let mut digit: usize = 0;
-    while digit < 9 {
+    for digit in 0..9 {
         if masks::has_digit(held, digit) {
             lone_at(givens, masks, log, cell, digit);
         }
-        digit += 1;
     }
 }
 
@@ -99,10 +97,8 @@ fn lone_row(givens: &[u8; 81], masks: &mut [u16; 81], log: &mut [u8], near: &[u1
     ensures masks_after { masks.new ≡ lone_row givens.now row masks.old }
     ensures log_after { log.new ≡ log_after givens.now (row_lones row) masks.old log.old }
 {
-    let mut nth: usize = 0;
-    while nth < 9 {
+    for nth in 0..9 {
         lone_cell(givens, masks, log, near[nth], 9 * row + nth);
-        nth += 1;
     }
 }
 
@@ -110,10 +106,7 @@ fn lone_row(givens: &[u8; 81], masks: &mut [u16; 81], log: &mut [u8], near: &[u1
 fn due_flag(mask: u16, near: u16) -> u16
     ensures { result ≡ due_flag mask near }
 {
-    if lone_due(masks::meet(mask, 511), near) {
-        return 1;
-    }
-    0
+    u16::from(lone_due(masks::meet(mask, 511), near))
 }
 
 // Not 0 where a cell of the row is due.
@@ -122,10 +115,8 @@ fn due_row(masks: &[u16; 81], near: &[u16; 16], row: usize) -> u16
     ensures { result ≡ due_row masks.now near.now row }
 {
     let mut due: u16 = 0;
-    let mut nth: usize = 0;
-    while nth < 9 {
+    for nth in 0..9 {
         due = masks::join(due, due_flag(masks[9 * row + nth], near[nth]));
-        nth += 1;
     }
     due
 }
@@ -135,11 +126,8 @@ fn shared_lanes(lanes: &[u16; 432]) -> [u16; 48]
     ensures { result ≡ shared_lanes lanes.now }
 {
     let mut sets = [0u16; 48];
-    let mut lane: usize = 0;
-    while lane < 48 {
-        let nine = lane_masks(lanes, lane);
-        sets[lane] = shared(&nine);
-        lane += 1;
+    for (lane, set) in sets.iter_mut().enumerate() {
+        *set = shared(&lane_masks(lanes, lane));
     }
     sets
 }
@@ -150,11 +138,9 @@ fn near_row(sets: &[u16; 48], row: usize) -> [u16; 16]
     ensures { result ≡ near_row sets.now row }
 {
     let mut near = [0u16; 16];
-    let mut nth: usize = 0;
-    while nth < 16 {
+    for (nth, set) in near.iter_mut().enumerate() {
         let lines = masks::join(sets[row], sets[16 + nth]);
-        near[nth] = masks::join(lines, sets[32 + 3 * (row / 3) + nth / 3]);
-        nth += 1;
+        *set = masks::join(lines, sets[32 + 3 * (row / 3) + nth / 3]);
     }
     near
 }
@@ -167,14 +153,12 @@ fn lone_rows(givens: &[u8; 81], masks: &mut [u16; 81], log: &mut [u8], sets: &[u
     ensures log_after { log.new ≡ log_after givens.now (instances Lone) masks.old log.old }
 {
     let mut any = false;
-    let mut row: usize = 0;
-    while row < 9 {
+    for row in 0..9 {
         let near = near_row(sets, row);
         if due_row(masks, &near, row) != 0 {
             lone_row(givens, masks, log, &near, row);
             any = true;
         }
-        row += 1;
     }
     any
 }

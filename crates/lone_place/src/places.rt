@@ -85,6 +85,7 @@ fn place_digit(
     ensures log_after { log.new ≡ log_after givens.now (digit_places unit digit) masks.old log.old }
 {
     let mut left = turns_of(held_in(lanes, unit, digit));
+    // The mask that is left is the counter: an iterator over its places would be these two calls again.
     while left != 0 {
         place_at(
             givens,
@@ -130,6 +131,7 @@ fn place_unit(
     ensures log_after { log.new ≡ log_after givens.now (unit_places unit) masks.old log.old }
 {
     let mut digit = masks::first_digit(first, 0);
+    // Not counted: which digit comes next is seen only after this one's losses.
     while digit < 9 {
         place_digit(givens, masks, log, lanes, unit, digit);
         digit = masks::first_digit(due_digits(lanes, unit), digit + 1);
@@ -160,10 +162,8 @@ fn due_lanes(lanes: &[u16; 432], free: &[u16; 16], first: usize) -> [u16; 16]
     ensures { result ≡ place_sets lanes.now free.now first }
 {
     let mut sets = [0u16; 16];
-    let mut nth: usize = 0;
-    while nth < 16 {
-        sets[nth] = due_lane(lanes, first + nth, free[nth]);
-        nth += 1;
+    for (nth, set) in sets.iter_mut().enumerate() {
+        *set = due_lane(lanes, first + nth, free[nth]);
     }
     sets
 }
@@ -182,13 +182,11 @@ fn place_due(
     ensures lanes_after { lanes.new ≡ laid masks.new }
     ensures log_after { log.new ≡ log_after givens.now (family_places family) masks.old log.old }
 {
-    let mut nth: usize = 0;
-    while nth < 9 {
+    for nth in 0..9 {
         if due[nth] != 0 {
             let unit = 9 * family + nth;
             place_unit(givens, masks, log, lanes, unit, due[nth]);
         }
-        nth += 1;
     }
 }
 
@@ -226,9 +224,7 @@ pub fn place_lanes(
     ensures lanes_after { lanes.new ≡ laid masks.new }
     ensures log_after { log.new ≡ log_after givens.now (instances Place) masks.old log.old }
 {
-    let mut family: usize = 0;
-    while family < 3 {
+    for family in 0..3 {
         place_family(givens, masks, log, doors, lanes, family);
-        family += 1;
     }
 }

@@ -4,7 +4,7 @@
 ghost use Rattle.std.specs.Prelude.{◌≡◌, ◌+◌, ◌≤◌, ◌<◌};
 ghost use Rattle.std.specs.Int.{w64};
 ghost use Rattle.std.proofs.Common.{Fits};
-ghost use Rattle.stops.specs.Answer.{map};
+ghost use Rattle.stops.specs.Answer.{answer_of, map};
 ghost use Rattle.steps.specs.Boards.{at, total};
 ghost use Rattle.steps.specs.Calls.{answer, settling_call};
 ghost use Rattle.steps.specs.Difficulty.{removed_each, summed, pass_counts};
@@ -13,7 +13,7 @@ ghost use Rattle.steps.specs.StepLists.{sweep_instances, settling_instances};
 ghost use Rattle.steps.specs.code.Logs.{log_after};
 ghost use Rattle.board.specs.Boards.{board_of, handed};
 ghost use Rattle.lanes.specs.code.Lanes.{InLanes, laid};
-ghost use Rattle.passes.specs.Settlings.{Settles, counts_of, settling_answer};
+ghost use Rattle.passes.specs.Settlings.{Settles, counts_of};
 ghost use Rattle.passes.specs.code.Handed.{masks_left, log_left, counts_left};
 ghost use Rattle.passes.specs.code.Rounds.{nth_kind, LastIdle, Swept};
 ghost use Rattle.passes.specs.code.Tallies.{tallied, tally_with, Tally};
@@ -31,7 +31,7 @@ use lone_place::places::place_lanes;
 use over::is_over;
 use pair_cross::crosses::cross_lanes;
 use pair_cross::pairs::pair_lanes;
-use stops::{Check, Stop};
+use stops::Stop;
 
 // A wide pass by its number in a sweep. The masks stand in lanes too, and `doors` are those of the givens. The log takes the steps that remove something.
 fn nth_pass(
@@ -166,13 +166,6 @@ pub fn settle(
     }
 }
 
-// What settling answers: its sweeps and the candidates that it removed.
-#[derive(Clone, Copy)]
-pub enum Settling {
-    Counted(usize, usize),
-    Refused(Stop),
-}
-
 // Settling over a lent board, which is checked once, before the first sweep. The log and `counts` are those of `settle`; beside a refusal all that is lent stays as it was.
 pub fn settle_handed(
     clues: &[i32; 81],
@@ -180,49 +173,41 @@ pub fn settle_handed(
     masks: &mut [u16; 81],
     log: &mut [u8],
     counts: &mut [usize; 6],
-) -> Settling
-    ensures result_value { settling_answer result ≡ map counts_of (answer settling_call (handed clues.now entries.now masks.old)) }
+) -> Result<Counts, Stop>
+    ensures result_value { answer_of result ≡ map counts_of (answer settling_call (handed clues.now entries.now masks.old)) }
     ensures masks_after { masks.new ≡ masks_left (handed clues.now entries.now masks.old) }
     ensures log_after { log.new ≡ log_left (handed clues.now entries.now masks.old) log.old }
     ensures counts_after { counts.new ≡ counts_left (handed clues.now entries.now masks.old) counts.old }
 {
     let givens = givens_of(clues, entries);
-    match check_given(clues, entries, &givens, masks) {
-        Check::Refused(stop) => Settling::Refused(stop),
-        Check::Passed => {
-            let done = settle(&givens, masks, log, counts);
-            Settling::Counted(done.sweeps, done.removed)
-        }
-    }
+    check_given(clues, entries, &givens, masks)?;
+    Ok(settle(&givens, masks, log, counts))
 }
 
-// The board that settling leaves, its steps that removed something, and what each of the six passes removed; beside a refusal the board as it was, no step and zeros.
+// What settling a board hands back beside it: its counts, its steps that removed something, and what each of the six passes removed.
 #[derive(Clone, Copy)]
-pub struct SettledBoard {
-    pub answer: Settling,
-    pub board: Board,
+pub struct Settled {
+    pub counts: Counts,
     pub steps: Steps,
-    pub counts: [usize; 6],
+    pub by_pass: [usize; 6],
 }
 
-// Sweeps until nothing more is removed, with its steps. Who does not want these has `settle_handed`.
-pub fn apply_settling(board: Board) -> SettledBoard
-    ensures { Settles (board_of board) result }
+// Sweeps until nothing more is removed, with its steps; beside a refusal the board stays as it was. Who does not want the steps has `settle_handed`.
+pub fn apply_settling(board: &mut Board) -> Result<Settled, Stop>
+    ensures { Settles (board_of board.old) result (board_of board.new) }
 {
-    let clues = board.clues;
-    let entries = board.entries;
-    let mut masks = board.masks;
     let mut log = [0u8; 4376];
-    let mut counts = [0usize; 6];
-    let answer = settle_handed(&clues, &entries, &mut masks, &mut log, &mut counts);
-    SettledBoard {
-        answer,
-        board: Board {
-            clues,
-            entries,
-            masks,
-        },
-        steps: steps_of(&log),
+    let mut by_pass = [0usize; 6];
+    let counts = settle_handed(
+        &board.clues,
+        &board.entries,
+        &mut board.masks,
+        &mut log,
+        &mut by_pass,
+    )?;
+    Ok(Settled {
         counts,
-    }
+        steps: steps_of(&log),
+        by_pass,
+    })
 }

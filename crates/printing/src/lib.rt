@@ -40,10 +40,8 @@ pub fn mask_sum(masks: &[u16; 81]) -> u64
     ensures { result ≡ sum_of masks.now 81 }
 {
     let mut sum: u64 = 0;
-    let mut cell: usize = 0;
-    while cell < 81 {
-        sum = fold(sum, masks[cell]);
-        cell += 1;
+    for mask in masks {
+        sum = fold(sum, *mask);
     }
     sum
 }

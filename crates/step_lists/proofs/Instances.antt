@@ -1,5 +1,5 @@
 -- One instance of each kind as code takes it: its test is its condition, and what is lost then is its loss. Assumes nothing.
-use mathlib.Core.Path.{◌≡◌, refl, sym, ap, ◌∙◌, subst}
+use mathlib.Core.Path.{◌≡◌, sym, ap, ◌∙◌, subst}
 use mathlib.Core.Logic.{⊎_elim}
 use mathlib.Core.Bool.{Bool, true, false, cond, ◌&&◌, ◌||◌, and-true}
 use mathlib.Core.List.{List}
@@ -7,7 +7,6 @@ use Prim.Native.Nat.{ℕ, ◌+◌, ◌≤◌, ◌<◌}
 use native.Mathlib.Omega.{arith}
 use lib.Dec.{eqb}
 use Rattle.candidates.specs.Masks.{minus, single, place_mask}
-use Rattle.candidates.proofs.Tests.{both}
 use Rattle.grid.specs.Units.{unit, unit_cell, in_unit}
 use Rattle.grid.proofs.Units.{cell_below}
 use Rattle.steps.specs.Boards.{at, is_open}
@@ -59,32 +58,26 @@ module _ (g m : List ℕ) (u d i : ℕ) (h : u < 27) (n : i < 9) where
 
 -- ---- Pair
 
--- the test of one of its cells
-pub cell-within : (m : List ℕ) (u i : ℕ) → u < 27 → i < 9 → {x : Bool} {mask cell k l : ℕ} → x ≡ within_digits mask k → mask ≡ mask_at m cell → cell ≡ unit_cell u i → k ≡ l → x ≡ within_digits (at m (unit_cell u i)) l
-cell-within m u i h n {k = k} p q r s =
-    p ∙ ap (λ (y : ℕ). within_digits y k) (q ∙ ap (mask_at m) r ∙ mask_at_lem m (unit_cell u i) (cell_below u i h n)) ∙ ap (within_digits (at m (unit_cell u i))) s
-
 module _ (g m : List ℕ) (u i j a b : ℕ) (h : u < 27) (hi : i < 9) (hj : j < 9) where
   abbrev digits : ℕ
   digits = instances.both a b
 
-  abbrev one : Bool
-  one = within_digits (at m (unit_cell u i)) digits
+  -- the test of both its cells
+  abbrev pub within : Bool
+  within = within_digits (mask_at m (unit_cell u i)) digits && within_digits (mask_at m (unit_cell u j)) digits
 
-  abbrev two : Bool
-  two = within_digits (at m (unit_cell u j)) digits
+  pair-applies : within ≡ applies (pair_step u (unit_cell u i) (unit_cell u j) a b) m
+  pair-applies =
+      (λ t. within_digits (mask_at_lem m (unit_cell u i) (cell_below u i h hi) t) digits && within_digits (mask_at_lem m (unit_cell u j) (cell_below u j h hj) t) digits)
+      ∙ ap (λ (t : Bool). within_digits (at m (unit_cell u i)) digits && t) (sym (and-true (within_digits (at m (unit_cell u j)) digits)))
 
-  pub pair-taken : one ≡ true → two ≡ true → lose_places (is_open g) u (all_but i j) digits m ≡ instance_taken g (pair u i j a b) m
+  pub pair-taken : within ≡ true → lose_places (is_open g) u (all_but i j) digits m ≡ instance_taken g (pair u i j a b) m
   unfolding step_of
-  pair-taken p q = two-spared u h (is_open g) i j digits hi hj m ∙ taken (is_open g) (pair_step u (unit_cell u i) (unit_cell u j) a b) m (both p (both q refl))
+  pair-taken t = two-spared u h (is_open g) i j digits hi hj m ∙ taken (is_open g) (pair_step u (unit_cell u i) (unit_cell u j) a b) m (sym pair-applies ∙ t)
 
-  pub pair-first : one ≡ false → m ≡ instance_taken g (pair u i j a b) m
+  pub pair-left : within ≡ false → m ≡ instance_taken g (pair u i j a b) m
   unfolding step_of
-  pair-first p = left_alone (is_open g) (pair_step u (unit_cell u i) (unit_cell u j) a b) m (ap (λ (t : Bool). t && (two && true)) p)
-
-  pub pair-second : one ≡ true → two ≡ false → m ≡ instance_taken g (pair u i j a b) m
-  unfolding step_of
-  pair-second p q = left_alone (is_open g) (pair_step u (unit_cell u i) (unit_cell u j) a b) m (ap (λ (t : Bool). t && (two && true)) p ∙ ap (λ (t : Bool). t && true) q)
+  pair-left t = left_alone (is_open g) (pair_step u (unit_cell u i) (unit_cell u j) a b) m (sym pair-applies ∙ t)
 
 -- ---- Pointing and Claiming
 
@@ -130,12 +123,13 @@ module _ (g m : List ℕ) (f h d i j a b : ℕ) (w : Across f h) (hd : d < 9) (h
       all_both test (unit (f + i)) (unit (f + j)) ∙ ap (λ (t : Bool). t && all test (unit (f + j))) (sym (line-test i hi))
       ∙ ap (λ (t : Bool). confined_to m (f + i) d lines && t) (sym (line-test j hj))
 
-  pub cross-taken : confined_to m (f + i) d lines ≡ true → confined_to m (f + j) d lines ≡ true
+  -- both lines
+  abbrev pub confined-both : Bool
+  confined-both = confined_to m (f + i) d lines && confined_to m (f + j) d lines
+
+  pub cross-taken : confined-both ≡ true
       → lose_places (is_open g) (h + b) (all_but i j) (place_mask d) (lose_places (is_open g) (h + a) (all_but i j) (place_mask d) m) ≡ step_taken (is_open g) step m
-  cross-taken p q = two-across g f h d i j back hd hi hj a b ha hb m ∙ taken (is_open g) step m (cross-applies ∙ both p q)
+  cross-taken t = two-across g f h d i j back hd hi hj a b ha hb m ∙ taken (is_open g) step m (cross-applies ∙ t)
 
-  pub cross-first : confined_to m (f + i) d lines ≡ false → m ≡ step_taken (is_open g) step m
-  cross-first p = left_alone (is_open g) step m (cross-applies ∙ ap (λ (t : Bool). t && confined_to m (f + j) d lines) p)
-
-  pub cross-second : confined_to m (f + i) d lines ≡ true → confined_to m (f + j) d lines ≡ false → m ≡ step_taken (is_open g) step m
-  cross-second p q = left_alone (is_open g) step m (cross-applies ∙ ap (λ (t : Bool). t && confined_to m (f + j) d lines) p ∙ q)
+  pub cross-left : confined-both ≡ false → m ≡ step_taken (is_open g) step m
+  cross-left t = left_alone (is_open g) step m (cross-applies ∙ t)

@@ -18,10 +18,7 @@ fn lone_step(
     ensures masks_after { masks.new ≡ after_step givens.now (lone_by cell digit x y z) masks.old }
     ensures value { result ≡ changed masks.old masks.new }
 {
-    if naming::is_lone(cell, digit, x, y, z) {
-        return taking::take_lone(givens, masks, cell, digit - 1);
-    }
-    false
+    naming::is_lone(cell, digit, x, y, z) && taking::take_lone(givens, masks, cell, digit - 1)
 }
 
 fn place_step(
@@ -36,10 +33,8 @@ fn place_step(
     ensures masks_after { masks.new ≡ after_step givens.now (place_by unit digit cell y z) masks.old }
     ensures value { result ≡ changed masks.old masks.new }
 {
-    if naming::is_place(unit, digit, cell, y, z) {
-        return taking::take_place(givens, masks, unit, digit - 1, naming::place_in(unit, cell));
-    }
-    false
+    naming::is_place(unit, digit, cell, y, z)
+        && taking::take_place(givens, masks, unit, digit - 1, naming::place_in(unit, cell))
 }
 
 fn pair_step(
@@ -74,10 +69,8 @@ fn pointing_step(
     ensures masks_after { masks.new ≡ after_step givens.now (pointing_by block digit line y z) masks.old }
     ensures value { result ≡ changed masks.old masks.new }
 {
-    if naming::is_pointing(block, digit, line, y, z) {
-        return taking::take_locked(givens, masks, block, digit - 1, naming::line_in(line));
-    }
-    false
+    naming::is_pointing(block, digit, line, y, z)
+        && taking::take_locked(givens, masks, block, digit - 1, naming::line_in(line))
 }
 
 fn claiming_step(
@@ -92,10 +85,8 @@ fn claiming_step(
     ensures masks_after { masks.new ≡ after_step givens.now (claiming_by line digit block y z) masks.old }
     ensures value { result ≡ changed masks.old masks.new }
 {
-    if naming::is_claiming(line, digit, block, y, z) {
-        return taking::take_locked(givens, masks, line, digit - 1, naming::box_in(line, block));
-    }
-    false
+    naming::is_claiming(line, digit, block, y, z)
+        && taking::take_locked(givens, masks, line, digit - 1, naming::box_in(line, block))
 }
 
 fn cross_step(
@@ -110,10 +101,8 @@ fn cross_step(
     ensures masks_after { masks.new ≡ after_step givens.now (cross_by digit u v x y) masks.old }
     ensures value { result ≡ changed masks.old masks.new }
 {
-    if naming::is_cross(0, 9, digit, u, v, x, y) {
-        return taking::take_cross(givens, masks, 0, 9, digit - 1, u, v, x - 9, y - 9);
-    }
-    false
+    naming::is_cross(0, 9, digit, u, v, x, y)
+        && taking::take_cross(givens, masks, 0, 9, digit - 1, u, v, x - 9, y - 9)
 }
 
 fn exchanged_step(
@@ -128,13 +117,11 @@ fn exchanged_step(
     ensures masks_after { masks.new ≡ after_step givens.now (exchanged_by digit u v x y) masks.old }
     ensures value { result ≡ changed masks.old masks.new }
 {
-    if naming::is_cross(9, 0, digit, u, v, x, y) {
-        return taking::take_cross(givens, masks, 9, 0, digit - 1, u - 9, v - 9, x, y);
-    }
-    false
+    naming::is_cross(9, 0, digit, u, v, x, y)
+        && taking::take_cross(givens, masks, 9, 0, digit - 1, u - 9, v - 9, x, y)
 }
 
-// By the kind, the first of the six bytes.
+// By the kind, the first of the six bytes. Each number stands here once, beside what it does: an enum of the kinds would list the seven twice.
 fn take_step(
     givens: &[u8; 81],
     masks: &mut [u16; 81],
@@ -160,12 +147,6 @@ fn take_step(
     }
 }
 
-fn wide(byte: u8) -> usize
-    ensures { result ≡ byte }
-{
-    byte as usize
-}
-
 // The step of the six bytes from a place on; a shorter piece names none.
 pub fn take_at(givens: &[u8; 81], masks: &mut [u16; 81], steps: &[u8], at: usize) -> bool
     requires { at < 4374 }
@@ -176,12 +157,12 @@ pub fn take_at(givens: &[u8; 81], masks: &mut [u16; 81], steps: &[u8], at: usize
         return take_step(
             givens,
             masks,
-            wide(steps[at]),
-            wide(steps[at + 1]),
-            wide(steps[at + 2]),
-            wide(steps[at + 3]),
-            wide(steps[at + 4]),
-            wide(steps[at + 5]),
+            usize::from(steps[at]),
+            usize::from(steps[at + 1]),
+            usize::from(steps[at + 2]),
+            usize::from(steps[at + 3]),
+            usize::from(steps[at + 4]),
+            usize::from(steps[at + 5]),
         );
     }
     false

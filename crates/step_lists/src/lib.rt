@@ -3,7 +3,7 @@
 #![tactic(auto)]
 
 ghost use Rattle.std.specs.Prelude.{◌≡◌, ◌≤◌};
-ghost use Rattle.stops.specs.Answer.{check_answer, passing, value_or};
+ghost use Rattle.stops.specs.Answer.{answer_of};
 ghost use Rattle.steps.specs.StepLists.{count_check, follow, step_count, steps_in, steps_of};
 ghost use Rattle.board.specs.Boards.{board_of};
 ghost use Rattle.step_lists.specs.StepChecks.{ChecksSteps};
@@ -11,7 +11,7 @@ ghost use Rattle.step_lists.specs.StepChecks.{ChecksSteps};
 use board::entries::givens_of;
 use board::fresh::fresh_masks;
 use board::{Board, check};
-use stops::{Check, Stop};
+use stops::Stop;
 
 pub mod kinds;
 mod naming;
@@ -28,78 +28,39 @@ fn count_steps(bytes: usize) -> usize
 }
 
 // Stop 16 with the number of steps.
-fn check_count(bytes: usize) -> Check
-    ensures { check_answer result ≡ count_check (steps_in bytes) }
+fn check_count(bytes: usize) -> Result<(), Stop>
+    ensures { answer_of result ≡ count_check (steps_in bytes) }
 {
     let count = count_steps(bytes);
     if 729 < count {
-        return Check::Refused(Stop::TooManySteps(count as i64));
+        return Err(Stop::TooManySteps(count as i64));
     }
-    Check::Passed
-}
-
-// The masks after a list of steps; as they were beside a refusal.
-#[derive(Clone, Copy)]
-struct Followed {
-    answer: Check,
-    masks: [u16; 81],
+    Ok(())
 }
 
 // One step after the other: stop 15 with the index of the first that changes nothing. A step that names no instance, or whose condition does not hold, changes nothing either.
-fn follow_steps(givens: &[u8; 81], start: [u16; 81], steps: &[u8]) -> Followed
+fn follow_steps(givens: &[u8; 81], start: [u16; 81], steps: &[u8]) -> Result<[u16; 81], Stop>
     requires { step_count steps.now ≤ 729 }
-    ensures masks_value { passing (check_answer result.answer) result.masks ≡ follow givens.now 0 (steps_of steps.now) start }
-    ensures masks_value_2 { result.masks ≡ value_or start (follow givens.now 0 (steps_of steps.now) start) }
+    ensures { answer_of result ≡ follow givens.now 0 (steps_of steps.now) start }
 {
     let count = count_steps(steps.len());
     let mut masks = start;
-    let mut index: usize = 0;
-    while index < count {
+    for index in 0..count {
         if !kinds::take_at(givens, &mut masks, steps, 6 * index) {
-            return Followed {
-                answer: Check::Refused(Stop::BadStep(index as i64)),
-                masks: start,
-            };
+            return Err(Stop::BadStep(index as i64));
         }
-        index += 1;
     }
-    Followed {
-        answer: Check::Passed,
-        masks,
-    }
+    Ok(masks)
 }
 
-// What the checker hands back: the final board of an accepted list; beside a refusal the board as it was.
-#[derive(Clone, Copy)]
-pub struct CheckedSteps {
-    pub answer: Check,
-    pub board: Board,
-}
-
-// A list of steps, checked from the fresh board: the board's stops, then 16, then 15. The handed masks are checked and play no other part.
-pub fn check_steps(board: Board, steps: &[u8]) -> CheckedSteps
-    ensures { ChecksSteps (board_of board) steps.now result }
+// A list of steps, checked from the fresh board: the board's stops, then 16, then 15. The final board of an accepted list takes the place of the handed one, whose masks are checked and
+// play no other part.
+pub fn check_steps(board: &mut Board, steps: &[u8]) -> Result<(), Stop>
+    ensures { ChecksSteps (board_of board.old) steps.now result (board_of board.new) }
 {
-    let clues = board.clues;
-    let entries = board.entries;
-    let masks = board.masks;
-    let answer = stops::then(check(&clues, &entries, &masks), check_count(steps.len()));
-    let Check::Passed = answer else {
-        return CheckedSteps { answer, board };
-    };
-    let givens = givens_of(&clues, &entries);
-    let followed = follow_steps(&givens, fresh_masks(&givens), steps);
-    let answer = followed.answer;
-    let Check::Passed = answer else {
-        return CheckedSteps { answer, board };
-    };
-    let masks = followed.masks;
-    CheckedSteps {
-        answer,
-        board: Board {
-            clues,
-            entries,
-            masks,
-        },
-    }
+    check(&board.clues, &board.entries, &board.masks)?;
+    check_count(steps.len())?;
+    let givens = givens_of(&board.clues, &board.entries);
+    board.masks = follow_steps(&givens, fresh_masks(&givens), steps)?;
+    Ok(())
 }

@@ -1,6 +1,6 @@
 // Which numbers are a step's parts, kind by kind: "Other bytes name no instance". Nothing is asked of the numbers.
 // A box is called `block` here, since `box` is a word of the language.
-ghost use Rattle.std.specs.Prelude.{◌≡◌};
+ghost use Rattle.std.specs.Prelude.{◌≡◌, ◌&&◌, leb, ltb};
 ghost use Rattle.steps.specs.code.Decoding.{is_digit, are_digits, no_parts, place_in, is_cell_of, line_in, box_in, is_two, is_lone, is_place, is_pair, is_pointing, is_claiming, is_cross};
 ghost use Rattle.step_lists.specs.code.Taking.{is_met};
 
@@ -11,20 +11,14 @@ use grid::unit_cell;
 fn is_digit(digit: usize) -> bool
     ensures { result ≡ is_digit digit }
 {
-    if 0 < digit {
-        return digit < 10;
-    }
-    false
+    (1..10).contains(&digit)
 }
 
 // Bytes that stand for no part are zeros.
 fn no_parts(first: usize, second: usize) -> bool
     ensures { result ≡ no_parts first second }
 {
-    if first == 0 {
-        return second == 0;
-    }
-    false
+    first == 0 && second == 0
 }
 
 // Where in its unit a cell stands.
@@ -44,10 +38,7 @@ pub fn place_in(unit: usize, cell: usize) -> usize
 fn is_cell_of(unit: usize, cell: usize) -> bool
     ensures { result ≡ is_cell_of unit cell }
 {
-    if cell < 81 {
-        return unit_cell(unit, place_in(unit, cell)) == cell;
-    }
-    false
+    cell < 81 && unit_cell(unit, place_in(unit, cell)) == cell
 }
 
 // Which of a box's six lines a line is.
@@ -74,97 +65,62 @@ pub fn box_in(line: usize, block: usize) -> usize
 fn is_two(first: usize, one: usize, other: usize) -> bool
     ensures { result ≡ is_two first one other }
 {
-    if first <= one {
-        if one < other {
-            return other - first < 9;
-        }
-    }
-    false
+    first <= one && one < other && other - first < 9
 }
 
 pub fn is_lone(cell: usize, digit: usize, x: usize, y: usize, z: usize) -> bool
     ensures { result ≡ is_lone cell digit x y z }
 {
-    if cell < 81 {
-        if is_digit(digit) {
-            if x == 0 {
-                return no_parts(y, z);
-            }
-        }
-    }
-    false
+    cell < 81 && is_digit(digit) && x == 0 && no_parts(y, z)
 }
 
 pub fn is_place(unit: usize, digit: usize, cell: usize, y: usize, z: usize) -> bool
     ensures { result ≡ is_place unit digit cell y z }
 {
-    if unit < 27 {
-        if is_digit(digit) {
-            if is_cell_of(unit, cell) {
-                return no_parts(y, z);
-            }
-        }
-    }
-    false
+    unit < 27 && is_digit(digit) && is_cell_of(unit, cell) && no_parts(y, z)
 }
 
 // Two digits, rising.
 fn are_digits(a: usize, b: usize) -> bool
     ensures { result ≡ are_digits a b }
 {
-    if is_digit(a) {
-        if is_digit(b) {
-            return a < b;
-        }
-    }
-    false
+    is_digit(a) && is_digit(b) && a < b
 }
 
 pub fn is_pair(unit: usize, first: usize, second: usize, a: usize, b: usize) -> bool
     ensures { result ≡ is_pair unit first second a b }
 {
-    if unit < 27 {
-        if is_cell_of(unit, first) {
-            if is_cell_of(unit, second) {
-                if first < second {
-                    return are_digits(a, b);
-                }
-            }
-        }
-    }
-    false
+    unit < 27
+        && is_cell_of(unit, first)
+        && is_cell_of(unit, second)
+        && first < second
+        && are_digits(a, b)
 }
 
 // A unit and one that meets it, the nth of those.
 fn is_met(unit: usize, nth: usize, other: usize, digit: usize, y: usize, z: usize) -> bool
     ensures { result ≡ is_met unit nth other digit y z }
 {
-    if is_digit(digit) {
-        if met_unit(unit, nth) == other {
-            return no_parts(y, z);
-        }
-    }
-    false
+    is_digit(digit) && met_unit(unit, nth) == other && no_parts(y, z)
+}
+
+// The boxes are the last nine units.
+fn is_box(unit: usize) -> bool
+    ensures { result ≡ (leb 18 unit && ltb unit 27) }
+{
+    (18..27).contains(&unit)
 }
 
 pub fn is_pointing(block: usize, digit: usize, line: usize, y: usize, z: usize) -> bool
     ensures { result ≡ is_pointing block digit line y z }
 {
-    if 18 <= block {
-        if block < 27 {
-            return is_met(block, line_in(line), line, digit, y, z);
-        }
-    }
-    false
+    is_box(block) && is_met(block, line_in(line), line, digit, y, z)
 }
 
 pub fn is_claiming(line: usize, digit: usize, block: usize, y: usize, z: usize) -> bool
     ensures { result ≡ is_claiming line digit block y z }
 {
-    if line < 18 {
-        return is_met(line, box_in(line, block), block, digit, y, z);
-    }
-    false
+    line < 18 && is_met(line, box_in(line, block), block, digit, y, z)
 }
 
 // Two lines among the nine from the first one on, and two among those that cross them.
@@ -179,10 +135,5 @@ pub fn is_cross(
 ) -> bool
     ensures { result ≡ is_cross first across digit one other x y }
 {
-    if is_digit(digit) {
-        if is_two(first, one, other) {
-            return is_two(across, x, y);
-        }
-    }
-    false
+    is_digit(digit) && is_two(first, one, other) && is_two(across, x, y)
 }

@@ -52,3 +52,8 @@ module _ {A : Type 0} (c : Result (Unit {0}) Stop) {k : Answer (Unit {0})} (e : 
 -- what a `?` hands on is the stop that it met
 pub passed-on : {A : Type 0} (r : Result A Stop) {s : Stop} → IsErrAnd r (λ t. t ≡ s) → answer_of r ≡ stop s
 passed-on r h = let p = err_from_is_err_and r h in ap answer_of p.1 ∙ ap stop p.2
+
+-- where an answer gives a value, it gives any other that is put in its place
+pub put_in-place : {A B C : Type 0} {x : A} (f : C → A) (a : Answer C) → gives x ≡ map f a → (y : B) → gives y ≡ map (λ _. y) a
+put_in-place f (gives c) e y = refl
+put_in-place f (stop s) e y = absurd (stop-gives (sym e))

@@ -5,7 +5,6 @@ ghost use Rattle.std.proofs.Common.{SFits};
 ghost use Rattle.stops.specs.Answer.{map, value_or};
 ghost use Rattle.steps.specs.Calls as steps;
 ghost use Rattle.board.specs.Boards.{board_of, handed};
-ghost use Rattle.techniques.specs.code.Pushes.{stored};
 ghost use Rattle.techniques.specs.code.Searches.{search_call};
 ghost use Rattle.calls.specs.Replays.{replaying_answer};
 ghost use Rattle.calls.specs.StepNumbers.{outcome_or, step_left, stepping_answer};
@@ -18,6 +17,7 @@ use board::Board;
 use calls::quiet::quiet_step;
 use calls::{Replaying, Stepping};
 use stops::Progress;
+use techniques::singles::Reports;
 use techniques::{Search, report_handed};
 
 // The number of settling, whose values are what it counts.
@@ -81,15 +81,15 @@ fn used(count: usize) -> usize
 }
 
 // Two bytes a report, and zeros after the last.
-fn put_bytes(cells: &[u8; 324], digits: &[u8; 324], reports: usize, bytes: &mut [u8; 648])
-    ensures { bytes.new ≡ report_bytes (stored cells.now digits.now reports) }
+fn put_bytes(reports: &Reports, bytes: &mut [u8; 648])
+    ensures { bytes.new ≡ report_bytes reports.now }
 {
-    let count = used(reports);
+    let count = used(reports.count);
     *bytes = [0u8; 648];
     let mut report: usize = 0;
     while report < count {
-        bytes[2 * report] = cells[report];
-        bytes[2 * report + 1] = digits[report];
+        bytes[2 * report] = reports.cells[report];
+        bytes[2 * report + 1] = reports.digits[report];
         report += 1;
     }
 }
@@ -139,16 +139,12 @@ fn reporting(
 )
     ensures { (answer.new ≡ reported_code (steps.answer (search_call search) (handed clues.now entries.now masks.old))) × (masks.new ≡ (steps.left (handed clues.now entries.now masks.old) (steps.answer (search_call search) (handed clues.now entries.now masks.old))).masks) × (reports.new ≡ value_or reports.old (map outcome_bytes (steps.answer (search_call search) (handed clues.now entries.now masks.old)))) }
 {
-    let mut cells = [0u8; 324];
-    let mut digits = [0u8; 324];
-    let done = report_handed(search, clues, entries, masks, &mut cells, &mut digits);
-    let progress = done.answer;
-    let count = done.count;
-    match progress {
+    let mut found = Reports::new();
+    match report_handed(search, clues, entries, masks, &mut found) {
         Progress::Refused(stop) => *answer = codes::of_stop(stop, 0),
         Progress::Made(made) => {
-            *answer = [0, 0, codes::of_test(made), count as i64];
-            put_bytes(&cells, &digits, count, reports);
+            *answer = [0, 0, codes::of_test(made), found.count as i64];
+            put_bytes(&found, reports);
         }
     }
 }

@@ -2,7 +2,7 @@
 -- first cell makes no second pair. Assumes nothing.
 use mathlib.Core.Path.{◌≡◌, refl, sym, ap, ◌∙◌, subst}
 use mathlib.Core.Logic.{◌≢◌, ⊎_elim}
-use mathlib.Core.Bool.{Bool, true, false, cond, ◌&&◌, ◌||◌, and_comm, and-false}
+use mathlib.Core.Bool.{Bool, true, false, cond, ◌&&◌, ◌||◌, and_comm, and-false, true≢false}
 use mathlib.Core.List.Memᴰ
 use mathlib.Core.List.{List, [], ◌∷◌, Memᴰ}
 use Prim.Native.Nat.{ℕ, zero, suc, ◌+◌, ◌-◌, ◌≤◌, ◌<◌}
@@ -11,6 +11,8 @@ use native.Mathlib.Omega.{arith}
 use borrow.Author.Tests.{eq-eqb, ne_eqb, eqb-true, eqb-false, leb-true}
 use lib.Dec.{eqb, leb, ltb}
 use lib.ListN.{get_or}
+use Rattle.std.specs.Prelude.{Some, None, is_some}
+use Rattle.std.specs.declared.option.Option.{Option}
 use Rattle.candidates.specs.Masks.{count}
 use Rattle.candidates.proofs.Counts.{count_none}
 use Rattle.candidates.proofs.Held.{Held, none-held, held-ext}
@@ -27,7 +29,7 @@ use Rattle.steps.proofs.Losses.{lost-digits}
 use Rattle.cells.specs.code.Places.{lose_places, open_mask, unit_masks, all_masks, all_but}
 use Rattle.cells.proofs.Places.{all-kept, open-mask, unit-mask, all-mask}
 use Rattle.cells.proofs.UnitPlaces.{two-spared}
-use Rattle.techniques.specs.code.NakedPairs.{is_pair, pair_at, unit_pairs, twin_in, twin_of, pair_of, two_of, pair_masks, no_twins}
+use Rattle.techniques.specs.code.NakedPairs.{is_pair, pair_at, unit_pairs, twin_in, twin_of, pair_of, two_of, pair_masks, no_twins, place_of}
 
 -- ---- tests
 
@@ -73,6 +75,10 @@ first-idle g m u i none =
 
 -- ---- the search for a twin
 
+pub no-place : (r : Option ℕ) → is_some r ≡ false → place_of r ≡ 9
+no-place None e = refl
+no-place (Some j) e = absurd (true≢false e)
+
 module _ (nine : List ℕ) (x j : ℕ) where
   pub twin-here : j < 9 → at nine j ≡ x → j ≡ twin_in nine x (range (9 - j) j)
   unfolding twin_in
@@ -85,10 +91,6 @@ module _ (nine : List ℕ) (x j : ℕ) where
   pub twin-end : 9 ≤ j → 9 ≡ twin_in nine x (range (9 - j) j)
   unfolding twin_in
   twin-end h = sym (ap (twin_in nine x) (range-end 9 j h))
-
-pub twin-past : (nine : List ℕ) (i : ℕ) → 9 ≤ i → 9 ≡ twin_of nine i
-unfolding twin_of
-twin-past nine i h = twin-end nine (at nine i) (i + 1) (omega arith)
 
 module _ (nine : List ℕ) (x : ℕ) where
   -- no place has the mask

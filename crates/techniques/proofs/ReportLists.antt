@@ -8,7 +8,7 @@ use native.Mathlib.Omega.{arith}
 use borrow.Author.Tests.{lt-ltb}
 use lib.Dec.{eqb, ltb, lit≤}
 use lib.IntN.{ℤ}
-use lib.ListN.{length, set, replicate, length-append, length-map}
+use lib.ListN.{length, set, length-append, length-map}
 use Rattle.stops.specs.Answer as answers
 use Rattle.stops.specs.Answer.{Answer, gives, stop, passing, value_or}
 use Rattle.candidates.specs.Masks.{count, lowest}
@@ -26,7 +26,7 @@ use Rattle.techniques.specs.declared.singles.Reports.{Reports}
 use Rattle.techniques.specs.declared.Search.{Search}
 use Rattle.techniques.specs.declared.Search.TheVariants as search
 use Rattle.techniques.specs.Reports.{filled, reports_of}
-use Rattle.techniques.specs.code.Pushes.{pushed, append, stored}
+use Rattle.techniques.specs.code.Pushes.{pushed, append}
 use Rattle.techniques.specs.code.Searches.{search_call}
 
 -- ---- one report
@@ -36,14 +36,8 @@ unfolding append each
 append-one true c d q = refl
 append-one false c d q = refl
 
--- ---- reports in two arrays
-
-none-stored : stored (replicate 324 0) (replicate 324 0) 0 ≡ reports_of []
-unfolding reports_of filled
-none-stored = refl
-
-pub stored_same : {a b c d : List ℕ} {m n : ℕ} → a ≡ b → c ≡ d → m ≡ n → stored a c m ≡ stored b d n
-stored_same p q s = cc
+reports_same : {a b c d : List ℕ} {m n : ℕ} → a ≡ b → c ≡ d → m ≡ n → ◌≡◌ {A = Reports} (record { cells = a; digits = c; count = m }) (record { cells = b; digits = d; count = n })
+reports_same p q s = cc
 
 -- ---- a value that a list stands in
 
@@ -52,7 +46,7 @@ unfolding pushed reports_of filled
 push-on rs r h =
     cond-true (ltb (length rs) 324) (record { cells = set (filled (map (λ r. r.cell) rs)) (length rs) r.cell; digits = set (filled (map (λ r. r.digit) rs)) (length rs) r.digit; count = length rs + 1 }) (reports_of rs)
     (lt-ltb (length rs) 324 h)
-    ∙ stored_same (field (λ r. r.cell)) (field (λ r. r.digit)) (sym (length-append rs (r ∷ [])))
+    ∙ reports_same (field (λ r. r.cell)) (field (λ r. r.digit)) (sym (length-append rs (r ∷ [])))
   where
     field : (f : Report → ℕ) → set (filled (map f rs)) (length rs) (f r) ≡ filled (map f (rs ++ (r ∷ [])))
     field f = fill-next 0 324 (map f rs) (length rs) (f r) (length-map rs f) h ∙ ap filled (sym (map-append f rs (r ∷ [])))
@@ -109,10 +103,14 @@ answered-few s b = go (check_of b)
     go (gives u) = found-few s (givens b) b.masks
     go (stop t) = omega arith
 
--- ---- a list in arrays that held none
+-- ---- a list where there is no report before
 
-pub stands : (rs : List Report) → length rs ≤ 324 → append rs (stored (replicate 324 0) (replicate 324 0) 0) ≡ reports_of rs
-stands rs few = ap (append rs) none-stored ∙ append-on [] rs (omega (arith, few))
+pub new-empty : {q : Reports} → q ≡ reports_of [] → q.count ≡ 0
+unfolding reports_of
+new-empty e = ap (λ (q : Reports). q.count) e
+
+pub stands : (rs : List Report) → length rs ≤ 324 → append rs (reports_of []) ≡ reports_of rs
+stands rs few = append-on [] rs (omega (arith, few))
 
 append-count : (rs : List Report) (q : Reports) → q.count + length rs ≤ 324 → (append rs q).count ≡ q.count + length rs
 unfolding append each pushed
@@ -123,8 +121,8 @@ append-count (r ∷ rs) q h =
     append-count rs (pushed q r.cell r.digit) (omega arith) ∙ omega arith
 
 -- "A report is progress."
-pub some-found : (rs : List Report) → length rs ≤ 324 → (cs ds : List ℕ) {xs ys : List ℕ} {n : ℕ} → stored xs ys n ≡ append rs (stored cs ds 0) → ltb 0 n ≡ is_some rs
-some-found rs few cs ds e = ap (λ (q : Reports). ltb 0 q.count) e ∙ ap (ltb 0) (append-count rs (stored cs ds 0) (omega (arith, few))) ∙ some rs
+pub some-found : (rs : List Report) → length rs ≤ 324 → (q : Reports) {r : Reports} → q.count ≡ 0 → r ≡ append rs q → ltb 0 r.count ≡ is_some rs
+some-found rs few q empty e = ap (λ (q : Reports). ltb 0 q.count) e ∙ ap (ltb 0) (append-count rs q (omega (arith, few, empty)) ∙ ap (λ (n : ℕ). n + length rs) empty) ∙ some rs
   where
     some : (rs : List Report) → ltb 0 (0 + length rs) ≡ is_some rs
     some [] = refl

@@ -1,14 +1,14 @@
 -- What a call that reports hands back.
-use Rattle.std.specs.Prelude.{◌≡◌, []}
-use Rattle.stops.specs.Answer.{map, value_or, progress_answer}
+use Rattle.std.specs.Prelude.{◌≡◌, Result}
+use Rattle.stops.specs.Answer.{answer_of, map}
+use Rattle.stops.specs.declared.Stop.{Stop}
 use Rattle.steps.specs.Boards as S
 use Rattle.steps.specs.Calls.{Call, answer, left}
-use Rattle.board.specs.Boards.{board_of}
 use Rattle.techniques.specs.Reports.{reports_of}
 use Rattle.techniques.specs.declared.Reported.{Reported}
 
--- what the call answers on the board: its progress or its stop, the board as it leaves it, and the reports, none beside a stop
-pub record Finds (k : Call) (b : S.Board) (r : Reported) : Type 0 where
-  pub flag : progress_answer r.answer ≡ map (λ o. o.flag) (answer k b)
-  pub board : board_of r.board ≡ left b (answer k b)
-  pub reports : r.reports ≡ reports_of (value_or [] (map (λ o. o.reports) (answer k b)))
+-- what the call answers on the board: its stop, or its progress and its reports; and the board as it leaves it
+pub record Finds (k : Call) (b : S.Board) (r : Result Reported Stop) (after : S.Board) : Type 0 where
+  pub flag : map (λ x. x.made) (answer_of r) ≡ map (λ o. o.flag) (answer k b)
+  pub board : after ≡ left b (answer k b)
+  pub reports : map (λ x. x.reports) (answer_of r) ≡ map (λ o. reports_of o.reports) (answer k b)

@@ -37,20 +37,16 @@ fn block_lines(givens: &[u8; 81], masks: &mut [u16; 81], unit: usize, nine: &[u1
     ensures { masks.new ≡ block_lines givens.now unit nine.now masks.old }
 {
     let both = masks::meet(shared(nine), 511);
-    let mut nth: usize = 0;
-    while nth < 6 {
+    for nth in 0..6 {
         lose_line(givens, masks, unit, nth, on_line(nine, both, nth));
-        nth += 1;
     }
 }
 
 pub fn box_lines(givens: &[u8; 81], masks: &mut [u16; 81])
     ensures { masks.new ≡ box_lines givens.now masks.old }
 {
-    let mut block: usize = 0;
-    while block < 9 {
+    for block in 0..9 {
         let nine = unit_masks(givens, masks, 18 + block);
         block_lines(givens, masks, 18 + block, &nine);
-        block += 1;
     }
 }

@@ -1,40 +1,36 @@
 // Naked pairs (module 3): two open cells of a unit with the same two candidates; the unit's other open cells lose both.
-ghost use Rattle.std.specs.Prelude.{◌≡◌, cond, eqb};
+ghost use Rattle.std.specs.Prelude.{◌≡◌, ◌<◌, cond, eqb, IfSome};
 ghost use Rattle.steps.specs.Ported.{naked_pairs};
-ghost use Rattle.techniques.specs.code.NakedPairs.{twin_of, pair_of, unit_pairs, two_of, pair_masks, no_twins};
+ghost use Rattle.techniques.specs.code.NakedPairs.{twin_of, pair_of, unit_pairs, two_of, pair_masks, no_twins, place_of};
 
 use candidates::masks;
 use cells::{all_but, all_masks, lose_places, unit_masks};
 
-// The first place after this one that has its mask; 9 where none does.
-fn twin_of(nine: &[u16; 9], first: usize) -> usize
-    ensures { result ≡ twin_of nine.now first }
+// The first place after this one that has its mask.
+fn twin_of(nine: &[u16; 9], first: usize) -> Option<usize>
+    requires { first < 9 }
+    ensures found { place_of result ≡ twin_of nine.now first }
+    ensures below { IfSome result (λ second. second < 9) }
 {
-    if 9 <= first {
-        return 9;
-    }
     let mask = nine[first];
-    let mut second = first + 1;
-    while second < 9 {
+    for second in first + 1..9 {
         if nine[second] == mask {
-            return second;
+            return Some(second);
         }
-        second += 1;
     }
-    9
+    None
 }
 
-// The same for a mask of two digits; 9 for any other.
-fn pair_of(nine: &[u16; 9], first: usize) -> usize
-    ensures { result ≡ pair_of nine.now first }
+// The same for a mask of two digits; none for any other.
+fn pair_of(nine: &[u16; 9], first: usize) -> Option<usize>
+    requires { first < 9 }
+    ensures found { place_of result ≡ pair_of nine.now first }
+    ensures below { IfSome result (λ second. second < 9) }
 {
-    if 9 <= first {
-        return 9;
-    }
     if masks::is_two(nine[first]) {
         return twin_of(nine, first);
     }
-    9
+    None
 }
 
 // `nine` are the masks of the unit's open cells. A pair leaves none of its digits in the other cells, so that its first cell makes no second one;
@@ -43,15 +39,11 @@ fn unit_pairs(givens: &[u8; 81], masks: &mut [u16; 81], unit: usize)
     ensures { masks.new ≡ unit_pairs givens.now unit masks.old }
 {
     let mut nine = unit_masks(givens, masks, unit);
-    let mut first: usize = 0;
-    while first < 9 {
-        let second = pair_of(&nine, first);
-        if second < 9 {
+    for first in 0..9 {
+        if let Some(second) = pair_of(&nine, first) {
             lose_places(givens, masks, unit, all_but(first, second), nine[first]);
-            let renewed = unit_masks(givens, masks, unit);
-            nine = renewed;
+            nine = unit_masks(givens, masks, unit);
         }
-        first += 1;
     }
 }
 
@@ -80,10 +72,8 @@ fn pair_masks(givens: &[u8; 81], masks: &[u16; 81]) -> [u16; 81]
     ensures { result ≡ pair_masks givens.now masks.now }
 {
     let mut pairs = [0u16; 81];
-    let mut cell: usize = 0;
-    while cell < 81 {
+    for cell in 0..81 {
         pairs[cell] = if_open(givens[cell], if_two(masks[cell]));
-        cell += 1;
     }
     pairs
 }
@@ -92,14 +82,10 @@ fn pair_masks(givens: &[u8; 81], masks: &[u16; 81]) -> [u16; 81]
 fn no_twins(nine: &[u16; 9]) -> bool
     ensures { result ≡ no_twins nine.now }
 {
-    let mut first: usize = 0;
-    while first < 9 {
-        if nine[first] != 0 {
-            if twin_of(nine, first) < 9 {
-                return false;
-            }
+    for first in 0..9 {
+        if nine[first] != 0 && twin_of(nine, first).is_some() {
+            return false;
         }
-        first += 1;
     }
     true
 }
@@ -109,14 +95,11 @@ pub fn naked_pairs(givens: &[u8; 81], masks: &mut [u16; 81])
     ensures { masks.new ≡ naked_pairs givens.now masks.old }
 {
     let mut pairs = pair_masks(givens, masks);
-    let mut unit: usize = 0;
-    while unit < 27 {
+    for unit in 0..27 {
         let nine = all_masks(&pairs, unit);
         if !no_twins(&nine) {
             unit_pairs(givens, masks, unit);
-            let renewed = pair_masks(givens, masks);
-            pairs = renewed;
+            pairs = pair_masks(givens, masks);
         }
-        unit += 1;
     }
 }

@@ -3,7 +3,7 @@ ghost use Rattle.std.specs.Prelude.{◌≡◌, [], ◌++◌, ◌+◌, ◌<◌, �
 ghost use Rattle.candidates.specs.Sets.{only_of, digit_or0};
 ghost use Rattle.steps.specs.Singles.{naked_singles, hidden_singles};
 ghost use Rattle.techniques.specs.Reports.{reports_of};
-ghost use Rattle.techniques.specs.code.Pushes.{pushed, append, stored};
+ghost use Rattle.techniques.specs.code.Pushes.{pushed, append, cleared};
 ghost use Rattle.techniques.specs.code.Singles.{hidden_in, once_of};
 
 use candidates::{SingleCandidate, SudokuCandidateSet, masks};
@@ -29,17 +29,24 @@ impl Reports {
             count: 0,
         }
     }
-}
 
-// One more report in lent arrays that hold so many, and how many they hold then. A value would be copied at each push; that there is room is known
-// before, so that no push asks for it.
-fn push(cells: &mut [u8; 324], digits: &mut [u8; 324], count: usize, cell: u8, digit: u8) -> usize
-    requires { count < 324 }
-    ensures { (stored cells.new digits.new result ≡ pushed (stored cells.old digits.old count) cell digit) × (result ≡ count + 1) }
-{
-    cells[count] = cell;
-    digits[count] = digit;
-    count + 1
+    // The entries stay as they are.
+    pub(crate) fn clear(&mut self)
+        ensures { self.new ≡ cleared self.old }
+    {
+        self.count = 0;
+    }
+
+    // One more report. That there is room is known before, so that no push asks for it.
+    fn push(&mut self, cell: u8, digit: u8)
+        requires { self.old.count < 324 }
+        ensures after { self.new ≡ pushed self.old cell digit }
+        ensures counted { self.new.count ≡ self.old.count + 1 }
+    {
+        self.cells[self.count] = cell;
+        self.digits[self.count] = digit;
+        self.count += 1;
+    }
 }
 
 // The digit of a mask that holds just one, else 0.
@@ -53,27 +60,18 @@ fn only_digit(mask: u16) -> u8
     }
 }
 
-// Open cells with one candidate, rising, after the reports that the lent arrays hold.
-pub fn naked_singles(
-    givens: &[u8; 81],
-    masks: &[u16; 81],
-    cells: &mut [u8; 324],
-    digits: &mut [u8; 324],
-    held: usize,
-) -> usize
-    requires { held + 81 ≤ 324 }
-    ensures { (stored cells.new digits.new result ≡ append (naked_singles givens.now masks.now) (stored cells.old digits.old held)) × (result ≤ held + 81) }
+// Open cells with one candidate, rising, after what is reported.
+pub(crate) fn naked_singles(givens: &[u8; 81], masks: &[u16; 81], reports: &mut Reports)
+    requires { reports.old.count + 81 ≤ 324 }
+    ensures reports_after { reports.new ≡ append (naked_singles givens.now masks.now) reports.old }
+    ensures few { reports.new.count ≤ reports.old.count + 81 }
 {
-    let mut count = held;
-    let mut cell: usize = 0;
-    while cell < 81 {
+    for cell in 0..81 {
         let digit = only_digit(open_mask(givens, masks, cell));
         if digit != 0 {
-            count = push(cells, digits, count, cell as u8, digit);
+            reports.push(cell as u8, digit);
         }
-        cell += 1;
     }
-    count
 }
 
 // The digits that just one of the masks holds.
@@ -84,75 +82,46 @@ fn held_once(nine: &[u16; 9]) -> u16
 }
 
 // The digits that one open cell of the unit holds, rising.
-fn hidden_in(
-    givens: &[u8; 81],
-    masks: &[u16; 81],
-    unit: usize,
-    cells: &mut [u8; 324],
-    digits: &mut [u8; 324],
-    held: usize,
-) -> usize
-    requires { held + 9 ≤ 324 }
-    ensures { (stored cells.new digits.new result ≡ append (hidden_in givens.now masks.now unit) (stored cells.old digits.old held)) × (result ≤ held + 9) }
+fn hidden_in(givens: &[u8; 81], masks: &[u16; 81], unit: usize, reports: &mut Reports)
+    requires { reports.old.count + 9 ≤ 324 }
+    ensures reports_after { reports.new ≡ append (hidden_in givens.now masks.now unit) reports.old }
+    ensures few { reports.new.count ≤ reports.old.count + 9 }
 {
     let nine = unit_masks(givens, masks, unit);
     let once = held_once(&nine);
-    let mut count = held;
-    let mut digit: usize = 0;
-    while digit < 9 {
+    for digit in 0..9 {
         if masks::has_digit(once, digit) {
             let place = masks::lowest_digit(places_of(&nine, digit));
             let cell = unit_cell(unit, place);
-            count = push(cells, digits, count, cell as u8, (digit + 1) as u8);
+            reports.push(cell as u8, (digit + 1) as u8);
         }
-        digit += 1;
     }
-    count
 }
 
 // The same for rows, columns and boxes, repeats kept.
-pub fn hidden_singles(
-    givens: &[u8; 81],
-    masks: &[u16; 81],
-    cells: &mut [u8; 324],
-    digits: &mut [u8; 324],
-    held: usize,
-) -> usize
-    requires { held + 243 ≤ 324 }
-    ensures { stored cells.new digits.new result ≡ append (hidden_singles givens.now masks.now) (stored cells.old digits.old held) }
+pub(crate) fn hidden_singles(givens: &[u8; 81], masks: &[u16; 81], reports: &mut Reports)
+    requires { reports.old.count + 243 ≤ 324 }
+    ensures { reports.new ≡ append (hidden_singles givens.now masks.now) reports.old }
 {
-    let mut count = held;
-    let mut unit: usize = 0;
-    while unit < 27 {
-        count = hidden_in(givens, masks, unit, cells, digits, count);
-        unit += 1;
+    for unit in 0..27 {
+        hidden_in(givens, masks, unit, reports);
     }
-    count
 }
 
-// Naked singles and then hidden ones, in lent arrays that hold no report.
-pub fn singles_into(
-    givens: &[u8; 81],
-    masks: &[u16; 81],
-    cells: &mut [u8; 324],
-    digits: &mut [u8; 324],
-) -> usize
-    ensures { stored cells.new digits.new result ≡ append (naked_singles givens.now masks.now ++ hidden_singles givens.now masks.now) (stored cells.old digits.old 0) }
+// Naked singles and then hidden ones, where nothing is reported before.
+pub(crate) fn singles_into(givens: &[u8; 81], masks: &[u16; 81], reports: &mut Reports)
+    requires { reports.old.count ≡ 0 }
+    ensures { reports.new ≡ append (naked_singles givens.now masks.now ++ hidden_singles givens.now masks.now) reports.old }
 {
-    let naked = naked_singles(givens, masks, cells, digits, 0);
-    hidden_singles(givens, masks, cells, digits, naked)
+    naked_singles(givens, masks, reports);
+    hidden_singles(givens, masks, reports);
 }
 
 // The same as a value.
 pub fn singles(givens: &[u8; 81], masks: &[u16; 81]) -> Reports
     ensures { result ≡ reports_of (naked_singles givens.now masks.now ++ hidden_singles givens.now masks.now) }
 {
-    let mut cells = [0u8; 324];
-    let mut digits = [0u8; 324];
-    let count = singles_into(givens, masks, &mut cells, &mut digits);
-    Reports {
-        cells,
-        digits,
-        count,
-    }
+    let mut reports = Reports::new();
+    singles_into(givens, masks, &mut reports);
+    reports
 }

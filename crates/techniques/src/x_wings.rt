@@ -1,5 +1,5 @@
 // X-wing (module 5): two lines that hold a digit at the same two places and no others; the two lines across lose it everywhere else.
-// The lines are the rows and those across the columns; then rows and columns are exchanged, which is the flag `columns`.
+// The lines are the rows and those across the columns; then rows and columns are exchanged.
 ghost use Rattle.std.specs.Prelude.{◌≡◌};
 ghost use Rattle.steps.specs.Loops.{each, up_to};
 ghost use Rattle.steps.specs.Ported.{x_wings};
@@ -9,40 +9,50 @@ use candidates::masks;
 use cells::unions::shared;
 use cells::{all_but, lose_places, places_of, unit_masks};
 
-// The unit of the first line, and of the first line across.
-fn lines_from(columns: bool) -> usize
-    ensures { result ≡ lines_from columns }
-{
-    if columns {
-        return 9;
-    }
-    0
+// Which units the lines are; the others lie across.
+#[derive(Clone, Copy)]
+enum Lines {
+    Rows,
+    Columns,
 }
 
-fn across_from(columns: bool) -> usize
-    ensures { result ≡ across_from columns }
-{
-    if columns {
-        return 0;
+impl Lines {
+    // The unit of the first line.
+    fn first(self) -> usize
+        ensures { result ≡ lines_from self }
+    {
+        match self {
+            Lines::Rows => 0,
+            Lines::Columns => 9,
+        }
     }
-    9
+
+    // The unit of the first line across.
+    fn across(self) -> usize
+        ensures { result ≡ across_from self }
+    {
+        match self {
+            Lines::Rows => 9,
+            Lines::Columns => 0,
+        }
+    }
 }
 
 // Two lines with their places, the first with two of them.
 fn wing_at(
     givens: &[u8; 81],
     masks: &mut [u16; 81],
-    columns: bool,
+    lines: Lines,
     digit: usize,
     first: usize,
     second: usize,
     spots: u16,
     others: u16,
 )
-    ensures { masks.new ≡ wing_at givens.now columns digit first second spots others masks.old }
+    ensures { masks.new ≡ wing_at givens.now lines digit first second spots others masks.old }
 {
     if spots == others {
-        let across = across_from(columns);
+        let across = lines.across();
         let rest = all_but(first, second);
         let lost = masks::digit_mask(digit);
         lose_places(
@@ -65,12 +75,12 @@ fn wing_at(
 fn wings_from(
     givens: &[u8; 81],
     masks: &mut [u16; 81],
-    columns: bool,
+    lines: Lines,
     digit: usize,
     list: &[u16; 9],
     first: usize,
 )
-    ensures { masks.new ≡ wings_from givens.now columns digit list.now first masks.old }
+    ensures { masks.new ≡ wings_from givens.now lines digit list.now first masks.old }
 {
     if 9 <= first {
         return;
@@ -79,19 +89,17 @@ fn wings_from(
     if !masks::is_two(spots) {
         return;
     }
-    let mut second = first + 1;
-    while second < 9 {
+    for second in first + 1..9 {
         wing_at(
             givens,
             masks,
-            columns,
+            lines,
             digit,
             first,
             second,
             spots,
             list[second],
         );
-        second += 1;
     }
 }
 
@@ -102,27 +110,23 @@ fn held_twice(nine: &[u16; 9]) -> u16
     let mut once: u16 = 0;
     let mut twice: u16 = 0;
     let mut more: u16 = 0;
-    let mut place: usize = 0;
-    while place < 9 {
-        more = masks::join(more, masks::meet(twice, nine[place]));
-        twice = masks::join(twice, masks::meet(once, nine[place]));
-        once = masks::join(once, nine[place]);
-        place += 1;
+    for &mask in nine {
+        more = masks::join(more, masks::meet(twice, mask));
+        twice = masks::join(twice, masks::meet(once, mask));
+        once = masks::join(once, mask);
     }
     masks::lose(twice, more)
 }
 
 // For each line the digits that it holds at just two places.
-fn twice_sets(givens: &[u8; 81], masks: &[u16; 81], columns: bool) -> [u16; 9]
-    ensures { result ≡ twice_sets givens.now masks.now columns }
+fn twice_sets(givens: &[u8; 81], masks: &[u16; 81], lines: Lines) -> [u16; 9]
+    ensures { result ≡ twice_sets givens.now masks.now lines }
 {
-    let first = lines_from(columns);
+    let first = lines.first();
     let mut sets = [0u16; 9];
-    let mut line: usize = 0;
-    while line < 9 {
+    for line in 0..9 {
         let nine = unit_masks(givens, masks, first + line);
         sets[line] = held_twice(&nine);
-        line += 1;
     }
     sets
 }
@@ -142,58 +146,46 @@ fn spots_where(givens: &[u8; 81], masks: &[u16; 81], unit: usize, digit: usize, 
 fn two_spots(
     givens: &[u8; 81],
     masks: &[u16; 81],
-    columns: bool,
+    lines: Lines,
     digit: usize,
     sets: &[u16; 9],
 ) -> [u16; 9]
-    ensures { result ≡ two_spots givens.now masks.now columns digit sets.now }
+    ensures { result ≡ two_spots givens.now masks.now lines digit sets.now }
 {
-    let first = lines_from(columns);
+    let first = lines.first();
     let mut list = [0u16; 9];
-    let mut line: usize = 0;
-    while line < 9 {
+    for line in 0..9 {
         list[line] = spots_where(givens, masks, first + line, digit, sets[line]);
-        line += 1;
     }
     list
 }
 
 // The list is made once, at the digit's start.
-fn wing_digit(
-    givens: &[u8; 81],
-    masks: &mut [u16; 81],
-    columns: bool,
-    digit: usize,
-    sets: &[u16; 9],
-)
-    ensures { masks.new ≡ wings_in givens.now columns digit (two_spots givens.now masks.old columns digit sets.now) masks.old }
+fn wing_digit(givens: &[u8; 81], masks: &mut [u16; 81], lines: Lines, digit: usize, sets: &[u16; 9])
+    ensures { masks.new ≡ wings_in givens.now lines digit (two_spots givens.now masks.old lines digit sets.now) masks.old }
 {
-    let list = two_spots(givens, masks, columns, digit, sets);
-    let mut first: usize = 0;
-    while first < 9 {
-        wings_from(givens, masks, columns, digit, &list, first);
-        first += 1;
+    let list = two_spots(givens, masks, lines, digit, sets);
+    for first in 0..9 {
+        wings_from(givens, masks, lines, digit, &list, first);
     }
 }
 
 // A digit that no two lines hold at just two places is passed over. The sets are made once, since the X-wings of a digit change no other.
-fn wings_in(givens: &[u8; 81], masks: &mut [u16; 81], columns: bool)
-    ensures { masks.new ≡ each (wing_digit givens.now columns) (up_to 9) masks.old }
+fn wings_in(givens: &[u8; 81], masks: &mut [u16; 81], lines: Lines)
+    ensures { masks.new ≡ each (wing_digit givens.now lines) (up_to 9) masks.old }
 {
-    let sets = twice_sets(givens, masks, columns);
+    let sets = twice_sets(givens, masks, lines);
     let due = shared(&sets);
-    let mut digit: usize = 0;
-    while digit < 9 {
+    for digit in 0..9 {
         if masks::has_digit(due, digit) {
-            wing_digit(givens, masks, columns, digit, &sets);
+            wing_digit(givens, masks, lines, digit, &sets);
         }
-        digit += 1;
     }
 }
 
 pub fn x_wings(givens: &[u8; 81], masks: &mut [u16; 81])
     ensures { masks.new ≡ x_wings givens.now masks.old }
 {
-    wings_in(givens, masks, false);
-    wings_in(givens, masks, true);
+    wings_in(givens, masks, Lines::Rows);
+    wings_in(givens, masks, Lines::Columns);
 }

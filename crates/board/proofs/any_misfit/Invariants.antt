@@ -10,6 +10,3 @@ use Rattle.board.proofs.any_misfit.Given as goal
 
 abbrev pub invariant-loop-cell : goal.invariant-loop-cell
 invariant-loop-cell l = (l.any || is_found (first (λ c. misfit_of (at l.masks c) (at l.fresh c) (given l.givens c)) (range (81 - l.cell) l.cell))) ≡ is_found (first_misfit l.givens l.fresh l.masks)
-
-abbrev pub decreases-loop-cell : goal.decreases-loop-cell
-decreases-loop-cell l = 81 - l.cell

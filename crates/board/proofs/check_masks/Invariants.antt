@@ -9,6 +9,3 @@ use Rattle.board.proofs.check_masks.Given as goal
 
 abbrev pub invariant-loop-cell : goal.invariant-loop-cell
 invariant-loop-cell l = first (λ c. misfit_of (at l.masks c) (at l.fresh c) (given l.givens c)) (range (81 - l.cell) l.cell) ≡ first_misfit l.givens l.fresh l.masks
-
-abbrev pub decreases-loop-cell : goal.decreases-loop-cell
-decreases-loop-cell l = 81 - l.cell

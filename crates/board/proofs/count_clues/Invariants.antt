@@ -9,6 +9,3 @@ use Rattle.board.proofs.count_clues.Given as goal
 
 abbrev pub invariant-loop-cell : goal.invariant-loop-cell
 invariant-loop-cell l = (l.cell ≤ 81) × (l.count ≤ l.cell) × (l.count + clue_count (givens_of l.clues) (range (81 - l.cell) l.cell) ≡ clue_count (givens_of l.clues) cells)
-
-abbrev pub decreases-loop-cell : goal.decreases-loop-cell
-decreases-loop-cell l = 81 - l.cell

@@ -15,6 +15,3 @@ turn g m c k = union k (bit_and (at m c) (door_at g c))
 
 abbrev pub invariant-loop-cell : goal.invariant-loop-cell
 invariant-loop-cell l = (l.cell ≤ 81) × (each (turn l.givens l.masks) (range (81 - l.cell) l.cell) l.held ≡ loose_digits l.givens l.masks)
-
-abbrev pub decreases-loop-cell : goal.decreases-loop-cell
-decreases-loop-cell l = 81 - l.cell

@@ -17,6 +17,3 @@ turn g u places k i m = cond (has places i) (lose_in (is_open g) (unit_cell u i)
 
 abbrev pub invariant-loop-place : goal.invariant-loop-place
 invariant-loop-place l = (l.place ≤ 9) × (each (turn l.givens l.unit l.places l.lost) (range (9 - l.place) l.place) l.masks ≡ lose_places (is_open l.givens) l.unit l.places l.lost l.initial.masks) × Went l.any l.initial.masks l.masks
-
-abbrev pub decreases-loop-place : goal.decreases-loop-place
-decreases-loop-place l = 9 - l.place

@@ -7,6 +7,3 @@ use Rattle.chains.proofs.chains.Given as goal
 
 abbrev pub invariant-loop-digit : goal.invariant-loop-digit
 invariant-loop-digit l = (l.digit ≤ 9) × (each (chain_digit l.givens) (range (9 - l.digit) l.digit) l.masks ≡ chains l.givens l.initial.masks)
-
-abbrev pub decreases-loop-digit : goal.decreases-loop-digit
-decreases-loop-digit l = 9 - l.digit

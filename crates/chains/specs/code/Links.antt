@@ -1,14 +1,17 @@
 -- The chain search over the list of a digit's open holders, as the code goes about it; `proofs/Holders.antt` shows that it is the search of module 11.
-use Rattle.std.specs.Prelude.{Bool, true, false, cond, not, ◌&&◌, List, [], ◌∷◌, map, ℕ, zero, suc, ◌+◌, eqb, ltb, length}
+use Rattle.std.specs.Prelude.{Bool, cond, not, ◌&&◌, List, [], ◌∷◌, map, ℕ, zero, suc, ◌+◌, eqb, ltb, length}
+use Rattle.std.specs.Prelude.{Some, None}
+use Rattle.std.specs.Prelude as std
 use Rattle.std.proofs.Math.Option.{Option, none, some}
 use Rattle.grid.specs.Cells.{row, col, box, sees}
 use Rattle.grid.specs.Units.{in_unit}
 use Rattle.steps.specs.Chains.{or_else, first_some, on_path, two_of}
 use Rattle.steps.specs.Loops.{for, select, up_to}
 
-abbrev pub is_some : Option ℕ → Bool
-is_some none = false
-is_some (some e) = true
+-- the code's answer
+abbrev pub found_cell : std.Option ℕ → Option ℕ
+found_cell None = none
+found_cell (Some c) = some c
 
 -- those that are not the cell
 abbrev pub others : ℕ → List ℕ → List ℕ

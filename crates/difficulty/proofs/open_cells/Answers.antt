@@ -1,6 +1,5 @@
-use mathlib.Core.Path.{◌≡◌, ◌∙◌}
-use mathlib.Core.Logic.{⊎_elim}
-use Prim.Native.Nat.{suc, ◌+◌, ◌-◌, ◌≤◌}
+use mathlib.Core.Path.{◌∙◌}
+use Prim.Native.Nat.{suc, ◌+◌, ◌-◌}
 use native.Mathlib.Nat.{zero-add}
 use native.Mathlib.Omega.{arith}
 use borrow.Author.Tests.{eq-eqb, ne_eqb}
@@ -9,7 +8,7 @@ use Rattle.grid.specs.Cells.{cells}
 use Rattle.grid.specs.Lists.{range}
 use Rattle.steps.specs.Boards.{given, is_open}
 use Rattle.steps.specs.Difficulty.{open_cells}
-use Rattle.difficulty.proofs.Figures.{open_of, open-on, open-end}
+use Rattle.difficulty.proofs.Figures.{open_of, open-on}
 use Rattle.difficulty.proofs.open_cells.Goals.{else-givens-cell-eq0, then-givens-cell-eq0}
 use Rattle.difficulty.proofs.open_cells.Goals as goal
 

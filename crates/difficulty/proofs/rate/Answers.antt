@@ -2,11 +2,9 @@
 use mathlib.Core.Path.{◌≡◌, sym, ap, subst, ◌∙◌}
 use mathlib.Core.List.{List}
 use Prim.Native.Nat.{ℕ, ◌≤◌}
-use borrow.Author.Rules.{rules}
 use Rattle.steps.specs.Boards.{fresh}
 use Rattle.steps.specs.Difficulty.{summed, pass_counts}
-use Rattle.difficulty.specs.code.Rates.{rating_by}
-use Rattle.difficulty.proofs.Figures.{counts-few, none_open}
+use Rattle.difficulty.proofs.Figures.{counts-few}
 use Rattle.difficulty.proofs.rate.Goals as goal
 
 pub rating_of-requires : goal.rating_of-requires

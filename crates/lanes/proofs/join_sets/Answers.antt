@@ -5,14 +5,14 @@ use Rattle.lanes.specs.code.Lanes.{joined_sets}
 use Rattle.lanes.proofs.join_sets.Invariants.{turn}
 use Rattle.lanes.proofs.join_sets.Goals as goal
 
-pub loop-nth-init : goal.loop-nth-init
+pub loop-set-init : goal.loop-set-init
 unfolding joined_sets
-loop-nth-init c = (omega arith, refl)
+loop-set-init c = (omega arith, refl)
 
-pub loop-nth-preserved : goal.loop-nth-preserved
-loop-nth-preserved c =
-    let l = c.loop-nth in
-    (omega arith, turn-done (turn c.args.sets.now) 16 l.nth (omega arith) c.join-held.ensures l.invariant.1)
+pub loop-set-preserved : goal.loop-set-preserved
+loop-set-preserved c =
+    let l = c.loop-set in
+    (omega arith, turn-done (turn c.args.sets.now) 16 l.set-index (omega arith) c.join-held.ensures l.invariant.1)
 
 pub returns : goal.returns
-returns c = turns-over (turn c.args.sets.now) 16 c.loop-nth.nth c.loop-nth-test.false c.loop-nth.invariant.1
+returns c = turns-over (turn c.args.sets.now) 16 c.loop-set.set-index c.loop-set-test.false c.loop-set.invariant.1

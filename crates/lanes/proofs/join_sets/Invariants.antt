@@ -11,8 +11,5 @@ use Rattle.lanes.proofs.join_sets.Given as goal
 abbrev pub turn : List ℕ → ℕ → ℕ → ℕ
 turn sets i k = union k (at sets i)
 
-abbrev pub invariant-loop-nth : goal.invariant-loop-nth
-invariant-loop-nth l = (l.nth ≤ 16) × (each (turn l.sets) (range (16 - l.nth) l.nth) l.held ≡ joined_sets l.sets)
-
-abbrev pub decreases-loop-nth : goal.decreases-loop-nth
-decreases-loop-nth l = 16 - l.nth
+abbrev pub invariant-loop-set : goal.invariant-loop-set
+invariant-loop-set l = (l.set-index ≤ 16) × (each (turn l.sets) (range (16 - l.set-index) l.set-index) l.held ≡ joined_sets l.sets)

@@ -12,7 +12,7 @@ loop-place-init c = fill_start _ 9 (replicate 9 0) refl
 pub loop-place-preserved : goal.loop-place-preserved
 loop-place-preserved c =
     let l = c.loop-place in
-    fill_on _ 9 l.place l.nine l.invariant (omega arith) refl
+    fill_on _ 9 l.place l.mask-items l.invariant (omega arith) refl
 
 pub returns : goal.returns
-returns c = fill_end _ 9 c.loop-place.place c.loop-place.nine c.loop-place.invariant c.loop-place-test.false
+returns c = fill_end _ 9 c.loop-place.place c.loop-place.mask-items c.loop-place.invariant c.loop-place-test.false

@@ -13,6 +13,3 @@ turn p q l i k = union k (bit_and (lane_at p l i) (lane_at q l i))
 
 abbrev pub invariant-loop-place : goal.invariant-loop-place
 invariant-loop-place l = (l.place ≤ 9) × (each (turn l.lanes l.doors l.lane) (range (9 - l.place) l.place) l.held ≡ loose_of l.lanes l.doors l.lane)
-
-abbrev pub decreases-loop-place : goal.decreases-loop-place
-decreases-loop-place l = 9 - l.place

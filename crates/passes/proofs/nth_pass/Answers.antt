@@ -5,7 +5,6 @@ use Prim.Native.Nat.{ℕ}
 use native.Mathlib.Omega.{arith}
 use Rattle.steps.specs.Passes.{Kind, instances, pass}
 use Rattle.steps.specs.code.Logs.{log_after}
-use Rattle.lanes.specs.code.Lanes.{laid}
 use Rattle.passes.specs.code.Rounds.{nth_kind}
 use Rattle.passes.proofs.Rounds.{last-kind}
 use Rattle.passes.proofs.nth_pass.Goals as goal

@@ -2,9 +2,8 @@
 use mathlib.Core.Path.{ap, ap₂, ◌∙◌}
 use mathlib.Core.List.{List}
 use Prim.Native.Nat.{ℕ}
-use borrow.Author.Rules.{rules}
 use Rattle.stops.specs.Answer.{Answer, gives, map, value_or}
-use Rattle.stops.proofs.Answers.{told}
+use Rattle.stops.proofs.Answers.{passed-on}
 use Rattle.steps.specs.Boards as S
 use Rattle.steps.specs.Calls.{Outcome, settling_call, outcome, left}
 use Rattle.steps.specs.Difficulty.{pass_counts}
@@ -31,29 +30,29 @@ log_back b l a = value_or l (map (λ _. log_after (S.givens b) (settling_instanc
 counts_back : S.Board → List ℕ → Answer Outcome → List ℕ
 counts_back b k a = value_or k (map (λ _. pass_counts (S.givens b) b.masks) a)
 
-pub returns-in-Refused : goal.returns-in-Refused
+pub returns-in_err-check_given : goal.returns-in_err-check_given
 unfolding masks_back log_back log_left counts_back counts_left
-returns-in-Refused c =
+returns-in_err-check_given c =
     let a = c.args in
     let b = handed a.clues.now a.entries.now a.masks.now in
-    let e = answers settling_call b (told c.check_given.ensures c.in-Refused.is) in record {
-      result_value = ap (map counts_of) e;
+    let e = answers settling_call b c.in_err-check_given.ensures in record {
+      result_value = passed-on _ c.from_residual.ensures.1 ∙ ap (map counts_of) e;
       masks_after = ap (masks_back b) e;
       log_after = ap (log_back b a.log.now) e;
       counts_after = ap (counts_back b a.counts.now) e;
     }
 
-pub returns-in-Passed : goal.returns-in-Passed
+pub returns : goal.returns
 unfolding outcome counted masks_back log_back log_left counts_back counts_left
-returns-in-Passed c =
+returns c =
     let a = c.args in
     let b = handed a.clues.now a.entries.now a.masks.now in
     let m = a.masks.now in
-    let s = c.settle-done.ensures in
+    let s = c.settle.ensures in
     let same = c.givens_of-givens.ensures in
     let sweeps = s.sweeps_value ∙ ap (λ (g : List ℕ). (settle g m).sweeps) same in
     let masks = s.masks_after ∙ ap (λ (g : List ℕ). (settle g m).left) same in
-    let e = answers settling_call b (told c.check_given.ensures c.in-Passed.is) in record {
+    let e = answers settling_call b c.in_ok-check_given.ensures in record {
       result_value = ap₂ counted sweeps (s.removed_value ∙ ap (removed_by m) masks) ∙ ap (map counts_of) e;
       masks_after = masks ∙ ap (masks_back b) e;
       log_after = s.log_after ∙ ap (λ (g : List ℕ). log_after g (settling_instances g m) m a.log.now) same ∙ ap (log_back b a.log.now) e;

@@ -1,21 +1,16 @@
 use mathlib.Core.Path.{◌≡◌, refl, sym, ap, ◌∙◌}
-use mathlib.Core.Logic.{◌≢◌, inl, inr, ⊎_elim}
+use mathlib.Core.Logic.{inl, inr}
 use mathlib.Core.List.{List}
 use Prim.Native.Nat.{ℕ, ◌+◌, ◌-◌, ◌≤◌, ◌<◌}
 use native.Mathlib.Omega.{arith}
-use borrow.Author.Rules.{rules}
 use Rattle.grid.proofs.Lists.{turn-done, turns-over}
-use Rattle.steps.specs.Boards.{at, total}
-use Rattle.steps.specs.Difficulty.{removed_each}
+use Rattle.steps.specs.Boards.{total}
 use Rattle.steps.specs.Instances.{Instance}
-use Rattle.steps.specs.Loops.{each, for, range}
-use Rattle.steps.specs.Passes.{kinds, pass, sweep}
-use Rattle.steps.specs.StepLists.{sweep_instances}
+use Rattle.steps.specs.Loops.{for, range}
+use Rattle.steps.specs.Passes.{pass}
 use Rattle.steps.specs.code.Logs.{log_after}
 use Rattle.steps.proofs.StepLogs.{log-done, log-over}
-use Rattle.cells.proofs.LogLengths.{log-kept}
-use Rattle.lanes.specs.code.Lanes.{laid}
-use Rattle.passes.specs.code.Tallies.{tallied, tally_with, Tally}
+use Rattle.passes.specs.code.Tallies.{tallied, Tally}
 use Rattle.passes.specs.code.Rounds.{nth_kind}
 use Rattle.passes.proofs.Finished.{over-settled}
 use Rattle.passes.proofs.Rounds.{pass_instances, sweep-blocks, Going, going_start, going-idle, going-changed, swept-early, swept-over, left-silent, swept-end}

@@ -1,25 +1,15 @@
 -- `passes::sweep` meets its contract. The invariant: where the sweep stands after its first passes (`Going`), the masks stand in the lanes, and the passes that are left still make the log and the tally. Assumes nothing.
-use mathlib.Core.Path.{◌≡◌, refl, sym, ap, ◌∙◌}
-use mathlib.Core.Logic.{◌≢◌, inl, inr, ⊎_elim}
-use mathlib.Core.List.{List}
-use Prim.Native.Nat.{ℕ, ◌+◌, ◌-◌, ◌≤◌, ◌<◌}
-use native.Mathlib.Omega.{arith}
-use borrow.Author.Rules.{rules}
-use Rattle.grid.proofs.Lists.{turn-done, turns-over}
-use Rattle.steps.specs.Boards.{at, total}
+use mathlib.Core.Path.{◌≡◌}
+use Prim.Native.Nat.{◌-◌, ◌≤◌}
 use Rattle.steps.specs.Difficulty.{removed_each}
-use Rattle.steps.specs.Instances.{Instance}
 use Rattle.steps.specs.Loops.{each, for, range}
-use Rattle.steps.specs.Passes.{kinds, pass, sweep}
+use Rattle.steps.specs.Passes.{kinds, sweep}
 use Rattle.steps.specs.StepLists.{sweep_instances}
 use Rattle.steps.specs.code.Logs.{log_after}
-use Rattle.steps.proofs.StepLogs.{log-done, log-over}
-use Rattle.cells.proofs.LogLengths.{log-kept}
 use Rattle.lanes.specs.code.Lanes.{laid}
-use Rattle.passes.specs.code.Tallies.{tallied, tally_with, Tally}
-use Rattle.passes.proofs.Finished.{over-settled}
-use Rattle.passes.proofs.Rounds.{pass_instances, sweep-blocks, Going, going_start, going-idle, going-changed, swept-early, swept-over, left-silent, swept-end}
-use Rattle.passes.proofs.Tallies.{tally_turn, pass-fewer, pass_same, sweep-tally, swept-tally, left-uncounted, tally-turn}
+use Rattle.passes.specs.code.Tallies.{tally_with, Tally}
+use Rattle.passes.proofs.Rounds.{pass_instances, Going}
+use Rattle.passes.proofs.Tallies.{tally_turn}
 use Rattle.passes.proofs.sweep.Given as goal
 
 abbrev pub invariant-loop-nth : goal.invariant-loop-nth

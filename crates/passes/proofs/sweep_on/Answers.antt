@@ -1,17 +1,12 @@
-use mathlib.Core.Path.{◌≡◌, refl, sym, ap, ◌∙◌}
-use Prim.Native.Nat.{◌+◌, ◌-◌, ◌≤◌, ◌<◌}
+use mathlib.Core.Path.{refl, sym, ap, ◌∙◌}
+use Prim.Native.Nat.{◌<◌}
 use native.Mathlib.Omega.{arith}
-use borrow.Author.Rules.{rules}
-use lib.ListN.{length}
 use Rattle.steps.specs.Difficulty.{added, removed_in, pass_counts}
-use Rattle.steps.specs.Passes.{Sweeps, settle, settle_in}
+use Rattle.steps.specs.Passes.{Sweeps}
 use Rattle.steps.specs.StepLists.{settling_instances}
 use Rattle.steps.specs.code.Logs.{log_after}
 use Rattle.steps.proofs.StepLogs.{sweeps_of, log-nothing}
-use Rattle.cells.proofs.LogLengths.{log-length, log-kept}
-use Rattle.lanes.specs.code.Lanes.{laid}
-use Rattle.passes.specs.code.Rounds.{LastIdle}
-use Rattle.passes.specs.code.Tallies.{tally_with, Tally}
+use Rattle.passes.specs.code.Tallies.{tally_with}
 use Rattle.passes.proofs.Sweeping.{settle-stops, settle_goes, log-stops, log-goes, counts-stop, counts-go, settle-ends}
 use Rattle.passes.proofs.Tallies.{counts-over}
 use Rattle.passes.proofs.sweep_on.Goals as goal

@@ -1,20 +1,14 @@
 -- `passes::sweep_on` meets its contract. The invariant: the sweeps that are left still make what settling leaves, and with those done its count, its log and its tally; the last passes, `idle` of them, removed nothing. Assumes nothing.
-use mathlib.Core.Path.{◌≡◌, refl, sym, ap, ◌∙◌}
+use mathlib.Core.Path.{◌≡◌}
 use Prim.Native.Nat.{◌+◌, ◌-◌, ◌≤◌, ◌<◌}
-use native.Mathlib.Omega.{arith}
-use borrow.Author.Rules.{rules}
-use lib.ListN.{length}
 use Rattle.steps.specs.Difficulty.{added, removed_in, pass_counts}
-use Rattle.steps.specs.Passes.{Sweeps, settle, settle_in}
+use Rattle.steps.specs.Passes.{settle, settle_in}
 use Rattle.steps.specs.StepLists.{settling_instances}
 use Rattle.steps.specs.code.Logs.{log_after}
-use Rattle.steps.proofs.StepLogs.{sweeps_of, log-nothing}
-use Rattle.cells.proofs.LogLengths.{log-length, log-kept}
+use Rattle.steps.proofs.StepLogs.{sweeps_of}
 use Rattle.lanes.specs.code.Lanes.{laid}
 use Rattle.passes.specs.code.Rounds.{LastIdle}
-use Rattle.passes.specs.code.Tallies.{tally_with, Tally}
-use Rattle.passes.proofs.Sweeping.{settle-stops, settle_goes, log-stops, log-goes, counts-stop, counts-go, settle-ends}
-use Rattle.passes.proofs.Tallies.{counts-over}
+use Rattle.passes.specs.code.Tallies.{Tally}
 use Rattle.passes.proofs.sweep_on.Given as goal
 
 abbrev pub invariant-loop-sweeps : goal.invariant-loop-sweeps

@@ -1,7 +1,6 @@
 -- `passes::tally_pass` meets its contract: the seven numbers of the tally add up to the same as before, so none grows too large. Assumes nothing.
 use mathlib.Core.Path.{refl}
 use native.Mathlib.Omega.{arith}
-use borrow.Author.Rules.{rules}
 use Rattle.passes.specs.code.Tallies.{tallied}
 use Rattle.passes.proofs.Tallies.{two-summed}
 use Rattle.passes.proofs.tally_pass.Goals as goal

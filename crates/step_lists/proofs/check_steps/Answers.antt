@@ -1,41 +1,39 @@
--- `step_lists::check_steps` meets its contract. Assumes nothing.
-use mathlib.Core.Path.{ap, ◌∙◌}
-use Rattle.stops.specs.Answer.{value_or}
-use Rattle.steps.specs.Boards.{with_masks}
+use mathlib.Core.Path.{refl, sym}
+use Rattle.stops.proofs.Answers.{passed-on}
+use Rattle.steps.specs.StepLists.{step_count, check_steps_of}
 use Rattle.board.specs.Boards.{board_of}
-use Rattle.step_lists.proofs.Checks.{as_it_was, came-back, checked, from-fresh, refused-before, refused-step, accepted}
+use Rattle.step_lists.proofs.Checks.{few-steps, from-fresh}
 use Rattle.step_lists.proofs.check_steps.Goals as goal
 
-pub returns-in_default : goal.returns-in_default
-returns-in_default c =
-    let a = c.args in
-    let b = board_of a.board in
-    let bs = a.steps.now in
-    let first = c.then-answer.result in
-    let done = checked b bs c.check.result c.check_count.result first c.then-answer.ensures c.check.ensures c.check_count.ensures in
-    let e = refused-before b bs first done c.in_default.is b in
-    record { answer = e; board = as_it_was b first ∙ ap (value_or b) e }
+pub returns-in_err-check : goal.returns-in_err-check
+unfolding check_steps_of
+returns-in_err-check c = record {
+  answer = rw (passed-on _ c.from_residual.ensures.1, sym c.in_err-check.ensures) refl;
+  board = rw (sym c.in_err-check.ensures) refl;
+}
 
-pub returns-in_default-answer : goal.returns-in_default-answer
-returns-in_default-answer c =
-    let a = c.args in
-    let b = board_of a.board in
-    let bs = a.steps.now in
-    let first = c.then-answer.result in
-    let done = checked b bs c.check.result c.check_count.result first c.then-answer.ensures c.check.ensures c.check_count.ensures in
-    let f = c.follow_steps-followed.result in
-    let taken = from-fresh b bs c.givens_of-givens.ensures c.fresh_masks.ensures c.follow_steps-followed.ensures.masks_value in
-    let e = refused-step b bs first done c.in-Passed.is f.answer f.masks taken c.in_default-answer.is b in
-    record { answer = e; board = as_it_was b f.answer ∙ ap (value_or b) e }
+pub returns-in_err-check_count : goal.returns-in_err-check_count
+unfolding check_steps_of
+returns-in_err-check_count c = record {
+  answer = rw (passed-on _ c.from_residual-in_err-check_count.ensures.1, sym c.in_ok-check.ensures, sym c.in_err-check_count.ensures) refl;
+  board = rw (sym c.in_ok-check.ensures, sym c.in_err-check_count.ensures) refl;
+}
+
+pub follow_steps-requires : goal.follow_steps-requires
+follow_steps-requires c = few-steps (step_count c.args.steps.now) c.in_ok-check_count.ensures
+
+pub returns-in_err-board : goal.returns-in_err-board
+unfolding check_steps_of
+returns-in_err-board c =
+    let steps = from-fresh (board_of c.args.board.now) c.args.steps.now c.givens_of-givens.ensures c.fresh_masks.ensures c.in_err-board.ensures in record {
+      answer = rw (passed-on _ c.from_residual-in_err-board.ensures.1, sym c.in_ok-check.ensures, sym c.in_ok-check_count.ensures, sym steps) refl;
+      board = rw (sym c.in_ok-check.ensures, sym c.in_ok-check_count.ensures, sym steps) refl;
+    }
 
 pub returns : goal.returns
+unfolding check_steps_of
 returns c =
-    let a = c.args in
-    let b = board_of a.board in
-    let bs = a.steps.now in
-    let first = c.then-answer.result in
-    let done = checked b bs c.check.result c.check_count.result first c.then-answer.ensures c.check.ensures c.check_count.ensures in
-    let f = c.follow_steps-followed.result in
-    let taken = from-fresh b bs c.givens_of-givens.ensures c.fresh_masks.ensures c.follow_steps-followed.ensures.masks_value in
-    let e = accepted b bs first done c.in-Passed.is f.answer f.masks taken c.in-Passed-answer.is in
-    record { answer = e; board = came-back b (with_masks b f.masks) f.answer c.in-Passed-answer.is ∙ ap (value_or b) e }
+    let steps = from-fresh (board_of c.args.board.now) c.args.steps.now c.givens_of-givens.ensures c.fresh_masks.ensures c.in_ok-board.ensures in record {
+      answer = rw (sym c.in_ok-check.ensures, sym c.in_ok-check_count.ensures, sym steps) refl;
+      board = rw (sym c.in_ok-check.ensures, sym c.in_ok-check_count.ensures, sym steps) refl;
+    }

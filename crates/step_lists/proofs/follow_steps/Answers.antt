@@ -6,7 +6,7 @@ use native.Mathlib.Omega.{arith}
 use lib.IntN.{ℤ}
 use mir.Syntax.{w64}
 use mir.Val.{to_z}
-use Rattle.stops.specs.Answer.{gives, stop, value_or}
+use Rattle.stops.specs.Answer.{gives, stop}
 use Rattle.stops.specs.declared.Stop.TheVariants.{BadStep}
 use Rattle.stops.proofs.Numbers.{small}
 use Rattle.steps.specs.Instances.{Instance}
@@ -29,10 +29,7 @@ returns-then-not-take_at c =
     let e : stop (BadStep (to_z w64 l.index)) ≡ follow a.givens.now 0 (steps_of a.steps.now) a.start =
     ap (λ (z : ℤ). stop (BadStep z)) (small (omega (arith, few)))
     ∙ sym (step-bad a.steps.now a.givens.now c.count_steps-count.result l.index l.masks (omega arith) c.take_at.ensures.masks_after (sym c.take_at.ensures.value ∙ c.if-not-take_at.true))
-    ∙ l.invariant.1 in record {
-      masks_value = e;
-      masks_value_2 = ap (value_or a.start) e;
-    }
+    ∙ l.invariant.1 in e
 
 pub loop-index-preserved : goal.loop-index-preserved
 loop-index-preserved c =
@@ -48,7 +45,4 @@ returns c =
     let l = c.loop-index in
     let a = c.args in
     let e : gives l.masks ≡ follow a.givens.now 0 (steps_of a.steps.now) a.start =
-    sym (steps-over a.steps.now a.givens.now c.count_steps-count.result l.index l.masks c.loop-index-test.false) ∙ l.invariant.1 in record {
-      masks_value = e;
-      masks_value_2 = ap (value_or a.start) e;
-    }
+    sym (steps-over a.steps.now a.givens.now c.count_steps-count.result l.index l.masks c.loop-index-test.false) ∙ l.invariant.1 in e

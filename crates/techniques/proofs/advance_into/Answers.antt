@@ -19,8 +19,8 @@ returns c =
     let list = naked_singles g m ++ hidden_singles g m in
     let flag : c.advances-made.result ≡ (is_some list || changed m (naked_pairs g m)) =
     c.advances-made.ensures
-    ∙ ap (λ (t : Bool). t || changed m (naked_pairs g m)) (some-found list (singles-few g m) a.cells.now a.digits.now c.singles_into-count.ensures) in record {
+    ∙ ap (λ (t : Bool). t || changed m (naked_pairs g m)) (some-found list (singles-few g m) a.reports.now c.requires c.singles_into.ensures) in record {
       made_value = flag;
-      count_after = c.singles_into-count.ensures;
+      reports_after = c.singles_into.ensures;
       masks_after = c.renew.ensures ∙ ap (λ (t : Bool). cond t (fresh g) m) flag;
     }

@@ -1,5 +1,6 @@
 -- Naked pairs by places of a unit, as the code goes about them; `proofs/NakedPairs.antt` shows that they are the naked pairs of module 3.
-use Rattle.std.specs.Prelude.{Bool, cond, ◌&&◌, ◌||◌, List, [], ◌∷◌, map, ℕ, eqb, leb}
+use Rattle.std.specs.Prelude.{Bool, Some, None, cond, ◌&&◌, ◌||◌, List, [], ◌∷◌, map, ℕ, eqb, leb}
+use Rattle.std.specs.declared.option.Option.{Option}
 use Rattle.candidates.specs.Masks.{count}
 use Rattle.grid.specs.Units.{unit_cell}
 use Rattle.steps.specs.Boards.{at, is_open}
@@ -20,6 +21,11 @@ unfoldable pub unit_pairs : List ℕ → ℕ → List ℕ → List ℕ
 unit_pairs g u m = each (λ i. each (pair_at g u i) (above i 9)) (up_to 9) m
 
 -- ---- the search for a pair
+
+-- the place that a search found; 9 where it found none
+abbrev pub place_of : Option ℕ → ℕ
+place_of None = 9
+place_of (Some j) = j
 
 -- the first of these places of nine masks that has the mask x; 9 where none does
 unfoldable pub twin_in : List ℕ → ℕ → List ℕ → ℕ

@@ -4,9 +4,9 @@ use Rattle.steps.specs.Loops.{each}
 use Rattle.steps.specs.Singles.{Report}
 use Rattle.techniques.specs.declared.singles.Reports.{Reports}
 
--- reports in two arrays, which hold so many of them
-abbrev pub stored : List ℕ → List ℕ → ℕ → Reports
-stored cs ds n = record { cells = cs; digits = ds; count = n }
+-- no report, in the same entries
+abbrev pub cleared : Reports → Reports
+cleared q = record { cells = q.cells; digits = q.digits; count = 0 }
 
 -- one more report; a full value stays as it is
 unfoldable pub pushed : Reports → ℕ → ℕ → Reports

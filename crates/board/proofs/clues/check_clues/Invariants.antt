@@ -10,6 +10,3 @@ use Rattle.board.proofs.clues.check_clues.Given as goal
 
 abbrev pub invariant-loop-cell : goal.invariant-loop-cell
 invariant-loop-cell l = first (λ c. bad_clue (get_or l.clues c (pos 0))) (range (81 - l.cell) l.cell) ≡ first_bad_clue l.clues
-
-abbrev pub decreases-loop-cell : goal.decreases-loop-cell
-decreases-loop-cell l = 81 - l.cell

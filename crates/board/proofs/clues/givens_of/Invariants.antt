@@ -1,6 +1,5 @@
 -- `board::clues::givens_of` meets its contract. Assumes nothing.
 use mathlib.Core.Path.{◌≡◌}
-use Prim.Native.Nat.{◌-◌}
 use lib.IntN.{pos}
 use lib.ListN.{get_or}
 use Rattle.steps.specs.Boards.{digit_of, givens_of}
@@ -9,6 +8,3 @@ use Rattle.board.proofs.clues.givens_of.Given as goal
 
 abbrev pub invariant-loop-cell : goal.invariant-loop-cell
 invariant-loop-cell l = filled (λ c. digit_of (get_or l.clues c (pos 0))) 81 l.cell l.givens ≡ givens_of l.clues
-
-abbrev pub decreases-loop-cell : goal.decreases-loop-cell
-decreases-loop-cell l = 81 - l.cell

@@ -12,6 +12,3 @@ use Rattle.board.proofs.entries.any_bad_entry.Given as goal
 
 abbrev pub invariant-loop-cell : goal.invariant-loop-cell
 invariant-loop-cell l = (l.any || is_found (first (λ c. bad_entry (get_or l.clues c (pos 0)) (get_or l.entries c (pos 0))) (range (81 - l.cell) l.cell))) ≡ is_found (first_bad_entry l.clues l.entries)
-
-abbrev pub decreases-loop-cell : goal.decreases-loop-cell
-decreases-loop-cell l = 81 - l.cell

@@ -10,6 +10,3 @@ use Rattle.board.proofs.entries.check_entries.Given as goal
 
 abbrev pub invariant-loop-cell : goal.invariant-loop-cell
 invariant-loop-cell l = first (λ c. bad_entry (get_or l.clues c (pos 0)) (get_or l.entries c (pos 0))) (range (81 - l.cell) l.cell) ≡ first_bad_entry l.clues l.entries
-
-abbrev pub decreases-loop-cell : goal.decreases-loop-cell
-decreases-loop-cell l = 81 - l.cell

@@ -8,6 +8,3 @@ use Rattle.board.proofs.fresh.fresh_masks.Given as goal
 
 abbrev pub invariant-loop-row : goal.invariant-loop-row
 invariant-loop-row l = (l.row ≤ 9) × (each (fresh_row l.givens l.sets) (range (9 - l.row) l.row) l.masks ≡ fresh l.givens)
-
-abbrev pub decreases-loop-row : goal.decreases-loop-row
-decreases-loop-row l = 9 - l.row

@@ -1,8 +1,10 @@
-use mathlib.Core.Path.{refl, ap, ◌∙◌}
+use mathlib.Core.Path.{refl, ap, ap₂, ◌∙◌}
+use Prim.Native.Nat.{ℕ}
 use native.Mathlib.Omega.{arith}
 use lib.ListN.{set}
 use Rattle.grid.specs.Cells.{cell}
 use Rattle.grid.proofs.Lists.{turn-done, turns-over}
+use Rattle.grid.specs.Marks.{seen}
 use Rattle.steps.specs.Boards.{given}
 use Rattle.board.specs.code.Fresh.{fresh_mask, fresh_row}
 use Rattle.board.proofs.fresh.fresh_row.Invariants.{turn}
@@ -19,7 +21,7 @@ loop-col-preserved c =
     let k = c.loop-col.col in (
       omega arith,
       turn-done (turn g a.sets.now a.row) 9 k (omega arith)
-          (ap (set c.loop-col.masks (cell a.row k)) (c.fresh_mask.ensures ∙ ap (fresh_mask (given g (cell a.row k))) c.seen_digits.ensures)) c.loop-col.invariant.1,
+          (ap (set c.loop-col.masks (cell a.row k)) (c.fresh_mask.ensures ∙ ap (fresh_mask (given g (cell a.row k))) (c.seen_digits.ensures ∙ ap₂ (λ (r i : ℕ). seen a.sets.now (cell r i)) c.at.ensures.0 c.at.ensures.1))) c.loop-col.invariant.1,
     )
 
 pub returns : goal.returns

@@ -16,6 +16,3 @@ turn g sets r k m = set m (cell r k) (fresh_mask (given g (cell r k)) (seen sets
 
 abbrev pub invariant-loop-col : goal.invariant-loop-col
 invariant-loop-col l = (l.col ≤ 9) × (each (turn l.givens l.sets l.row) (range (9 - l.col) l.col) l.masks ≡ fresh_row l.givens l.sets l.row l.initial.masks)
-
-abbrev pub decreases-loop-col : goal.decreases-loop-col
-decreases-loop-col l = 9 - l.col

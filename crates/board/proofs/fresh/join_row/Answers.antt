@@ -1,4 +1,4 @@
-use mathlib.Core.Path.{◌≡◌, refl, sym, ap, ◌∙◌}
+use mathlib.Core.Path.{◌≡◌, refl, sym, ap, ap₂, ◌∙◌}
 use mathlib.Core.List.{List}
 use Prim.Native.Nat.{ℕ}
 use native.Mathlib.Omega.{arith}
@@ -36,7 +36,7 @@ loop-col-preserved c =
     joined =
         unfold join_given in
         elim c.if-digit-ne0.branch [
-          | then-digit-ne0 w ↦ w.sets-is ∙ w.join_units.ensures ∙ ap (λ (x : ℕ). join_units (cell r k) x s) w.given_mask.ensures
+          | then-digit-ne0 w ↦ w.sets-is ∙ w.join.ensures ∙ ap₂ (λ (r i : ℕ). join_units (cell r i) w.given_mask.result s) w.at.ensures.0 w.at.ensures.1 ∙ ap (λ (x : ℕ). join_units (cell r k) x s) w.given_mask.ensures
               ∙ sym (cond-false (is_open g (cell r k)) s (join_units (cell r k) (given_mask g (cell r k)) s) (ne_eqb (given g (cell r k)) 0 w.if-digit-ne0.true))
           | else-digit-ne0 w ↦ w.sets-is ∙ sym (cond-true (is_open g (cell r k)) s (join_units (cell r k) (given_mask g (cell r k)) s) (eq-eqb (given g (cell r k)) 0 w.if-digit-ne0.false))
         ]

@@ -7,6 +7,3 @@ use Rattle.board.proofs.fresh.join_row.Given as goal
 
 abbrev pub invariant-loop-col : goal.invariant-loop-col
 invariant-loop-col l = (l.col ≤ 9) × (each (join_given l.givens l.row) (range (9 - l.col) l.col) l.sets ≡ join_row l.givens l.row l.initial.sets)
-
-abbrev pub decreases-loop-col : goal.decreases-loop-col
-decreases-loop-col l = 9 - l.col

@@ -7,6 +7,3 @@ use Rattle.board.proofs.fresh.unit_sets.Given as goal
 
 abbrev pub invariant-loop-row : goal.invariant-loop-row
 invariant-loop-row l = (l.row ≤ 9) × (each (join_row l.givens) (range (9 - l.row) l.row) l.sets ≡ unit_sets l.givens)
-
-abbrev pub decreases-loop-row : goal.decreases-loop-row
-decreases-loop-row l = 9 - l.row

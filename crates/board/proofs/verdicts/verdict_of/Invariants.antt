@@ -21,6 +21,3 @@ pub record Left (m : List ℕ) (digits : List ℤ) (finished : Bool) (i : ℕ) :
 
 abbrev pub invariant-loop-cell : goal.invariant-loop-cell
 invariant-loop-cell l = Left l.masks l.digits l.finished l.cell
-
-abbrev pub decreases-loop-cell : goal.decreases-loop-cell
-decreases-loop-cell l = 81 - l.cell

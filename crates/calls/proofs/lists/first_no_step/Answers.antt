@@ -1,23 +1,10 @@
-use mathlib.Core.Path.{ap}
-use mathlib.Core.Bool.{not}
-use native.Mathlib.Nat.{sub-zero}
-use native.Mathlib.Omega.{arith}
-use lib.ListN.{length}
-use Rattle.steps.proofs.Searches.{found, passed, ended}
-use Rattle.calls.specs.Replays.{first_no_step}
+-- `calls::lists::first_no_step` meets its contract. Assumes nothing.
+use mathlib.Core.Path.{sym, ap, ◌∙◌}
+use Rattle.calls.proofs.Positions.{told, no-step-found}
 use Rattle.calls.proofs.lists.first_no_step.Goals as goal
 
-pub loop-index-init : goal.loop-index-init
-unfolding first_no_step
-loop-index-init c = simp sub-zero
+pub returns-in-Some : goal.returns-in-Some
+returns-in-Some c = sym (ap told c.in-Some.is) ∙ no-step-found c.args.steps.now c.no_step_at.ensures
 
-pub returns-then-not-is_step : goal.returns-then-not-is_step
-returns-then-not-is_step c =
-    found _ (length c.args.steps.now) c.loop-index.index c.loop-index.invariant (omega arith) (ap not c.is_step.ensures) (ap not c.if-not-is_step.true)
-
-pub loop-index-preserved : goal.loop-index-preserved
-loop-index-preserved c =
-    passed _ (length c.args.steps.now) c.loop-index.index c.loop-index.invariant (omega arith) (ap not c.is_step.ensures) (ap not c.if-not-is_step.false)
-
-pub returns : goal.returns
-returns c = ended _ (length c.args.steps.now) c.loop-index.index c.loop-index.invariant c.loop-index-test.false
+pub returns-in-None : goal.returns-in-None
+returns-in-None c = sym (ap told c.in-None.is) ∙ no-step-found c.args.steps.now c.no_step_at.ensures

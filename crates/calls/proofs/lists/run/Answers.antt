@@ -14,25 +14,25 @@ use Rattle.calls.proofs.Runs.{run_on, run_end}
 use Rattle.calls.proofs.Unchecked.{step-unchecked, step-good}
 use Rattle.calls.proofs.lists.run.Goals as goal
 
-pub loop-index-init : goal.loop-index-init
-loop-index-init c = (admitted-good _ c.requires, refl)
+pub loop-step-init : goal.loop-step-init
+loop-step-init c = (admitted-good _ c.requires, refl)
 
-pub loop-index-preserved : goal.loop-index-preserved
-loop-index-preserved c =
+pub loop-step-preserved : goal.loop-step-preserved
+loop-step-preserved c =
     let a = c.args in
-    let l = c.loop-index in
+    let l = c.loop-step in
     let b = with_masks (board_of a.opened) l.masks in
-    let n = get_or a.steps.now l.index 0 in
+    let n = get_or a.steps.now l.step-index 0 in
     let after : c.step_masks.new.masks ≡ step_masks n (givens b) l.masks =
     c.step_masks.ensures ∙ ap (λ (g : List ℕ). step_masks n g l.masks) c.givens_of-givens.ensures in (
       subst (λ (m : List ℕ). Good Admissible (with_masks b m)) (sym after) (step-good n b l.invariant.0),
-      ap (λ (m : List ℕ). run (calls_of (drop (l.index + 1) a.steps.now)) (with_masks b m)) after
-          ∙ ap (run (calls_of (drop (l.index + 1) a.steps.now))) (sym (step-unchecked n b l.invariant.0))
-          ∙ run_on a.steps.now l.index (omega arith) b ∙ l.invariant.1,
+      ap (λ (m : List ℕ). run (calls_of (drop (l.step-index + 1) a.steps.now)) (with_masks b m)) after
+          ∙ ap (run (calls_of (drop (l.step-index + 1) a.steps.now))) (sym (step-unchecked n b l.invariant.0))
+          ∙ run_on a.steps.now l.step-index (omega arith) b ∙ l.invariant.1,
     )
 
 pub returns : goal.returns
 returns c =
     let a = c.args in
-    let l = c.loop-index in
-    sym (run_end a.steps.now l.index c.loop-index-test.false (with_masks (board_of a.opened) l.masks)) ∙ l.invariant.1
+    let l = c.loop-step in
+    sym (run_end a.steps.now l.step-index c.loop-step-test.false (with_masks (board_of a.opened) l.masks)) ∙ l.invariant.1

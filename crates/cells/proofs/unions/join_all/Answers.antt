@@ -5,14 +5,14 @@ use Rattle.cells.specs.code.Unions.{joined}
 use Rattle.cells.proofs.unions.join_all.Invariants.{turn}
 use Rattle.cells.proofs.unions.join_all.Goals as goal
 
-pub loop-place-init : goal.loop-place-init
+pub loop-mask-init : goal.loop-mask-init
 unfolding joined
-loop-place-init c = (omega arith, refl)
+loop-mask-init c = (omega arith, refl)
 
-pub loop-place-preserved : goal.loop-place-preserved
-loop-place-preserved c =
-    let l = c.loop-place in
-    (omega arith, turn-done (turn c.args.nine.now) 9 l.place (omega arith) c.join-mask.ensures l.invariant.1)
+pub loop-mask-preserved : goal.loop-mask-preserved
+loop-mask-preserved c =
+    let l = c.loop-mask in
+    (omega arith, turn-done (turn c.args.nine.now) 9 l.mask-index (omega arith) c.join-held.ensures l.invariant.1)
 
 pub returns : goal.returns
-returns c = turns-over (turn c.args.nine.now) 9 c.loop-place.place c.loop-place-test.false c.loop-place.invariant.1
+returns c = turns-over (turn c.args.nine.now) 9 c.loop-mask.mask-index c.loop-mask-test.false c.loop-mask.invariant.1

@@ -12,8 +12,5 @@ use Rattle.cells.proofs.unions.join_all.Given as goal
 abbrev pub turn : List ℕ → ℕ → ℕ → ℕ
 turn nine i k = union k (at nine i)
 
-abbrev pub invariant-loop-place : goal.invariant-loop-place
-invariant-loop-place l = (l.place ≤ 9) × (each (turn l.nine) (range (9 - l.place) l.place) l.mask ≡ joined l.nine)
-
-abbrev pub decreases-loop-place : goal.decreases-loop-place
-decreases-loop-place l = 9 - l.place
+abbrev pub invariant-loop-mask : goal.invariant-loop-mask
+invariant-loop-mask l = (l.mask-index ≤ 9) × (each (turn l.nine) (range (9 - l.mask-index) l.mask-index) l.held ≡ joined l.nine)

@@ -12,7 +12,7 @@ loop-place-init c = (omega arith, refl)
 
 pub loop-place-preserved : goal.loop-place-preserved
 loop-place-preserved c =
-    (omega arith, turn-done (turn c.args.nine.now c.args.places) 9 c.loop-place.place (omega arith) (c.join-mask.ensures ∙ ap (union c.loop-place.mask) c.mask_if.ensures) c.loop-place.invariant.1)
+    (omega arith, turn-done (turn c.args.nine.now c.args.places) 9 c.loop-place.place (omega arith) (c.join-held.ensures ∙ ap (union c.loop-place.held) c.mask_if.ensures) c.loop-place.invariant.1)
 
 pub returns : goal.returns
 returns c =

@@ -14,7 +14,4 @@ abbrev pub turn : List ℕ → ℕ → ℕ → ℕ → ℕ
 turn nine places i k = union k (cond (has places i) (at nine i) 0)
 
 abbrev pub invariant-loop-place : goal.invariant-loop-place
-invariant-loop-place l = (l.place ≤ 9) × (each (turn l.nine l.places) (range (9 - l.place) l.place) l.mask ≡ joined_at l.nine l.places)
-
-abbrev pub decreases-loop-place : goal.decreases-loop-place
-decreases-loop-place l = 9 - l.place
+invariant-loop-place l = (l.place ≤ 9) × (each (turn l.nine l.places) (range (9 - l.place) l.place) l.held ≡ joined_at l.nine l.places)

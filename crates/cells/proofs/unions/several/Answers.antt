@@ -6,13 +6,13 @@ use Rattle.cells.specs.code.Unions.{several_of}
 use Rattle.cells.proofs.unions.several.Invariants.{turn}
 use Rattle.cells.proofs.unions.several.Goals as goal
 
-pub loop-place-init : goal.loop-place-init
+pub loop-mask-init : goal.loop-mask-init
 unfolding several_of
-loop-place-init c = (omega arith, refl)
+loop-mask-init c = (omega arith, refl)
 
-pub loop-place-preserved : goal.loop-place-preserved
-loop-place-preserved c =
-    (omega arith, turn-done (turn c.args.nine.now) 9 c.loop-place.place (omega arith) (c.join-mask.ensures ∙ ap (union c.loop-place.mask) c.unless_one.ensures) c.loop-place.invariant.1)
+pub loop-mask-preserved : goal.loop-mask-preserved
+loop-mask-preserved c =
+    (omega arith, turn-done (turn c.args.nine.now) 9 c.loop-mask.mask-index (omega arith) (c.join-held.ensures ∙ ap (union c.loop-mask.held) c.unless_one.ensures) c.loop-mask.invariant.1)
 
 pub returns : goal.returns
-returns c = turns-over (turn c.args.nine.now) 9 c.loop-place.place c.loop-place-test.false c.loop-place.invariant.1
+returns c = turns-over (turn c.args.nine.now) 9 c.loop-mask.mask-index c.loop-mask-test.false c.loop-mask.invariant.1

@@ -5,15 +5,15 @@ use Rattle.cells.specs.code.Unions.{shared_of}
 use Rattle.cells.proofs.Shared.{shared-on, shared-end}
 use Rattle.cells.proofs.unions.shared.Goals as goal
 
-pub loop-place-init : goal.loop-place-init
+pub loop-mask-init : goal.loop-mask-init
 unfolding shared_of
-loop-place-init c = (omega arith, refl)
+loop-mask-init c = (omega arith, refl)
 
-pub loop-place-preserved : goal.loop-place-preserved
-loop-place-preserved c =
+pub loop-mask-preserved : goal.loop-mask-preserved
+loop-mask-preserved c =
     let nine = c.args.nine.now in
-    (omega arith, shared-on nine c.loop-place.place c.loop-place.seen c.loop-place.both (omega arith) c.join-seen.ensures (c.join-both.ensures ∙ ap (union c.loop-place.both) c.meet.ensures) ∙ c.loop-place.invariant.1)
+    (omega arith, shared-on nine c.loop-mask.mask-index c.loop-mask.seen c.loop-mask.both (omega arith) c.join-seen.ensures (c.join-both.ensures ∙ ap (union c.loop-mask.both) c.meet.ensures) ∙ c.loop-mask.invariant.1)
 
 pub returns : goal.returns
 returns c =
-    sym (shared-end c.args.nine.now c.loop-place.place c.loop-place.seen c.loop-place.both c.loop-place-test.false) ∙ c.loop-place.invariant.1
+    sym (shared-end c.args.nine.now c.loop-mask.mask-index c.loop-mask.seen c.loop-mask.both c.loop-mask-test.false) ∙ c.loop-mask.invariant.1

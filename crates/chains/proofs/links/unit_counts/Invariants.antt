@@ -1,6 +1,6 @@
 -- `chains::links::unit_counts` meets its contract. The invariant: the units that are left still make the counts. Assumes nothing.
 use mathlib.Core.Path.{◌≡◌}
-use Prim.Native.Nat.{◌-◌, ◌≤◌}
+use Prim.Native.Nat.{◌≤◌}
 use lib.ListN.{length}
 use Rattle.grid.specs.Units.{in_unit}
 use Rattle.grid.proofs.Fills.{filled}
@@ -11,6 +11,3 @@ use Rattle.chains.proofs.links.unit_counts.Given as goal
 
 abbrev pub invariant-loop-unit : goal.invariant-loop-unit
 invariant-loop-unit l = (l.count ≤ 81) × (filled (λ u. length (select (in_unit u) (listed l.holders l.count))) 27 l.unit l.counts ≡ unit_counts (listed l.holders l.count))
-
-abbrev pub decreases-loop-unit : goal.decreases-loop-unit
-decreases-loop-unit l = 27 - l.unit

@@ -8,6 +8,3 @@ use Rattle.chains.proofs.lists.candidate_positions.Given as goal
 
 abbrev pub invariant-loop-cell : goal.invariant-loop-cell
 invariant-loop-cell l = (l.cell ≤ 81) × Gathered (holds l.givens l.masks l.digit) l.list l.count l.cell (range (81 - l.cell) l.cell) (select (holds l.givens l.masks l.digit) cells)
-
-abbrev pub decreases-loop-cell : goal.decreases-loop-cell
-decreases-loop-cell l = 81 - l.cell

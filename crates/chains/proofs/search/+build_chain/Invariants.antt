@@ -23,6 +23,3 @@ invariant-loop-i l =
     (l.i ≤ l.links.count) × (l.links.count ≤ 81)
     × (first_some (deeper l.holders l.count l.start l.weak l.depth l.longer.cells l.longer.length) (rest l.links.cells l.links.count l.i)
     ≡ first_some (deeper l.holders l.count l.start l.weak l.depth l.longer.cells l.longer.length) (links_in (listed l.holders l.count) l.weak l.cell))
-
-abbrev pub decreases-loop-i : goal.decreases-loop-i
-decreases-loop-i l = l.links.count - l.i

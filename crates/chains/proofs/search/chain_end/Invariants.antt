@@ -3,7 +3,7 @@ use mathlib.Core.Path.{◌≡◌}
 use mathlib.Core.Bool.{true}
 use mathlib.Core.List.{List, []}
 use mathlib.Core.Option.{Option}
-use Prim.Native.Nat.{ℕ, ◌-◌, ◌≤◌}
+use Prim.Native.Nat.{ℕ, ◌≤◌}
 use Rattle.steps.specs.Chains.{first_some, chain_end}
 use Rattle.chains.specs.code.Lists.{listed}
 use Rattle.chains.specs.code.Links.{enter_in}
@@ -16,6 +16,3 @@ from hs s = enter_in hs 7 s true [] s
 
 abbrev pub invariant-loop-i : goal.invariant-loop-i
 invariant-loop-i l = (l.i ≤ l.count) × (l.count ≤ 81) × (first_some (from (listed l.holders l.count)) (rest l.holders l.count l.i) ≡ chain_end l.givens l.masks l.digit)
-
-abbrev pub decreases-loop-i : goal.decreases-loop-i
-decreases-loop-i l = l.count - l.i

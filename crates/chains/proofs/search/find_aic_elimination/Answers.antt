@@ -29,15 +29,15 @@ loop-i-init c =
           ∙ sym (seen-ends (listed a.holders.now a.count) a.depth a.start a.end (omega arith) (sym p.ensures ∙ c.if-not-are_peers.false)),
     )
 
-pub returns-then-is_found : goal.returns-then-is_found
-returns-then-is_found c =
+pub returns-then-is_some : goal.returns-then-is_some
+returns-then-is_some c =
     let a = c.args in
-    ends (between_at a.start a.end) a.holders.now a.count c.loop-i.i c.loop-i.invariant.2 (omega arith) c.between-found.ensures (sym c.is_found.ensures ∙ c.if-is_found.true)
+    ends (between_at a.start a.end) a.holders.now a.count c.loop-i.i c.loop-i.invariant.2 c.between-found.result (omega arith) c.between-found.ensures (sym c.is_some.ensures ∙ c.if-is_some.true)
 
 pub loop-i-preserved : goal.loop-i-preserved
 loop-i-preserved c =
     let a = c.args in
-    (omega arith, c.loop-i.invariant.1, goes_on (between_at a.start a.end) a.holders.now a.count c.loop-i.i c.loop-i.invariant.2 (omega arith) c.between-found.ensures (sym c.is_found.ensures ∙ c.if-is_found.false))
+    (omega arith, c.loop-i.invariant.1, goes_on (between_at a.start a.end) a.holders.now a.count c.loop-i.i c.loop-i.invariant.2 c.between-found.result (omega arith) c.between-found.ensures (sym c.is_some.ensures ∙ c.if-is_some.false))
 
 pub returns : goal.returns
 returns c =

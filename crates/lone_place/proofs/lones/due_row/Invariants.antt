@@ -14,6 +14,3 @@ turn m near r k due = union due (due_flag (at m (9 * r + k)) (at near k))
 
 abbrev pub invariant-loop-nth : goal.invariant-loop-nth
 invariant-loop-nth l = (l.nth ≤ 9) × (each (turn l.masks l.near l.row) (range (9 - l.nth) l.nth) l.due ≡ due_row l.masks l.near l.row)
-
-abbrev pub decreases-loop-nth : goal.decreases-loop-nth
-decreases-loop-nth l = 9 - l.nth

@@ -26,6 +26,3 @@ abbrev pub invariant-loop-digit : goal.invariant-loop-digit
 invariant-loop-digit l =
     (l.digit ≤ 9) × (each (turn l.givens l.cell) (range (9 - l.digit) l.digit) l.masks ≡ lone_cell l.givens l.cell l.initial.masks) × Shrunk l.cell l.initial.masks l.masks
     × (log_after l.givens (for (range (9 - l.digit) l.digit) (step l.cell)) l.masks l.log ≡ log_after l.givens (cell_lones l.cell) l.initial.masks l.initial.log)
-
-abbrev pub decreases-loop-digit : goal.decreases-loop-digit
-decreases-loop-digit l = 9 - l.digit

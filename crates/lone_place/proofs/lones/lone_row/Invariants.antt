@@ -20,6 +20,3 @@ abbrev pub invariant-loop-nth : goal.invariant-loop-nth
 invariant-loop-nth l =
     (l.nth ≤ 9) × (each (turn l.givens l.row) (range (9 - l.nth) l.nth) l.masks ≡ lone_row l.givens l.row l.initial.masks) × NearRow l.masks l.row l.near
     × (log_after l.givens (for (range (9 - l.nth) l.nth) (block l.row)) l.masks l.log ≡ log_after l.givens (row_lones l.row) l.initial.masks l.initial.log)
-
-abbrev pub decreases-loop-nth : goal.decreases-loop-nth
-decreases-loop-nth l = 9 - l.nth

@@ -12,6 +12,3 @@ abbrev pub invariant-loop-row : goal.invariant-loop-row
 invariant-loop-row l =
     (l.row ≤ 9) × (each (lone_row l.givens) (range (9 - l.row) l.row) l.masks ≡ pass l.givens Lone l.initial.masks) × Covers l.sets l.masks × Kept l.any l.initial.masks l.masks
     × (log_after l.givens (for (range (9 - l.row) l.row) row_lones) l.masks l.log ≡ log_after l.givens (instances Lone) l.initial.masks l.initial.log)
-
-abbrev pub decreases-loop-row : goal.decreases-loop-row
-decreases-loop-row l = 9 - l.row

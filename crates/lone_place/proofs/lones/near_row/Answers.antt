@@ -15,8 +15,8 @@ loop-nth-init c = fill_start _ 16 (replicate 16 0) refl
 pub loop-nth-preserved : goal.loop-nth-preserved
 loop-nth-preserved c =
     let a = c.args in
-    fill_on _ 16 c.loop-nth.nth c.loop-nth.near c.loop-nth.invariant (omega arith)
+    fill_on _ 16 c.loop-nth.nth c.loop-nth.set-items c.loop-nth.invariant (omega arith)
     (c.join.ensures ∙ ap (λ (x : ℕ). union x (at a.sets.now (32 + 3 * (a.row / 3) + c.loop-nth.nth / 3))) c.join-lines.ensures)
 
 pub returns : goal.returns
-returns c = fill_end _ 16 c.loop-nth.nth c.loop-nth.near c.loop-nth.invariant c.loop-nth-test.false
+returns c = fill_end _ 16 c.loop-nth.nth c.loop-nth.set-items c.loop-nth.invariant c.loop-nth-test.false

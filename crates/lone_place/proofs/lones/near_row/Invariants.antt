@@ -1,6 +1,6 @@
 -- `lone_place::lones::near_row` meets its contract. The invariant: the cells that are left still make the whole. Assumes nothing.
 use mathlib.Core.Path.{◌≡◌}
-use Prim.Native.Nat.{◌+◌, ◌*◌, ◌/◌, ◌-◌}
+use Prim.Native.Nat.{◌+◌, ◌*◌, ◌/◌}
 use Rattle.candidates.specs.Masks.{union}
 use Rattle.grid.proofs.Fills.{filled}
 use Rattle.steps.specs.Boards.{at}
@@ -8,7 +8,4 @@ use Rattle.lone_place.specs.code.Due.{near_row}
 use Rattle.lone_place.proofs.lones.near_row.Given as goal
 
 abbrev pub invariant-loop-nth : goal.invariant-loop-nth
-invariant-loop-nth l = filled (λ k. union (union (at l.sets l.row) (at l.sets (16 + k))) (at l.sets (32 + 3 * (l.row / 3) + k / 3))) 16 l.nth l.near ≡ near_row l.sets l.row
-
-abbrev pub decreases-loop-nth : goal.decreases-loop-nth
-decreases-loop-nth l = 16 - l.nth
+invariant-loop-nth l = filled (λ k. union (union (at l.sets l.row) (at l.sets (16 + k))) (at l.sets (32 + 3 * (l.row / 3) + k / 3))) 16 l.nth l.set-items ≡ near_row l.sets l.row

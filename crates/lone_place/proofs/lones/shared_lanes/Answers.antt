@@ -13,7 +13,7 @@ loop-lane-init c = fill_start _ 48 (replicate 48 0) refl
 pub loop-lane-preserved : goal.loop-lane-preserved
 loop-lane-preserved c =
     let l = c.loop-lane in
-    fill_on _ 48 l.lane l.sets l.invariant (omega arith) (c.shared.ensures ∙ ap shared_of c.lane_masks-nine.ensures)
+    fill_on _ 48 l.lane l.set-items l.invariant (omega arith) (c.shared.ensures ∙ ap shared_of c.lane_masks.ensures)
 
 pub returns : goal.returns
-returns c = fill_end _ 48 c.loop-lane.lane c.loop-lane.sets c.loop-lane.invariant c.loop-lane-test.false
+returns c = fill_end _ 48 c.loop-lane.lane c.loop-lane.set-items c.loop-lane.invariant c.loop-lane-test.false

@@ -12,7 +12,7 @@ loop-nth-init c = fill_start _ 16 (replicate 16 0) refl
 pub loop-nth-preserved : goal.loop-nth-preserved
 loop-nth-preserved c =
     let l = c.loop-nth in
-    fill_on _ 16 l.nth l.sets l.invariant (omega arith) c.due_lane.ensures
+    fill_on _ 16 l.nth l.set-items l.invariant (omega arith) c.due_lane.ensures
 
 pub returns : goal.returns
-returns c = fill_end _ 16 c.loop-nth.nth c.loop-nth.sets c.loop-nth.invariant c.loop-nth-test.false
+returns c = fill_end _ 16 c.loop-nth.nth c.loop-nth.set-items c.loop-nth.invariant c.loop-nth-test.false

@@ -1,6 +1,6 @@
 -- `lone_place::places::due_lanes` meets its contract. The invariant: the lanes that are left still make the whole. Assumes nothing.
 use mathlib.Core.Path.{◌≡◌}
-use Prim.Native.Nat.{◌+◌, ◌-◌}
+use Prim.Native.Nat.{◌+◌}
 use Rattle.grid.proofs.Fills.{filled}
 use Rattle.steps.specs.Boards.{at}
 use Rattle.lanes.specs.code.Lanes.{lane_masks}
@@ -8,7 +8,4 @@ use Rattle.lone_place.specs.code.Due.{place_due, place_sets}
 use Rattle.lone_place.proofs.places.due_lanes.Given as goal
 
 abbrev pub invariant-loop-nth : goal.invariant-loop-nth
-invariant-loop-nth l = filled (λ k. place_due (lane_masks l.lanes (l.first + k)) (at l.free k)) 16 l.nth l.sets ≡ place_sets l.lanes l.free l.first
-
-abbrev pub decreases-loop-nth : goal.decreases-loop-nth
-decreases-loop-nth l = 16 - l.nth
+invariant-loop-nth l = filled (λ k. place_due (lane_masks l.lanes (l.first + k)) (at l.free k)) 16 l.nth l.set-items ≡ place_sets l.lanes l.free l.first

@@ -18,6 +18,3 @@ abbrev pub invariant-loop-nth : goal.invariant-loop-nth
 invariant-loop-nth l =
     Going (λ k. SameOn (9 * l.family + k)) (place_turn_of l.givens l.family) l.initial.masks l.masks l.nth × (log_after l.givens (for (range (9 - l.nth) l.nth) (block l.family)) l.masks l.log ≡ log_after l.givens (family_places l.family) l.initial.masks l.initial.log)
     × (l.lanes ≡ laid l.masks)
-
-abbrev pub decreases-loop-nth : goal.decreases-loop-nth
-decreases-loop-nth l = 9 - l.nth

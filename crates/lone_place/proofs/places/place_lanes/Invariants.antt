@@ -13,6 +13,3 @@ abbrev pub invariant-loop-family : goal.invariant-loop-family
 invariant-loop-family l =
     (l.family ≤ 3) × (each (place_family l.givens) (range (3 - l.family) l.family) l.masks ≡ pass l.givens Place l.initial.masks) × (l.lanes ≡ laid l.masks)
     × (log_after l.givens (for (range (3 - l.family) l.family) family_places) l.masks l.log ≡ log_after l.givens (instances Place) l.initial.masks l.initial.log)
-
-abbrev pub decreases-loop-family : goal.decreases-loop-family
-decreases-loop-family l = 3 - l.family

@@ -1,13 +1,8 @@
-use mathlib.Core.Path.{◌≡◌, refl, ap, ◌∙◌}
-use mathlib.Core.List.{List}
-use Prim.Native.Nat.{ℕ, ◌-◌, ◌≤◌}
+use mathlib.Core.Path.{refl, ap, ◌∙◌}
 use native.Mathlib.Omega.{arith}
-use borrow.Author.Rules.{rules}
 use Rattle.candidates.specs.Masks.{minus, union}
 use Rattle.grid.proofs.Lists.{turn-done, turns-over}
-use Rattle.steps.specs.Loops.{each, range}
 use Rattle.cells.specs.code.Unions.{joined}
-use Rattle.lanes.specs.code.Lanes.{lane_masks, lane_of}
 use Rattle.passes.specs.code.Over.{lacked_in}
 use Rattle.passes.proofs.over.lacked.Invariants.{turn}
 use Rattle.passes.proofs.over.lacked.Goals as goal

@@ -1,11 +1,8 @@
 -- `passes::over::lacked` meets its contract. The invariant: the units that are left still make the whole. Assumes nothing.
-use mathlib.Core.Path.{◌≡◌, refl, ap, ◌∙◌}
+use mathlib.Core.Path.{◌≡◌}
 use mathlib.Core.List.{List}
 use Prim.Native.Nat.{ℕ, ◌-◌, ◌≤◌}
-use native.Mathlib.Omega.{arith}
-use borrow.Author.Rules.{rules}
 use Rattle.candidates.specs.Masks.{minus, union}
-use Rattle.grid.proofs.Lists.{turn-done, turns-over}
 use Rattle.steps.specs.Loops.{each, range}
 use Rattle.cells.specs.code.Unions.{joined}
 use Rattle.lanes.specs.code.Lanes.{lane_masks, lane_of}

@@ -40,9 +40,9 @@ returns-then-is_claiming c =
       value = c.take_locked.ensures.value;
     }
 
-pub returns : goal.returns
-returns c =
+pub returns-else-is_claiming : goal.returns-else-is_claiming
+returns-else-is_claiming c =
     let a = c.args in record {
       masks_after = after-left a.givens.now a.masks.now (claiming a.line (a.digit - 1) (box_in a.line a.block)) (sym c.is_claiming.ensures ∙ c.if-is_claiming.false);
-      value = told_none a.masks.now;
+      value = c.if-is_claiming.false ∙ told_none a.masks.now;
     }

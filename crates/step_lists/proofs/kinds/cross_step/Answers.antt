@@ -24,9 +24,9 @@ returns-then-is_cross c =
       value = c.take_cross.ensures.value;
     }
 
-pub returns : goal.returns
-returns c =
+pub returns-else-is_cross : goal.returns-else-is_cross
+returns-else-is_cross c =
     let a = c.args in record {
       masks_after = after-left a.givens.now a.masks.now (cross (a.digit - 1) a.u a.v (a.x - 9) (a.y - 9)) (sym c.is_cross.ensures ∙ c.if-is_cross.false);
-      value = told_none a.masks.now;
+      value = c.if-is_cross.false ∙ told_none a.masks.now;
     }

@@ -6,9 +6,9 @@ use Rattle.cells.proofs.Losses.{told_none}
 use Rattle.step_lists.proofs.Named.{after-left}
 use Rattle.step_lists.proofs.kinds.lone_step.Goals as goal
 
-pub returns : goal.returns
-returns c =
+pub returns-else-is_lone : goal.returns-else-is_lone
+returns-else-is_lone c =
     let a = c.args in record {
       masks_after = after-left a.givens.now a.masks.now (lone a.cell (a.digit - 1)) (sym c.is_lone.ensures ∙ c.if-is_lone.false);
-      value = told_none a.masks.now;
+      value = c.if-is_lone.false ∙ told_none a.masks.now;
     }

@@ -40,9 +40,9 @@ returns-then-is_pointing c =
       value = c.take_locked.ensures.value;
     }
 
-pub returns : goal.returns
-returns c =
+pub returns-else-is_pointing : goal.returns-else-is_pointing
+returns-else-is_pointing c =
     let a = c.args in record {
       masks_after = after-left a.givens.now a.masks.now (pointing (a.block - 18) (a.digit - 1) (line_in a.line)) (sym c.is_pointing.ensures ∙ c.if-is_pointing.false);
-      value = told_none a.masks.now;
+      value = c.if-is_pointing.false ∙ told_none a.masks.now;
     }

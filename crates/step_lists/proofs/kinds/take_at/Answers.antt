@@ -10,7 +10,7 @@ returns-then-at-steps c =
     let e =
     c.take_step.ensures.masks_after
     ∙ at-six a.givens.now a.masks.now a.steps.now a.at c.if-at-steps.true
-    c.wide.ensures c.wide-then-at-steps.ensures c.wide-then-at-steps-2.ensures c.wide-then-at-steps-3.ensures c.wide-then-at-steps-4.ensures c.wide-then-at-steps-5.ensures in record {
+    c.from.ensures c.from-then-at-steps.ensures c.from-then-at-steps-2.ensures c.from-then-at-steps-3.ensures c.from-then-at-steps-4.ensures c.from-then-at-steps-5.ensures in record {
       masks_after = e;
       value = c.take_step.ensures.value;
     }

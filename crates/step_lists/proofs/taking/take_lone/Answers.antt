@@ -27,8 +27,8 @@ returns-then-is_within c =
       value = c.lose_peers.ensures.value;
     }
 
-pub returns : goal.returns
-returns c =
+pub returns-else-is_within : goal.returns-else-is_within
+returns-else-is_within c =
     let one : c.digit_mask-one.result ≡ single c.args.digit = (
     c.digit_mask-one.ensures ∙ place_is c.args.digit c.requires.1
     ) in
@@ -38,5 +38,5 @@ returns c =
     ) in
     let a = c.args in record {
       masks_after = lone-left a.givens.now a.masks.now a.cell a.digit c.requires.0 (sym (tested) ∙ c.if-is_within.false);
-      value = told_none a.masks.now;
+      value = c.if-is_within.false ∙ told_none a.masks.now;
     }

@@ -28,13 +28,13 @@ returns-then-is_confined c =
       value = c.lose_at.ensures.value;
     }
 
-pub returns : goal.returns
-returns c =
+pub returns-else-is_confined : goal.returns-else-is_confined
+returns-else-is_confined c =
     let tested : c.is_confined.result ≡ confined_to c.args.masks.now c.args.unit c.args.digit (single c.args.place) = (
     let a = c.args in
     c.is_confined.ensures ∙ ap (confined_to a.masks.now a.unit a.digit) (c.digit_mask.ensures ∙ place_is a.place c.requires.2)
     ) in
     let a = c.args in record {
       masks_after = place-left a.givens.now a.masks.now a.unit a.digit a.place c.requires.0 c.requires.2 (sym (tested) ∙ c.if-is_confined.false);
-      value = told_none a.masks.now;
+      value = c.if-is_confined.false ∙ told_none a.masks.now;
     }

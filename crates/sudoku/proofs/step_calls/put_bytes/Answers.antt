@@ -16,12 +16,12 @@ loop-report-preserved c =
     let a = c.args in (
       omega arith,
       omega arith,
-      turn-done (put_report a.cells.now a.digits.now) c.used-count.result c.loop-report.report (omega arith) refl c.loop-report.invariant.2,
+      turn-done (put_report a.reports.now.cells a.reports.now.digits) c.used-count.result c.loop-report.report (omega arith) refl c.loop-report.invariant.2,
     )
 
 pub returns : goal.returns
 unfolding report_bytes
 returns c =
     let a = c.args in
-    turns-over (put_report a.cells.now a.digits.now) c.used-count.result c.loop-report.report c.loop-report-test.false c.loop-report.invariant.2
-    ∙ ap (λ (k : ℕ). each (put_report a.cells.now a.digits.now) (range k 0) (replicate 648 0)) c.used-count.ensures
+    turns-over (put_report a.reports.now.cells a.reports.now.digits) c.used-count.result c.loop-report.report c.loop-report-test.false c.loop-report.invariant.2
+    ∙ ap (λ (k : ℕ). each (put_report a.reports.now.cells a.reports.now.digits) (range k 0) (replicate 648 0)) c.used-count.ensures

@@ -15,7 +15,7 @@ use Rattle.sudoku.proofs.step_calls.put_bytes.Given as goal
 abbrev pub invariant-loop-report : goal.invariant-loop-report
 invariant-loop-report l =
     (l.report ≤ l.count) × (l.count ≤ 324)
-    × (each (put_report l.cells l.digits) (range (l.count - l.report) l.report) l.bytes ≡ each (put_report l.cells l.digits) (range l.count 0) (replicate 648 0))
+    × (each (put_report l.reports.cells l.reports.digits) (range (l.count - l.report) l.report) l.bytes ≡ each (put_report l.reports.cells l.reports.digits) (range l.count 0) (replicate 648 0))
 
 abbrev pub decreases-loop-report : goal.decreases-loop-report
 decreases-loop-report l = l.count - l.report

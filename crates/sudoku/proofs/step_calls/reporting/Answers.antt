@@ -17,7 +17,7 @@ use Rattle.steps.specs.Calls.{Outcome, answer}
 use Rattle.steps.specs.Singles.{Report}
 use Rattle.board.specs.Boards.{handed}
 use Rattle.techniques.specs.Reports.{reports_of}
-use Rattle.techniques.specs.code.Pushes.{append, stored}
+use Rattle.techniques.specs.code.Pushes.{append, cleared}
 use Rattle.techniques.specs.code.Searches.{search_call}
 use Rattle.techniques.specs.declared.Search.{Search}
 use Rattle.techniques.specs.declared.singles.Reports.{Reports}
@@ -47,37 +47,39 @@ module _ (s : Search) (b : S.Board) where
   abbrev reports : List Report
   reports = value_or [] (map (λ o. o.reports) said)
 
-  module _ {xs ys : List ℕ} {n : ℕ} (found : stored xs ys n ≡ append reports (stored (replicate 324 0) (replicate 324 0) 0)) where
-    list : stored xs ys n ≡ reports_of reports
-    list = found ∙ stands reports (answered-few s b)
+  module _ {empty q : Reports} (new : empty ≡ reports_of []) (found : q ≡ append reports (cleared empty)) where
+    list : q ≡ reports_of reports
+    unfolding reports_of
+    list = found ∙ ap (λ (q : Reports). append reports (cleared q)) new ∙ stands reports (answered-few s b)
 
-    count : n ≡ length reports
+    count : q.count ≡ length reports
     unfolding reports_of
     count = ap (λ (q : Reports). q.count) list
 
-    fits : SFits w64 (pos n)
+    fits : SFits w64 (pos q.count)
     fits = place-fits (omega (arith, count, answered-few s b))
 
     module _ {f : Answer Bool} (flag : f ≡ map (λ o. o.flag) said) where
-      code : progress_code f n ≡ reported_code said
+      code : progress_code f q.count ≡ reported_code said
       code = ap₂ progress_code flag count ∙ coded said
 
-      bytes : (lent : List ℕ) → parts_kept (some f) (report_bytes (stored xs ys n)) lent ≡ value_or lent (map outcome_bytes said)
+      bytes : (lent : List ℕ) → parts_kept (some f) (report_bytes q) lent ≡ value_or lent (map outcome_bytes said)
       bytes lent = ap₂ (λ (q : Reports) (f : Answer Bool). parts_kept (some f) (report_bytes q) lent) list flag ∙ parts-bytes (some said) lent
 
 pub overflow_cast-answer : goal.overflow_cast-answer
 overflow_cast-answer c =
     let a = c.args in
-    fits a.search (handed a.clues.now a.entries.now a.masks.now) c.report_handed-done.ensures.count_after
+    fits a.search (handed a.clues.now a.entries.now a.masks.now) c.new-found.ensures c.report_handed.ensures.reports_after
 
 pub returns-in-Made : goal.returns-in-Made
 returns-in-Made c =
     let a = c.args in
     let b = handed a.clues.now a.entries.now a.masks.now in
-    let e = c.report_handed-done.ensures in
+    let new = c.new-found.ensures in
+    let e = c.report_handed.ensures in
     let flag = ap progress_answer (sym c.in-Made.is) ∙ e.answer_value in (
-      four_same refl refl (to_z-of_z {w = w64} (record { sfits = c.of_test.type_inv }) ∙ c.of_test.ensures) (to_z_pos w64 (fits a.search b e.count_after).sfits)
-          ∙ code a.search b e.count_after flag,
+      four_same refl refl (to_z-of_z {w = w64} (record { sfits = c.of_test.type_inv }) ∙ c.of_test.ensures) (to_z_pos w64 (fits a.search b new e.reports_after).sfits)
+          ∙ code a.search b new e.reports_after flag,
       e.masks_after,
-      c.put_bytes.ensures ∙ bytes a.search b e.count_after flag a.reports.now,
+      c.put_bytes.ensures ∙ bytes a.search b new e.reports_after flag a.reports.now,
     )

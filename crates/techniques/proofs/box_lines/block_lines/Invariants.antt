@@ -7,6 +7,3 @@ use Rattle.techniques.proofs.box_lines.block_lines.Given as goal
 
 abbrev pub invariant-loop-nth : goal.invariant-loop-nth
 invariant-loop-nth l = (l.nth ≤ 6) × (each (line_turn l.givens l.unit l.nine) (range (6 - l.nth) l.nth) l.masks ≡ block_lines l.givens l.unit l.nine l.initial.masks)
-
-abbrev pub decreases-loop-nth : goal.decreases-loop-nth
-decreases-loop-nth l = 6 - l.nth

@@ -8,6 +8,3 @@ use Rattle.techniques.proofs.box_lines.box_lines.Given as goal
 
 abbrev pub invariant-loop-block : goal.invariant-loop-block
 invariant-loop-block l = (l.block ≤ 9) × (each (block_turn l.givens) (range (9 - l.block) l.block) l.masks ≡ box_lines l.givens l.initial.masks)
-
-abbrev pub decreases-loop-block : goal.decreases-loop-block
-decreases-loop-block l = 9 - l.block

@@ -18,7 +18,7 @@ loop-unit-preserved c =
     let s = c.loop-unit in
     let w : (c.if-not-no_twins.pairs ≡ pair_masks g c.if-not-no_twins.masks) × (c.if-not-no_twins.masks ≡ unit_pairs g s.unit s.masks) =
     elim c.if-not-no_twins.branch [
-      | then-not-no_twins w ↦ (w.pairs-is ∙ w.pair_masks-renewed.ensures ∙ ap (pair_masks g) (sym w.masks-is), w.masks-is ∙ w.unit_pairs.ensures)
+      | then-not-no_twins w ↦ (w.pairs-is ∙ w.pair_masks-pairs-then-not-no_twins.ensures ∙ ap (pair_masks g) (sym w.masks-is), w.masks-is ∙ w.unit_pairs.ensures)
       | else-not-no_twins w ↦ (
         w.pairs-is ∙ s.invariant.1 ∙ ap (pair_masks g) (sym w.masks-is),
         w.masks-is ∙ unit-idle g s.masks s.unit (omega arith) c.all_masks-nine.ensures s.invariant.1 (sym none.ensures ∙ w.if-not-no_twins.false),

@@ -8,6 +8,3 @@ use Rattle.techniques.proofs.naked_pairs.naked_pairs.Given as goal
 
 abbrev pub invariant-loop-unit : goal.invariant-loop-unit
 invariant-loop-unit l = (l.unit ≤ 27) × (l.pairs ≡ pair_masks l.givens l.masks) × (each (unit_pairs l.givens) (range (27 - l.unit) l.unit) l.masks ≡ naked_pairs l.givens l.initial.masks)
-
-abbrev pub decreases-loop-unit : goal.decreases-loop-unit
-decreases-loop-unit l = 27 - l.unit

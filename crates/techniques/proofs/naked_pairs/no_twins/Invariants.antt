@@ -14,6 +14,3 @@ lone nine i = eqb (at nine i) 0 || leb 9 (twin_of nine i)
 
 abbrev pub invariant-loop-first : goal.invariant-loop-first
 invariant-loop-first l = (l.first ≤ 9) × (all (lone l.nine) (range (9 - l.first) l.first) ≡ no_twins l.nine)
-
-abbrev pub decreases-loop-first : goal.decreases-loop-first
-decreases-loop-first l = 9 - l.first

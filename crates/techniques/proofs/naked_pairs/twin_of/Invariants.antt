@@ -8,6 +8,3 @@ use Rattle.techniques.proofs.naked_pairs.twin_of.Given as goal
 
 abbrev pub invariant-loop-second : goal.invariant-loop-second
 invariant-loop-second l = (l.second ≤ 9) × (twin_in l.nine (at l.nine l.first) (range (9 - l.second) l.second) ≡ twin_of l.nine l.first)
-
-abbrev pub decreases-loop-second : goal.decreases-loop-second
-decreases-loop-second l = 9 - l.second

@@ -4,10 +4,10 @@ use Prim.Native.Nat.{ℕ}
 use native.Mathlib.Omega.{arith}
 use Rattle.grid.proofs.Lists.{turn-done, turns-over}
 use Rattle.cells.specs.code.Places.{unit_masks}
-use Rattle.techniques.specs.code.NakedPairs.{unit_pairs}
+use Rattle.techniques.specs.code.NakedPairs.{unit_pairs, place_of}
 use Rattle.techniques.proofs.NakedPairs.{pair_turn_lem, pair-none}
 use Rattle.techniques.proofs.naked_pairs.unit_pairs.Invariants.{turn}
-use Rattle.techniques.proofs.naked_pairs.unit_pairs.Goals.{then-second-lt9, else-second-lt9}
+use Rattle.techniques.proofs.naked_pairs.unit_pairs.Goals.{in-Some, in_default}
 use Rattle.techniques.proofs.naked_pairs.unit_pairs.Goals as goal
 
 pub loop-first-init : goal.loop-first-init
@@ -20,14 +20,14 @@ loop-first-preserved c =
     let g = a.givens.now in
     let u = a.unit in
     let s = c.loop-first in
-    let pair = c.pair_of-second in
-    let w : (c.if-second-lt9.nine ≡ unit_masks g c.if-second-lt9.masks u) × (c.if-second-lt9.masks ≡ turn g u s.first s.masks) =
-    elim c.if-second-lt9.branch [
-      | then-second-lt9 w ↦ (
-        w.nine-is ∙ w.unit_masks-renewed.ensures ∙ ap (λ (m : List ℕ). unit_masks g m u) (sym w.masks-is),
-        w.masks-is ∙ w.lose_places.ensures.masks_after ∙ pair_turn_lem g s.masks s.nine u s.first (omega arith) s.invariant.1 pair.ensures w.if-second-lt9.true w.all_but.ensures,
+    let pair = c.pair_of in
+    let w : (c.match-pair_of.nine ≡ unit_masks g c.match-pair_of.masks u) × (c.match-pair_of.masks ≡ turn g u s.first s.masks) =
+    elim c.match-pair_of.branch [
+      | in-Some w ↦ (
+        w.nine-is ∙ w.unit_masks-nine-in-Some.ensures ∙ ap (λ (m : List ℕ). unit_masks g m u) (sym w.masks-is),
+        w.masks-is ∙ w.lose_places.ensures.masks_after ∙ pair_turn_lem g s.masks s.nine u s.first (omega arith) s.invariant.1 (ap place_of (sym w.in-Some.is) ∙ pair.ensures.found) (w.in-Some.ensures.below) w.all_but.ensures,
       )
-      | else-second-lt9 w ↦ (w.nine-is ∙ s.invariant.1 ∙ ap (λ (m : List ℕ). unit_masks g m u) (sym w.masks-is), w.masks-is ∙ pair-none g s.masks s.nine u s.first (omega arith) s.invariant.1 pair.ensures w.if-second-lt9.false)
+      | in_default w ↦ (w.nine-is ∙ s.invariant.1 ∙ ap (λ (m : List ℕ). unit_masks g m u) (sym w.masks-is), w.masks-is ∙ pair-none g s.masks s.nine u s.first (omega arith) s.invariant.1 pair.ensures.found (omega (arith, ap place_of w.in_default.is)))
     ] in
     (omega arith, w.0, turn-done (turn g u) 9 s.first (omega arith) w.1 s.invariant.2)
 

@@ -13,6 +13,3 @@ turn g u i m = each (pair_at g u i) (above i 9) m
 
 abbrev pub invariant-loop-first : goal.invariant-loop-first
 invariant-loop-first l = (l.first ≤ 9) × (l.nine ≡ unit_masks l.givens l.masks l.unit) × (each (turn l.givens l.unit) (range (9 - l.first) l.first) l.masks ≡ unit_pairs l.givens l.unit l.initial.masks)
-
-abbrev pub decreases-loop-first : goal.decreases-loop-first
-decreases-loop-first l = 9 - l.first

@@ -9,9 +9,8 @@ use Rattle.grid.proofs.Units.{cell-small}
 use Rattle.grid.proofs.Lists.{turn-done, turns-over}
 use Rattle.steps.specs.Loops.{each, up_to}
 use Rattle.cells.specs.code.Places.{spots_in}
-use Rattle.techniques.specs.code.Pushes.{stored}
+use Rattle.techniques.specs.declared.singles.Reports.{Reports}
 use Rattle.techniques.proofs.HeldOnce.{once_is}
-use Rattle.techniques.proofs.ReportLists.{stored_same}
 use Rattle.techniques.proofs.SinglesFound.{hidden_found, hidden-none, hidden-loop}
 use Rattle.techniques.proofs.singles.hidden_in.Goals.{else-has_digit, then-has_digit}
 use Rattle.techniques.proofs.singles.hidden_in.Invariants.{turn}
@@ -20,7 +19,7 @@ use Rattle.techniques.proofs.singles.hidden_in.Goals as goal
 pub loop-digit-init : goal.loop-digit-init
 loop-digit-init c =
     let a = c.args in
-    let q = stored a.cells.now a.digits.now a.held in
+    let q = a.reports.now in
     (omega arith, omega arith, ap (λ (nine : List ℕ). each (turn a.unit nine) (up_to 9) q) c.unit_masks-nine.ensures ∙ hidden-loop a.givens.now a.masks.now a.unit q)
 
 pub overflow_cast-cell : goal.overflow_cast-cell
@@ -33,21 +32,19 @@ loop-digit-preserved c =
     let u = c.args.unit in
     let d = l.digit in
     let nine = c.unit_masks-nine.result in
-    let q = stored l.cells l.digits l.count in
     let test : eqb (count (spots_in nine d)) 1 ≡ c.has_digit.result =
     sym (c.has_digit.ensures ∙ ap (λ (x : ℕ). has x d) c.held_once-once.ensures ∙ once_is nine d) in (
       omega arith,
-      elim c.if-has_digit.branch [ then-has_digit w ↦ omega (arith, w.count-is, w.push-count.ensures.1, l.invariant.1) | else-has_digit w ↦ omega (arith, w.count-is, l.invariant.1) ],
+      elim c.if-has_digit.branch [ then-has_digit w ↦ omega (arith, ap (λ (q : Reports). q.count) w.reports-is, w.push.ensures.counted, l.invariant.1) | else-has_digit w ↦ omega (arith, ap (λ (q : Reports). q.count) w.reports-is, l.invariant.1) ],
       turn-done (turn u nine) 9 d (omega arith)
           (elim c.if-has_digit.branch [
-            | then-has_digit w ↦ stored_same w.cells-is w.digits-is w.count-is ∙ w.push-count.ensures.0
-                ∙ hidden_found u d q (spots_in nine d) (w.unit_cell-cell.ensures ∙ ap (unit_cell u) (w.lowest_digit-place.ensures ∙ ap lowest w.places_of.ensures)) refl (test ∙ w.if-has_digit.true)
-            | else-has_digit w ↦ stored_same w.cells-is w.digits-is w.count-is ∙ hidden-none u d q (spots_in nine d) (test ∙ w.if-has_digit.false)
+            | then-has_digit w ↦ w.reports-is ∙ w.push.ensures.after
+                ∙ hidden_found u d l.reports (spots_in nine d) (w.unit_cell-cell.ensures ∙ ap (unit_cell u) (w.lowest_digit-place.ensures ∙ ap lowest w.places_of.ensures)) refl (test ∙ w.if-has_digit.true)
+            | else-has_digit w ↦ w.reports-is ∙ hidden-none u d l.reports (spots_in nine d) (test ∙ w.if-has_digit.false)
           ])
           l.invariant.2,
     )
 
-pub returns : goal.returns
-returns c =
-    let l = c.loop-digit in
-    (turns-over (turn c.args.unit c.unit_masks-nine.result) 9 l.digit c.loop-digit-test.false l.invariant.2, omega (arith, l.invariant.0, l.invariant.1))
+pub returns-clause-reports_after : goal.returns-clause-reports_after
+returns-clause-reports_after c =
+    turns-over (turn c.args.unit c.unit_masks-nine.result) 9 c.loop-digit.digit c.loop-digit-test.false c.loop-digit.invariant.2

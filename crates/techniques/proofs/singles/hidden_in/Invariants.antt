@@ -5,7 +5,7 @@ use Prim.Native.Nat.{ℕ, ◌+◌, ◌-◌, ◌≤◌}
 use Rattle.steps.specs.Loops.{each, range}
 use Rattle.cells.specs.code.Places.{spots_in}
 use Rattle.techniques.specs.declared.singles.Reports.{Reports}
-use Rattle.techniques.specs.code.Pushes.{append, stored}
+use Rattle.techniques.specs.code.Pushes.{append}
 use Rattle.techniques.specs.code.Singles.{hidden_at, hidden_in}
 use Rattle.techniques.proofs.singles.hidden_in.Given as goal
 
@@ -15,8 +15,5 @@ turn u nine d q = append (hidden_at u (spots_in nine d) d) q
 
 abbrev pub invariant-loop-digit : goal.invariant-loop-digit
 invariant-loop-digit l =
-    (l.digit ≤ 9) × (l.count ≤ l.held + l.digit)
-    × (each (turn l.unit l.nine) (range (9 - l.digit) l.digit) (stored l.cells l.digits l.count) ≡ append (hidden_in l.givens l.masks l.unit) (stored l.initial.cells l.initial.digits l.held))
-
-abbrev pub decreases-loop-digit : goal.decreases-loop-digit
-decreases-loop-digit l = 9 - l.digit
+    (l.digit ≤ 9) × (l.reports.count ≤ l.initial.reports.count + l.digit)
+    × (each (turn l.unit l.nine) (range (9 - l.digit) l.digit) l.reports ≡ append (hidden_in l.givens l.masks l.unit) l.initial.reports)

@@ -5,7 +5,7 @@ use Prim.Native.Nat.{ℕ, ◌+◌, ◌-◌, ◌*◌, ◌≤◌}
 use Rattle.steps.specs.Loops.{each, range}
 use Rattle.steps.specs.Singles.{hidden_singles}
 use Rattle.techniques.specs.declared.singles.Reports.{Reports}
-use Rattle.techniques.specs.code.Pushes.{append, stored}
+use Rattle.techniques.specs.code.Pushes.{append}
 use Rattle.techniques.specs.code.Singles.{hidden_in}
 use Rattle.techniques.proofs.singles.hidden_singles.Given as goal
 
@@ -15,8 +15,5 @@ turn g m u q = append (hidden_in g m u) q
 
 abbrev pub invariant-loop-unit : goal.invariant-loop-unit
 invariant-loop-unit l =
-    (l.unit ≤ 27) × (l.count ≤ l.held + 9 * l.unit)
-    × (each (turn l.givens l.masks) (range (27 - l.unit) l.unit) (stored l.cells l.digits l.count) ≡ append (hidden_singles l.givens l.masks) (stored l.initial.cells l.initial.digits l.held))
-
-abbrev pub decreases-loop-unit : goal.decreases-loop-unit
-decreases-loop-unit l = 27 - l.unit
+    (l.unit ≤ 27) × (l.reports.count ≤ l.initial.reports.count + 9 * l.unit)
+    × (each (turn l.givens l.masks) (range (27 - l.unit) l.unit) l.reports ≡ append (hidden_singles l.givens l.masks) l.initial.reports)

@@ -5,7 +5,7 @@ use Prim.Native.Nat.{ℕ, ◌+◌, ◌-◌, ◌≤◌}
 use Rattle.steps.specs.Loops.{each, range}
 use Rattle.steps.specs.Singles.{naked_at, naked_singles}
 use Rattle.techniques.specs.declared.singles.Reports.{Reports}
-use Rattle.techniques.specs.code.Pushes.{append, stored}
+use Rattle.techniques.specs.code.Pushes.{append}
 use Rattle.techniques.proofs.singles.naked_singles.Given as goal
 
 -- one turn of the loop
@@ -14,8 +14,5 @@ turn g m c q = append (naked_at g m c) q
 
 abbrev pub invariant-loop-cell : goal.invariant-loop-cell
 invariant-loop-cell l =
-    (l.cell ≤ 81) × (l.count ≤ l.held + l.cell)
-    × (each (turn l.givens l.masks) (range (81 - l.cell) l.cell) (stored l.cells l.digits l.count) ≡ append (naked_singles l.givens l.masks) (stored l.initial.cells l.initial.digits l.held))
-
-abbrev pub decreases-loop-cell : goal.decreases-loop-cell
-decreases-loop-cell l = 81 - l.cell
+    (l.cell ≤ 81) × (l.reports.count ≤ l.initial.reports.count + l.cell)
+    × (each (turn l.givens l.masks) (range (81 - l.cell) l.cell) l.reports ≡ append (naked_singles l.givens l.masks) l.initial.reports)

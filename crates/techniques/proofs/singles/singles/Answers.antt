@@ -1,13 +1,16 @@
 -- `techniques::singles::singles` meets its contract. No list of reports is too long for the value. Assumes nothing.
-use mathlib.Core.Path.{◌∙◌}
+use mathlib.Core.Path.{ap, ◌∙◌}
 use mathlib.Core.List.{◌++◌}
 use Rattle.steps.specs.Singles.{naked_singles, hidden_singles}
-use Rattle.techniques.proofs.ReportLists.{stands, singles-few}
+use Rattle.techniques.specs.code.Pushes.{append}
+use Rattle.techniques.proofs.ReportLists.{new-empty, stands, singles-few}
 use Rattle.techniques.proofs.singles.singles.Goals as goal
+
+pub singles_into-requires : goal.singles_into-requires
+singles_into-requires c = new-empty c.new-reports.ensures
 
 pub returns : goal.returns
 returns c =
     let a = c.args in
-    let g = a.givens.now in
-    let m = a.masks.now in
-    c.singles_into-count.ensures ∙ stands (naked_singles g m ++ hidden_singles g m) (singles-few g m)
+    let list = naked_singles a.givens.now a.masks.now ++ hidden_singles a.givens.now a.masks.now in
+    c.singles_into.ensures ∙ ap (append list) c.new-reports.ensures ∙ stands list (singles-few a.givens.now a.masks.now)

@@ -5,8 +5,5 @@ use Rattle.steps.specs.Loops.{range}
 use Rattle.techniques.specs.code.XWings.{twice_from, twice_of}
 use Rattle.techniques.proofs.x_wings.held_twice.Given as goal
 
-abbrev pub invariant-loop-place : goal.invariant-loop-place
-invariant-loop-place l = (l.place ≤ 9) × (twice_from l.nine (range (9 - l.place) l.place) l.once l.twice l.more ≡ twice_of l.nine)
-
-abbrev pub decreases-loop-place : goal.decreases-loop-place
-decreases-loop-place l = 9 - l.place
+abbrev pub invariant-loop-mask : goal.invariant-loop-mask
+invariant-loop-mask l = (l.mask-index ≤ 9) × (twice_from l.nine (range (9 - l.mask-index) l.mask-index) l.once l.twice l.more ≡ twice_of l.nine)

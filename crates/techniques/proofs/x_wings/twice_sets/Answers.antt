@@ -16,7 +16,7 @@ loop-line-preserved c =
     let a = c.args in
     let i = c.loop-line.line in
     fill_on _ 9 i c.loop-line.sets c.loop-line.invariant (omega arith)
-    (c.held_twice.ensures ∙ ap twice_of (c.unit_masks-nine.ensures ∙ ap (λ (f : ℕ). unit_masks a.givens.now a.masks.now (f + i)) c.lines_from-first.ensures))
+    (c.held_twice.ensures ∙ ap twice_of (c.unit_masks-nine.ensures ∙ ap (λ (f : ℕ). unit_masks a.givens.now a.masks.now (f + i)) c.first-first.ensures))
 
 pub returns : goal.returns
 returns c = fill_end _ 9 c.loop-line.line c.loop-line.sets c.loop-line.invariant c.loop-line-test.false

@@ -16,7 +16,7 @@ loop-line-preserved c =
     let a = c.args in
     let i = c.loop-line.line in
     fill_on _ 9 i c.loop-line.list c.loop-line.invariant (omega arith)
-    (c.spots_where.ensures ∙ ap (λ (f : ℕ). spots_where a.givens.now a.masks.now (f + i) a.digit (at a.sets.now i)) c.lines_from-first.ensures)
+    (c.spots_where.ensures ∙ ap (λ (f : ℕ). spots_where a.givens.now a.masks.now (f + i) a.digit (at a.sets.now i)) c.first-first.ensures)
 
 pub returns : goal.returns
 returns c = fill_end _ 9 c.loop-line.line c.loop-line.list c.loop-line.invariant c.loop-line-test.false

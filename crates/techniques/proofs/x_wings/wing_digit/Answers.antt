@@ -10,16 +10,16 @@ pub loop-first-init : goal.loop-first-init
 unfolding wings_in
 loop-first-init c =
     let a = c.args in
-    (omega arith, ap (λ (list : List ℕ). wings_in a.givens.now a.columns a.digit list a.masks.now) c.two_spots-list.ensures)
+    (omega arith, ap (λ (list : List ℕ). wings_in a.givens.now a.lines a.digit list a.masks.now) c.two_spots-list.ensures)
 
 pub loop-first-preserved : goal.loop-first-preserved
 loop-first-preserved c =
     let a = c.args in (
       omega arith,
-      turn-done (wings_from a.givens.now a.columns a.digit c.two_spots-list.result) 9 c.loop-first.first (omega arith) c.wings_from.ensures c.loop-first.invariant.1,
+      turn-done (wings_from a.givens.now a.lines a.digit c.two_spots-list.result) 9 c.loop-first.first (omega arith) c.wings_from.ensures c.loop-first.invariant.1,
     )
 
 pub returns : goal.returns
 returns c =
     let a = c.args in
-    turns-over (wings_from a.givens.now a.columns a.digit c.two_spots-list.result) 9 c.loop-first.first c.loop-first-test.false c.loop-first.invariant.1
+    turns-over (wings_from a.givens.now a.lines a.digit c.two_spots-list.result) 9 c.loop-first.first c.loop-first-test.false c.loop-first.invariant.1

@@ -8,7 +8,4 @@ use Rattle.techniques.proofs.WingsDue.{Alike}
 use Rattle.techniques.proofs.x_wings.wings_in.Given as goal
 
 abbrev pub invariant-loop-digit : goal.invariant-loop-digit
-invariant-loop-digit l = (l.digit ≤ 9) × (each (wing_digit l.givens l.columns) (range (9 - l.digit) l.digit) l.masks ≡ each (wing_digit l.givens l.columns) (up_to 9) l.initial.masks) × ((e : ℕ) → l.digit ≤ e → Alike e l.masks l.initial.masks)
-
-abbrev pub decreases-loop-digit : goal.decreases-loop-digit
-decreases-loop-digit l = 9 - l.digit
+invariant-loop-digit l = (l.digit ≤ 9) × (each (wing_digit l.givens l.lines) (range (9 - l.digit) l.digit) l.masks ≡ each (wing_digit l.givens l.lines) (up_to 9) l.initial.masks) × ((e : ℕ) → l.digit ≤ e → Alike e l.masks l.initial.masks)
