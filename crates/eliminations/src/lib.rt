@@ -23,8 +23,8 @@ use techniques::box_lines::box_lines;
 use techniques::naked_pairs::naked_pairs;
 use techniques::x_wings::x_wings;
 
-// The calls that remove candidates. `eliminate` names each one's pass in a line, for which a trait would need a type and an impl; a match on a step's
-// number chooses in both.
+// The calls that remove candidates. `eliminate` names each one's pass in a line, for which a trait would need a type and an impl, and a closure a
+// `requires`; callers would match on a step's number all the same.
 #[derive(Clone, Copy)]
 pub enum Elimination {
     NakedPairs,

@@ -2,9 +2,10 @@
 // text, `.` for open. tools/trial_check.py makes the file `stdout` from the words of document 02, and knows nothing of this crate.
 #![tactic(auto)]
 
+ghost use Rattle.std.specs.Prelude.{◌<◌};
+
 use printing::{number, refusal, word};
 use std::io;
-use stops::Check;
 use trial_rounds::trial_round;
 
 const STARTS: [u32; 10] = [
@@ -20,54 +21,51 @@ fn show(
     start: u32,
     percentage: u32,
 ) -> io::Result<()> {
-    let round = trial_round(start, percentage, solution);
-    let answer = round.answer;
-    let clues = round.clues;
     word(rt, b"round")?;
     number(rt, name)?;
-    number(rt, start as u64)?;
-    number(rt, percentage as u64)?;
-    match answer {
-        Check::Passed => word(rt, b" 0 0")?,
-        Check::Refused(stop) => refusal(rt, stop)?,
-    }
+    number(rt, u64::from(start))?;
+    number(rt, u64::from(percentage))?;
+    // A refused round has no clues and stands as an open grid.
+    let clues = match trial_round(start, percentage, solution) {
+        Ok(clues) => {
+            word(rt, b" 0 0")?;
+            clues
+        }
+        Err(stop) => {
+            refusal(rt, stop)?;
+            [0; 81]
+        }
+    };
     word(rt, b" ")?;
     let mut line = [b'?'; 81];
-    text::write_text(&clues, &mut line);
+    let _ = text::write_text(&clues, &mut line);
     word(rt, &line)?;
-    word(rt, b"\n")?;
-    Ok(())
+    word(rt, b"\n")
 }
 
 fn percentages(rt: &impl Print, name: u64, solution: &[i32; 81], start: u32) -> io::Result<()> {
-    let mut i: usize = 0;
-    while i < 10 {
-        show(rt, name, solution, start, PERCENTAGES[i])?;
-        i += 1;
+    for percentage in PERCENTAGES {
+        show(rt, name, solution, start, percentage)?;
     }
     Ok(())
 }
 
 fn starts(rt: &impl Print, name: u64, solution: &[i32; 81]) -> io::Result<()> {
-    let mut i: usize = 0;
-    while i < 10 {
-        percentages(rt, name, solution, STARTS[i])?;
-        i += 1;
+    for start in STARTS {
+        percentages(rt, name, solution, start)?;
     }
     Ok(())
 }
 
 fn grid_of(bytes: &[u8]) -> [i32; 81] {
-    let parsed = text::parse_string(bytes);
-    parsed.clues
+    text::parse_string(bytes).unwrap_or([0; 81])
 }
 
-fn with_number(grid: [i32; 81], cell: usize, digit: i32) -> [i32; 81] {
-    let mut put = grid;
-    if cell < 81 {
-        put[cell] = digit;
-    }
-    put
+fn with_number(mut grid: [i32; 81], cell: usize, digit: i32) -> [i32; 81]
+    requires { cell < 81 }
+{
+    grid[cell] = digit;
+    grid
 }
 
 fn main(rt: HostRuntime) -> io::Result<()> {
@@ -86,6 +84,5 @@ fn main(rt: HostRuntime) -> io::Result<()> {
     percentages(&rt, 3, &with_number(a, 0, 10), 0)?;
     percentages(&rt, 4, &with_number(a, 0, -2147483648), 0)?;
     percentages(&rt, 5, &with_number(with_number(a, 0, 2), 1, 1), 0)?;
-    percentages(&rt, 6, &[0; 81], 4294967295)?;
-    Ok(())
+    percentages(&rt, 6, &[0; 81], 4294967295)
 }

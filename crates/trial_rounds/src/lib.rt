@@ -12,7 +12,7 @@ use stops::Stop;
 fn next_state(state: u32) -> u32
     ensures { result ≡ next_state state }
 {
-    ((1_103_515_245 * (state as u64) + 12_345) % 2_147_483_648) as u32
+    ((1_103_515_245 * u64::from(state) + 12_345) % 2_147_483_648) as u32
 }
 
 fn is_kept(state: u32, percentage: u32) -> bool
