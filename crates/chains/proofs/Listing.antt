@@ -4,7 +4,7 @@ use mathlib.Core.Bool.{Bool, true, false, cond, not, ◌||◌}
 use mathlib.Core.List.{List, [], ◌∷◌, ◌++◌, map, append_assoc, append-nil}
 use Prim.Native.Nat.{ℕ, zero, suc, ◌+◌, ◌≤◌, ◌<◌}
 use native.Mathlib.Omega.{arith}
-use borrow.Author.Tests.{eq-eqb, ne_eqb}
+use borrow.Author.Tests.{ne_eqb}
 use lib.Dec.{eqb}
 use lib.ListN.{length, take, drop}
 use lib.Seq.{drop-cons, take-length, append_snoc}
@@ -65,19 +65,6 @@ pub has-room : (f : ℕ → Bool) (ys zs : List ℕ) {x : ℕ} {l xs : List ℕ}
 has-room f ys zs n next inv few t = omega (arith, room f ys next inv t, few-selected f zs, few)
 
 -- ---- the other of two
-
-pub other-same : (c x : ℕ) → x ≡ c → others c (x ∷ []) ≡ []
-other-same c x e = cond-false (not (eqb x c)) (x ∷ []) [] (ap not (eq-eqb x c e))
-
-pub other-kept : (c x : ℕ) → (x ≡ c → ⊥) → others c (x ∷ []) ≡ x ∷ []
-other-kept c x n = cond-true (not (eqb x c)) (x ∷ []) [] (ap not (ne_eqb x c n))
-
-pub others-on : (c x : ℕ) (xs : List ℕ) → others c (x ∷ xs) ≡ others c (x ∷ []) ++ others c xs
-others-on c x xs = go (not (eqb x c))
-  where
-    go : (t : Bool) → cond t (x ∷ others c xs) (others c xs) ≡ cond t (x ∷ []) [] ++ others c xs
-    go true = refl
-    go false = refl
 
 pub no-pair : (xs : List ℕ) → (length xs ≡ 2 → ⊥) → two_of xs ≡ []
 no-pair xs h = cond-false (eqb (length xs) 2) xs [] (ne_eqb (length xs) 2 h)

@@ -15,7 +15,7 @@ fn sum_of(first: u8, second: u8) -> u16
     first as u16 + second as u16 + 1
 }
 
-// Of the unit's holders, if they are just two, the sum and one more, so that the one tells the other; else 0, which is below every such sum.
+// Of the unit's holders, if they are just two, the sum and one more, so that the one tells the other; else 0. An Option is no plainer here: 0 is at most any cell, so that `other_of` tells no pair and no other by one comparison.
 fn pair_sum(holders: &Cells<81>, unit: usize) -> u16
     ensures { result ≡ pair_sum (select (in_unit unit) holders.now) }
 {
