@@ -1,9 +1,9 @@
 // What bytes that are handed out look like: numbers in decimal, and bytes over the first of those that are lent; and the pen that writes them.
 #![tactic(auto)]
 
-ghost use Rattle.std.specs.Prelude.{◌≡◌};
+ghost use Rattle.std.specs.Prelude.{◌≡◌, [], ◌∷◌};
 ghost use Rattle.output.specs.Decimals.{decimal};
-ghost use Rattle.output.specs.code.Tapes.{pushed, append};
+ghost use Rattle.output.specs.code.Tapes.{append};
 ghost use Rattle.output.specs.code.Pens.{writes};
 
 // Lent bytes, and how many of them are written.
@@ -23,7 +23,7 @@ impl<'a, const N: usize> Pen<'a, N> {
 
     // One more byte; full bytes stay as they are.
     pub fn push(&mut self, byte: u8)
-        ensures { self.new ≡ writes (λ t. pushed N t byte) self.old }
+        ensures { self.new ≡ writes (append N (byte ∷ [])) self.old }
     {
         if self.end < N {
             self.bytes[self.end] = byte;

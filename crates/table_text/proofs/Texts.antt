@@ -9,7 +9,7 @@ use Rattle.output.specs.Decimals.{digits_in, decimal}
 use Rattle.steps.specs.Loops.{each, for, up_to}
 use Rattle.table_text.specs.Tables.{later, numbers, row_line, table_lines, units_header, peers_header, unit_rows, tables_text}
 use Rattle.output.specs.declared.Pen.{Pen}
-use Rattle.output.specs.code.Tapes.{pushed, append}
+use Rattle.output.specs.code.Tapes.{append}
 use Rattle.output.specs.code.Pens.{writes}
 use Rattle.table_text.specs.code.Pushes.{in_row, rows_of}
 use Rattle.table_text.specs.declared.Table.TheVariants as table
@@ -17,8 +17,8 @@ use Rattle.output.proofs.Pens.{writes-joined}
 
 -- a row and a table, from what each push made of the text before it
 module _ {room : ℕ} (p : Pen room) {a b r : Pen room} where
-  pub row-joined : (ns : List ℕ) → a ≡ writes (λ t. pushed room t 91) p → b ≡ writes (append room (numbers ns)) a → r ≡ writes (append room (93 ∷ 44 ∷ 10 ∷ [])) b → r ≡ writes (append room (row_line ns)) p
-  unfolding row_line append each
+  pub row-joined : (ns : List ℕ) → a ≡ writes (append room (91 ∷ [])) p → b ≡ writes (append room (numbers ns)) a → r ≡ writes (append room (93 ∷ 44 ∷ 10 ∷ [])) b → r ≡ writes (append room (row_line ns)) p
+  unfolding row_line
   row-joined ns k l m = writes-joined (91 ∷ numbers ns) (93 ∷ 44 ∷ 10 ∷ []) p (writes-joined (91 ∷ []) (numbers ns) p k l) m
 
   pub table-joined : (header : List ℕ) (rows : List (List ℕ)) → a ≡ writes (append room header) p → b ≡ writes (append room (for rows row_line)) a → r ≡ writes (append room (93 ∷ 59 ∷ 10 ∷ [])) b → r ≡ writes (append room (table_lines header rows)) p

@@ -4,12 +4,9 @@ use mathlib.Core.List.{List}
 use Prim.Native.Nat.{ℕ}
 use native.Mathlib.Omega.{arith}
 use Rattle.std.proofs.Common.{rules}
-use Rattle.output.specs.declared.Pen.{Pen}
-use Rattle.output.specs.Lent.{over}
-use Rattle.output.specs.code.Tapes.{Tape, append}
-use Rattle.output.specs.code.Pens.{tape_of, writes}
-use Rattle.output.proofs.Pens.{writes-joined}
-use Rattle.output.proofs.Tapes.{stands}
+use Rattle.output.specs.code.Tapes.{append}
+use Rattle.output.specs.code.Pens.{writes}
+use Rattle.output.proofs.Pens.{writes-joined, written}
 use Rattle.table_text.specs.Tables.{table_lines, units_header, peers_header, tables_text}
 use Rattle.table_text.specs.declared.Table.TheVariants as table
 use Rattle.table_text.specs.code.Pushes.{rows_of}
@@ -18,12 +15,10 @@ use Rattle.table_text.proofs.write_tables.Goals as goal
 
 pub returns : goal.returns
 returns c =
-    let lent = c.args.text.now in
+    let first = table_lines units_header (rows_of table.Units 27) in
+    let second = table_lines peers_header (rows_of table.Peers 81) in
     let pen = c.new-pen.result in
     let made : c.push_table-2.new.text ≡ writes (append 7515 tables_text) pen = (
-    writes-joined (table_lines units_header (rows_of table.Units 27)) (table_lines peers_header (rows_of table.Peers 81)) pen c.push_table.ensures c.push_table-2.ensures
-    ∙ ap (λ (bs : List ℕ). writes (append 7515 bs) pen) both-tables) in
-    let bytes : c.push_table-2.new.text.bytes.now ≡ over tables_text lent = (
-    ap (λ (p : Pen 7515). p.bytes.now) made ∙ ap (λ (p : Pen 7515). (append 7515 tables_text (tape_of p)).bytes) c.new-pen.ensures
-    ∙ ap (λ (t : Tape). t.bytes) (stands 7515 lent tables_text (omega (arith, text-length)))) in
+    writes-joined first second pen c.push_table.ensures c.push_table-2.ensures ∙ ap (λ (bs : List ℕ). writes (append 7515 bs) pen) both-tables) in
+    let filled = written tables_text c.new-pen.ensures made (omega (arith, text-length)) in
     (search rules, text-length)
