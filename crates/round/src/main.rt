@@ -2,7 +2,7 @@
 // error. README.md has the line's fields.
 #![tactic(auto)]
 
-use rounds::cuts::{State, feed, finish, fresh_state};
+use rounds::cuts::{Out, State, feed, finish, fresh_state};
 use rounds::tallies::write_summary;
 use std::io;
 use std::io::{Read, Write};
@@ -14,29 +14,24 @@ fn write_first(to: &mut impl Write, bytes: &[u8], count: usize) -> io::Result<()
     Ok(())
 }
 
-// The bytes to hand out stand in the piece where they are `raw`, else in `out`.
-fn hand_out(
-    rt: &impl Print,
-    raw: bool,
-    count: usize,
-    piece: &[u8],
-    out: &[u8; 256],
-) -> io::Result<()> {
-    let bytes: &[u8] = if raw { piece } else { out };
-    write_first(&mut io::writer(rt), bytes, count)
+fn hand_out(rt: &impl Print, made: Out, piece: &[u8], out: &[u8; 256]) -> io::Result<()> {
+    match made {
+        Out::Piece(count) => write_first(&mut io::writer(rt), piece, count),
+        Out::Lent(count) => write_first(&mut io::writer(rt), out, count),
+    }
 }
 
 // All lines of a piece. Each turn uses a byte at least.
 fn feed_piece(rt: &impl Print, state: State, piece: &[u8]) -> io::Result<State> {
     let mut now = state;
     let mut out = [0u8; 256];
-    let mut at: usize = 0;
-    while at < piece.len() {
-        let fed = feed(now, &piece[at..], &mut out);
-        hand_out(rt, fed.raw, fed.count, &piece[at..], &out)?;
+    let mut rest = piece;
+    while !rest.is_empty() {
+        let fed = feed(now, rest, &mut out);
+        hand_out(rt, fed.out, rest, &out)?;
         let next = fed.state;
         now = next;
-        at += fed.used;
+        rest = &rest[fed.used..];
     }
     Ok(now)
 }

@@ -40,13 +40,19 @@ pub struct State {
     pub tally: [usize; 7],
 }
 
-// What a call did: `used` bytes of the piece are done with, and `count` bytes are to be handed out, of the piece where they are `raw`, else of the lent ones.
+// What is to be handed out: so many first bytes of the piece, as they are, or of the lent ones.
+#[derive(Clone, Copy)]
+pub enum Out {
+    Piece(usize),
+    Lent(usize),
+}
+
+// What a call did: `used` bytes of the piece are done with.
 #[derive(Clone, Copy)]
 pub struct Fed {
     pub state: State,
     pub used: usize,
-    pub raw: bool,
-    pub count: usize,
+    pub out: Out,
 }
 
 // What the end of a line leaves, and how many bytes it made.
@@ -187,8 +193,7 @@ fn pass_on(state: State, length: usize, end: usize) -> Fed
                 ..state
             },
             used: end + 1,
-            raw: true,
-            count: end + 1,
+            out: Out::Piece(end + 1),
         };
     }
     let line = state.line;
@@ -201,8 +206,7 @@ fn pass_on(state: State, length: usize, end: usize) -> Fed
             ..state
         },
         used: end,
-        raw: true,
-        count: end,
+        out: Out::Piece(end),
     }
 }
 
@@ -227,15 +231,13 @@ pub fn feed(state: State, piece: &[u8], out: &mut Lines) -> Fed
         return Fed {
             state: ended.state,
             used,
-            raw: false,
-            count: ended.count,
+            out: Out::Lent(ended.count),
         };
     }
     Fed {
         state: more,
         used: end,
-        raw: false,
-        count: 0,
+        out: Out::Lent(0),
     }
 }
 
