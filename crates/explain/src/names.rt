@@ -86,7 +86,7 @@ fn push_cross(
     push_nth(line, b" ", y);
 }
 
-// A step by its kind and its five parts; those that a kind does not have are zeros.
+// A step by its kind and its five parts, by number as the list's bytes have them; parts that a kind does not have are zeros.
 pub fn push_step(line: &mut LinesPen, step: [usize; 6]) {
     let [kind, p, q, r, s, t] = step;
     match kind {

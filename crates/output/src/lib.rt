@@ -39,7 +39,8 @@ impl<'a, const N: usize> Pen<'a, N> {
         }
     }
 
-    // A number in decimal: what stands before its last digit, and that digit.
+    // A number in decimal: what stands before its last digit, and that digit. It is by recursion, as `decimal` is: the library's formatting goes
+    // through a `Formatter`, and its digits are defined otherwise.
     pub fn push_number(&mut self, n: usize)
         ensures { self.new ≡ writes (append N (decimal n)) self.old }
     {

@@ -8,6 +8,7 @@ use board::Verdict;
 use card::lines::{Lines, number_line};
 use output::Pen;
 
+// Places by number and not named fields, since the summary's definitions and the promise on the tally (specs/Summaries and Promises) speak of places.
 pub type Tally = [usize; 7];
 
 // One more, up to a number that no count reaches.
