@@ -1,11 +1,11 @@
-// A card and a refusal as lines, each over the first lent bytes; later ones keep. What is handed back is how many bytes are written.
+// A card and a refusal as lines.
 ghost use Rattle.std.specs.Prelude.{◌≡◌, ◌≤◌, length};
+ghost use Rattle.output.specs.code.Tapes.{append};
+ghost use Rattle.output.specs.code.Pens.{writes};
 ghost use Rattle.card.specs.Cards.{card_bytes, verdict_word};
-ghost use Rattle.output.specs.Decimals.{decimal};
 ghost use Rattle.card.specs.Layout.{line_of, verdict_label, grid_label, grid_bytes, refusal_bytes};
-ghost use Rattle.output.specs.code.Tapes.{tape, append};
 
-use crate::lines::{Lines, push, push_grid, push_number, push_signed, push_word};
+use crate::lines::{LinesPen, number_line, push_grid, push_signed};
 use board::Verdict;
 use stops::Stop;
 
@@ -20,62 +20,50 @@ pub struct Card {
     pub masks: [u16; 81],
 }
 
-pub fn number_line(lines: &mut Lines, at: usize, label: &[u8], n: usize) -> usize
-    ensures { tape lines.new result ≡ append 256 (line_of label.now (decimal n)) (tape lines.old at) }
-{
-    let word = push_word(lines, at, label);
-    let number = push_number(lines, word, n);
-    push(lines, number, b'\n')
-}
-
-pub fn push_verdict(lines: &mut Lines, at: usize, verdict: Verdict) -> usize
-    ensures { tape lines.new result ≡ append 256 (verdict_word verdict) (tape lines.old at) }
+pub fn push_verdict(lines: &mut LinesPen, verdict: Verdict)
+    ensures { lines.new ≡ writes (append 256 (verdict_word verdict)) lines.old }
 {
     match verdict {
-        Verdict::Dead => push_word(lines, at, b"dead"),
-        Verdict::Finished => push_word(lines, at, b"finished"),
-        Verdict::Open => push_word(lines, at, b"open"),
+        Verdict::Dead => lines.push_word(b"dead"),
+        Verdict::Finished => lines.push_word(b"finished"),
+        Verdict::Open => lines.push_word(b"open"),
     }
 }
 
-pub fn verdict_line(lines: &mut Lines, at: usize, verdict: Verdict) -> usize
-    ensures { tape lines.new result ≡ append 256 (line_of verdict_label (verdict_word verdict)) (tape lines.old at) }
+pub fn verdict_line(lines: &mut LinesPen, verdict: Verdict)
+    ensures { lines.new ≡ writes (append 256 (line_of verdict_label (verdict_word verdict))) lines.old }
 {
-    let word = push_word(lines, at, b"verdict ");
-    let end = push_verdict(lines, word, verdict);
-    push(lines, end, b'\n')
+    lines.push_word(b"verdict ");
+    push_verdict(lines, verdict);
+    lines.push(b'\n');
 }
 
-fn grid_line(lines: &mut Lines, at: usize, masks: &[u16; 81]) -> usize
-    ensures { tape lines.new result ≡ append 256 (line_of grid_label (grid_bytes masks.now)) (tape lines.old at) }
+fn grid_line(lines: &mut LinesPen, masks: &[u16; 81])
+    ensures { lines.new ≡ writes (append 256 (line_of grid_label (grid_bytes masks.now))) lines.old }
 {
-    let word = push_word(lines, at, b"line ");
-    let end = push_grid(lines, word, masks);
-    push(lines, end, b'\n')
+    lines.push_word(b"line ");
+    push_grid(lines, masks);
+    lines.push(b'\n');
 }
 
-pub fn card_lines(lines: &mut Lines, card: Card) -> usize
-    ensures { tape lines.new result ≡ append 256 (card_bytes card) (tape lines.old 0) }
+pub fn card_lines(lines: &mut LinesPen, card: &Card)
+    ensures { lines.new ≡ writes (append 256 (card_bytes card.now)) lines.old }
 {
-    let verdict = card.verdict;
-    let masks = card.masks;
-    let clues = number_line(lines, 0, b"clues ", card.clues);
-    let reported = number_line(lines, clues, b"reported ", card.reported);
-    let sweeps = number_line(lines, reported, b"sweeps ", card.sweeps);
-    let removed = number_line(lines, sweeps, b"removed ", card.removed);
-    let end = verdict_line(lines, removed, verdict);
-    grid_line(lines, end, &masks)
+    number_line(lines, b"clues ", card.clues);
+    number_line(lines, b"reported ", card.reported);
+    number_line(lines, b"sweeps ", card.sweeps);
+    number_line(lines, b"removed ", card.removed);
+    verdict_line(lines, card.verdict);
+    grid_line(lines, &card.masks);
 }
 
 // There is room for every stop.
-pub fn refusal_lines(lines: &mut Lines, stop: Stop) -> usize
-    ensures { (tape lines.new result ≡ append 256 (refusal_bytes stop) (tape lines.old 0)) × (length (refusal_bytes stop) ≤ 256) }
+pub fn refusal_lines(lines: &mut LinesPen, stop: Stop)
+    ensures { (lines.new ≡ writes (append 256 (refusal_bytes stop)) lines.old) × (length (refusal_bytes stop) ≤ 256) }
 {
-    let number = stops::number(stop) as usize;
-    let detail = stops::detail(stop);
-    let word = push_word(lines, 0, b"refused ");
-    let numbered = push_number(lines, word, number);
-    let space = push(lines, numbered, b' ');
-    let end = push_signed(lines, space, detail);
-    push(lines, end, b'\n')
+    lines.push_word(b"refused ");
+    lines.push_number(stops::number(stop) as usize);
+    lines.push(b' ');
+    push_signed(lines, stops::detail(stop));
+    lines.push(b'\n');
 }

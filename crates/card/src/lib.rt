@@ -14,6 +14,7 @@ use board::count_clues;
 use board::fresh::fresh_masks;
 use board::verdicts::verdict_of;
 use layout::{Card, card_lines, refusal_lines};
+use output::Pen;
 use passes::settle;
 use stops::{Check, Writing};
 use techniques::singles::singles;
@@ -26,14 +27,10 @@ pub mod lines;
 pub fn length_without(input: &[u8], last: u8) -> usize
     ensures { result ≡ length_without last input.now }
 {
-    let length = input.len();
-    if length == 0 {
-        return 0;
+    if input.last() == Some(&last) {
+        return input.len() - 1;
     }
-    if input[length - 1] == last {
-        return length - 1;
-    }
-    length
+    input.len()
 }
 
 // The card of clues, and what each pass removed in the settling that it is of.
@@ -74,7 +71,9 @@ pub fn write_card(input: &[u8], out: &mut [u8; 256]) -> Writing
     };
     let clues = parsed.clues;
     let card = card_of(&clues);
-    Writing::Written(card_lines(out, card))
+    let mut lines = Pen::new(out);
+    card_lines(&mut lines, &card);
+    Writing::Written(lines.end)
 }
 
 // The line of a refusal, in the first lent bytes, and how many it has; none for an answer that is no refusal.
@@ -82,7 +81,11 @@ pub fn write_refusal(answer: Writing, out: &mut [u8; 256]) -> usize
     ensures { (result ≡ length (refusal_line (writing_answer answer))) × (out.new ≡ over (refusal_line (writing_answer answer)) out.old) × (result ≤ 256) }
 {
     match answer {
-        Writing::Refused(stop) => refusal_lines(out, stop),
+        Writing::Refused(stop) => {
+            let mut lines = Pen::new(out);
+            refusal_lines(&mut lines, stop);
+            lines.end
+        }
         Writing::Written(_) => 0,
     }
 }

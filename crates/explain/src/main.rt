@@ -9,8 +9,10 @@ use board::entries::fresh_board;
 use board::verdicts::verdict_of;
 use card::layout::verdict_line;
 use card::write_refusal;
+use output::Pen;
 use passes::apply_settling;
 use std::io;
+use std::io::Write;
 use stops::Check;
 
 mod drawing;
@@ -22,17 +24,16 @@ mod reading;
 mod step_lines;
 
 fn refuse(rt: &impl Print, answer: Check) -> io::Result<()> {
-    let mut line = lines::empty();
+    let mut line = [0; 256];
     let end = write_refusal(stops::written(answer, 0), &mut line);
-    lines::write_out(rt, line, end)?;
-    Ok(())
+    io::writer(rt).write_all(&line[..end])
 }
 
 fn print_verdict(rt: &impl Print, masks: &[u16; 81]) -> io::Result<()> {
-    let mut line = lines::empty();
-    let end = verdict_line(&mut line, 0, verdict_of(masks));
-    lines::write_out(rt, line, end)?;
-    Ok(())
+    let mut room = [0; 256];
+    let mut line = Pen::new(&mut room);
+    verdict_line(&mut line, verdict_of(masks));
+    lines::write_out(rt, &line)
 }
 
 // Settling does not refuse a fresh board.
@@ -41,11 +42,10 @@ fn explain(rt: &impl Print, board: Board) -> io::Result<()> {
     let settled = after.board;
     let masks = settled.masks;
     step_lines::print_steps(rt, board, after.steps)?;
-    lines::write_line(rt, lines::empty(), 0)?;
+    lines::write_line(rt, &mut Pen::new(&mut [0; 256]))?;
     drawing::print_grid(rt, &masks)?;
     figures::print_difficulty(rt, board)?;
-    print_verdict(rt, &masks)?;
-    Ok(())
+    print_verdict(rt, &masks)
 }
 
 fn main(rt: HostRuntime) -> io::Result<()> {
@@ -53,9 +53,7 @@ fn main(rt: HostRuntime) -> io::Result<()> {
     let answer = parsed.answer;
     let clues = parsed.clues;
     let Check::Passed = answer else {
-        refuse(&rt, answer)?;
-        return Ok(());
+        return refuse(&rt, answer);
     };
-    explain(&rt, fresh_board(clues, [0; 81]))?;
-    Ok(())
+    explain(&rt, fresh_board(clues, [0; 81]))
 }

@@ -27,22 +27,8 @@ fn starts_with_grid(text: &[u8]) -> bool {
 
 // Whether a separator and 81 digits stand after them.
 fn goes_on_with_answer(text: &[u8]) -> bool {
-    match byte_at(text, 81) {
-        b' ' | b'\t' | b',' | b';' => {}
-        _ => return false,
-    }
-    let mut index: usize = 82;
-    while index < 163 {
-        let byte = byte_at(text, index);
-        if byte < b'1' {
-            return false;
-        }
-        if b'9' < byte {
-            return false;
-        }
-        index += 1;
-    }
-    true
+    matches!(byte_at(text, 81), b' ' | b'\t' | b',' | b';')
+        && (82..163).all(|index| matches!(byte_at(text, index), b'1'..=b'9'))
 }
 
 // Whether the first line may end before this byte: at the end of the text or of the line.
@@ -79,20 +65,18 @@ fn pass_over(rt: &impl Input) -> u64
     read_full(rt, &mut piece) as u64
 }
 
-// How many bytes come until the input ends. A proved loop has to end, and nothing says that an input does: it counts its turns down, from a number
-// that no run uses up.
+// How many bytes come until the input ends. A proved loop has to end, and nothing says that an input does: its turns are counted, up to a number
+// that no run reaches.
 fn count_rest(rt: &impl Input) -> u64
     ensures { result ≤ 4611686018427387904 }
 {
     let mut count: u64 = 0;
-    let mut turns: u64 = 1125899906842624;
-    while 0 < turns {
+    for turn in 0..1125899906842624u64 {
         let read = pass_over(rt);
         count += read;
         if read < 4096 {
             return count;
         }
-        turns -= 1;
     }
     count
 }

@@ -7,35 +7,27 @@ use crate::losses::push_losses;
 use crate::names::push_step;
 use board::Board;
 use board::entries::givens_of;
-use card::lines::{Lines, push, push_number};
 use cells::notes::Steps;
+use output::Pen;
 use std::io;
 use step_lists::kinds::take_at;
 
-fn wide(byte: u8) -> usize {
-    byte as usize
-}
-
-// The number of a step from 1, and its name.
-fn push_title(line: &mut Lines, bytes: &[u8; 4374], index: usize) -> usize
+// A step's kind and parts.
+fn step_at(bytes: &[u8; 4374], index: usize) -> [usize; 6]
     requires { index < 729 }
 {
-    let number = push_number(line, 0, index + 1);
     let at = 6 * index;
-    let named = push_step(
-        line,
-        number,
-        wide(bytes[at]),
-        wide(bytes[at + 1]),
-        wide(bytes[at + 2]),
-        wide(bytes[at + 3]),
-        wide(bytes[at + 4]),
-        wide(bytes[at + 5]),
-    );
-    push(line, named, b':')
+    [
+        usize::from(bytes[at]),
+        usize::from(bytes[at + 1]),
+        usize::from(bytes[at + 2]),
+        usize::from(bytes[at + 3]),
+        usize::from(bytes[at + 4]),
+        usize::from(bytes[at + 5]),
+    ]
 }
 
-// A step is taken, and its line written out.
+// A step is taken, and its line written out: its number from 1, its name and what it removed.
 fn print_step(
     rt: &impl Print,
     givens: &[u8; 81],
@@ -47,26 +39,23 @@ fn print_step(
 {
     let before = *masks;
     take_at(givens, masks, bytes, 6 * index);
-    let mut line = lines::empty();
-    let title = push_title(&mut line, bytes, index);
-    let end = push_losses(&mut line, title, &before, masks);
-    lines::write_line(rt, line, end)?;
-    Ok(())
+    let mut room = [0; 256];
+    let mut line = Pen::new(&mut room);
+    line.push_number(index + 1);
+    push_step(&mut line, step_at(bytes, index));
+    line.push(b':');
+    push_losses(&mut line, &before, masks);
+    lines::write_line(rt, &mut line)
 }
 
 // The steps from the fresh board on.
 pub fn print_steps(rt: &impl Print, fresh: Board, steps: Steps) -> io::Result<()> {
-    let clues = fresh.clues;
-    let entries = fresh.entries;
-    let bytes = steps.bytes;
-    let givens = givens_of(&clues, &entries);
+    let givens = givens_of(&fresh.clues, &fresh.entries);
     let mut masks = fresh.masks;
-    let mut index: usize = 0;
-    while index < 729 {
+    for index in 0..729 {
         if index < steps.count {
-            print_step(rt, &givens, &mut masks, &bytes, index)?;
+            print_step(rt, &givens, &mut masks, &steps.bytes, index)?;
         }
-        index += 1;
     }
     Ok(())
 }

@@ -1,3 +1,4 @@
 pub mod Decimals
 pub mod Lent
+pub mod Pens
 pub mod Tapes

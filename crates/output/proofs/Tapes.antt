@@ -1,6 +1,6 @@
 -- Bytes one after the other on a tape: lists of them joined, and lists that have room for all. Assumes nothing.
-use mathlib.Core.Path.{◌≡◌, refl, sym, ap, ◌∙◌}
-use mathlib.Core.List.{List, [], ◌∷◌, ◌++◌, map, append_assoc, append-nil}
+use mathlib.Core.Path.{◌≡◌, sym, ap, ◌∙◌}
+use mathlib.Core.List.{List, [], ◌∷◌, ◌++◌, append_assoc, append-nil}
 use Prim.Native.Nat.{ℕ, ◌+◌, ◌≤◌, ◌<◌}
 use native.Mathlib.Omega.{arith}
 use borrow.Author.Tests.{lt-ltb}
@@ -14,20 +14,10 @@ use Rattle.output.specs.code.Tapes.{Tape, tape, pushed, append}
 use Rattle.output.proofs.Lent.{over-push}
 
 module _ (room : ℕ) where
-  pub append-one : (b : ℕ) (t : Tape) → pushed room t b ≡ append room (b ∷ []) t
-  unfolding append each
-  append-one b t = refl
-
   -- one list and then another, from what each made of the tape before it
   pub joined : (xs ys : List ℕ) (t : Tape) {a r : Tape} → a ≡ append room xs t → r ≡ append room ys a → r ≡ append room (xs ++ ys) t
   unfolding append
   joined xs ys t l m = m ∙ ap (append room ys) l ∙ sym (each_append (λ b t. pushed room t b) xs ys t)
-
-  -- a byte for each number of a list
-  pub append-each : (f : ℕ → ℕ) (ns : List ℕ) (t : Tape) → append room (map f ns) t ≡ each (λ n t. pushed room t (f n)) ns t
-  unfolding append each
-  append-each f [] t = refl
-  append-each f (n ∷ ns) t = append-each f ns (pushed room t (f n))
 
 -- ---- a list that stands over the lent bytes
 

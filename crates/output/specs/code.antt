@@ -1,2 +1,3 @@
 -- How the code goes about it: nothing here needs belief.
 pub mod Tapes
+pub mod Pens

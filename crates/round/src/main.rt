@@ -2,17 +2,10 @@
 // error. README.md has the line's fields.
 #![tactic(auto)]
 
-use rounds::cuts::{State, feed, finish, fresh_state};
+use rounds::cuts::{Out, State, feed, finish, fresh_state};
 use rounds::tallies::write_summary;
 use std::io;
 use std::io::{Read, Write};
-
-// What a read leaves: whether there may be more.
-#[derive(Clone, Copy)]
-struct Turn {
-    state: State,
-    more: bool,
-}
 
 fn write_first(to: &mut impl Write, bytes: &[u8], count: usize) -> io::Result<()> {
     if count <= bytes.len() {
@@ -21,67 +14,46 @@ fn write_first(to: &mut impl Write, bytes: &[u8], count: usize) -> io::Result<()
     Ok(())
 }
 
-fn write_made(to: &mut impl Write, out: &[u8; 256], count: usize) -> io::Result<()> {
-    write_first(to, out, count)
-}
-
-// The bytes to hand out stand in the piece where they are `raw`, else in `out`.
-fn hand_out(
-    rt: &impl Print,
-    raw: bool,
-    count: usize,
-    piece: &[u8],
-    out: &[u8; 256],
-) -> io::Result<()> {
-    if raw {
-        return write_first(&mut io::writer(rt), piece, count);
+fn hand_out(rt: &impl Print, made: Out, piece: &[u8], out: &[u8; 256]) -> io::Result<()> {
+    match made {
+        Out::Piece(count) => write_first(&mut io::writer(rt), piece, count),
+        Out::Lent(count) => write_first(&mut io::writer(rt), out, count),
     }
-    write_made(&mut io::writer(rt), out, count)
 }
 
 // All lines of a piece. Each turn uses a byte at least.
 fn feed_piece(rt: &impl Print, state: State, piece: &[u8]) -> io::Result<State> {
     let mut now = state;
     let mut out = [0u8; 256];
-    let mut at: usize = 0;
-    while at < piece.len() {
-        let fed = feed(now, &piece[at..], &mut out);
-        hand_out(rt, fed.raw, fed.count, &piece[at..], &out)?;
+    let mut rest = piece;
+    while !rest.is_empty() {
+        let fed = feed(now, rest, &mut out);
+        hand_out(rt, fed.out, rest, &out)?;
         let next = fed.state;
         now = next;
-        at += fed.used;
+        rest = &rest[fed.used..];
     }
     Ok(now)
 }
 
-// One read. A read that fails ends the input.
-fn read_some(rt: &(impl Input + Print), state: State) -> io::Result<Turn> {
+// One read, and what it leaves; nothing where the input ends. A read that fails ends the input.
+fn read_some(rt: &(impl Input + Print), state: State) -> io::Result<Option<State>> {
     let mut piece = [0u8; 65536];
-    let count = match rt.reader().read(&mut piece) {
-        Ok(count) => count,
-        Err(_) => 0,
-    };
+    let count = rt.reader().read(&mut piece).unwrap_or(0);
     if count == 0 {
-        return Ok(Turn { state, more: false });
+        return Ok(None);
     }
-    let next = feed_piece(rt, state, &piece[..count])?;
-    Ok(Turn {
-        state: next,
-        more: true,
-    })
+    Ok(Some(feed_piece(rt, state, &piece[..count])?))
 }
 
-// A proved loop has to end, and nothing says that an input does: it counts its turns down, from a number that no run uses up.
+// A proved loop has to end, and nothing says that an input does: its turns are counted, up to a number that no run reaches.
 fn read_all(rt: &(impl Input + Print)) -> io::Result<State> {
     let mut now = fresh_state();
-    let mut more = true;
-    let mut turns = u64::MAX;
-    while turns > 0 && more {
-        let turn = read_some(rt, now)?;
-        let next = turn.state;
+    for _ in 0..u64::MAX {
+        let Some(next) = read_some(rt, now)? else {
+            break;
+        };
         now = next;
-        more = turn.more;
-        turns -= 1;
     }
     Ok(now)
 }
@@ -89,9 +61,8 @@ fn read_all(rt: &(impl Input + Print)) -> io::Result<State> {
 fn main(rt: HostRuntime) -> io::Result<()> {
     let mut out = [0u8; 256];
     let ended = finish(read_all(&rt)?, &mut out);
-    write_made(&mut io::writer(&rt), &out, ended.count)?;
+    write_first(&mut io::writer(&rt), &out, ended.count)?;
     let last = ended.state;
-    let tally = last.tally;
-    let count = write_summary(tally, &mut out);
-    write_made(&mut rt.stderr(), &out, count)
+    let count = write_summary(last.tally, &mut out);
+    write_first(&mut rt.stderr(), &out, count)
 }

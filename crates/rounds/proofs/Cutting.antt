@@ -3,19 +3,18 @@ use mathlib.Core.Path.{◌≡◌, sym, ap, ◌∙◌}
 use mathlib.Core.Bool.{Bool, true, false, cond}
 use mathlib.Core.List.{List, [], ◌∷◌}
 use mathlib.Core.Logic.{◌≢◌}
-use Prim.Native.Nat.{ℕ, suc, ◌+◌, ◌≤◌, ◌<◌, min}
-use native.Mathlib.Decide.{dec_le}
+use Prim.Native.Nat.{ℕ, suc, ◌+◌, ◌≤◌, ◌<◌}
 use native.Mathlib.Numerals.{add-one}
-use native.Mathlib.Omega.{arith}
 use borrow.Author.Tests.{eq-eqb, ne_eqb, lt-ltb, le-ltb}
 use lib.Dec.{eqb, ltb}
 use lib.ListN.{length, get_or, take, drop, drop_of_length-le}
-use lib.Seq.{drop-cons, take_all}
+use lib.Seq.{drop-cons}
 use Rattle.candidates.proofs.Tests.{cond-true, cond-false}
 use Rattle.rounds.specs.declared.cuts.State.{State}
 use Rattle.rounds.specs.declared.cuts.Fed.{Fed}
 use Rattle.rounds.specs.Rounds.{outcome_bytes}
 use Rattle.rounds.specs.Summaries.{tallied}
+use Rattle.rounds.specs.declared.cuts.Out.TheVariants.{Lent}
 use Rattle.rounds.specs.code.Cuts.{line_with, state_with, fed_with, fresh_line, held, held_outcome, done_bytes, done_state, line_end, is_passed, pass_on, keep_on, fed, fed_bytes, is_begun, last_bytes, last_state}
 
 pub held_same : {k k' : List ℕ} {e e' g g' : ℕ} {p p' : Bool} (b : ℕ) (q : Bool) → k ≡ k' → e ≡ e' → g ≡ g' → p ≡ p' → held k (line_with e g p b q) ≡ held k' (line_with e' g' p' b q)
@@ -39,13 +38,6 @@ module _ (xs : List ℕ) (i : ℕ) where
   end_none h = ap line_end (drop_of_length-le xs h)
 
 -- ---- the end of a line
-
-pub most : (kept : List ℕ) (e : ℕ) {n : ℕ} → length kept ≡ 256 → n ≡ min e 256 → take n kept ≡ take e kept
-most kept e {n} size is = go (dec_le e 256)
-  where
-    go : Dec (e ≤ 256) → take n kept ≡ take e kept
-    go (yes h) = let same : n ≡ e = omega (arith, is) in ap (λ (k : ℕ). take k kept) same
-    go (no h) = take_all n kept (omega (arith, is, size)) ∙ sym (take_all e kept (omega (arith, size)))
 
 module _ (s : State) where
   abbrev bytes : List ℕ
@@ -99,10 +91,10 @@ module _ (s : State) (piece : List ℕ) where
   k = keep_on s (take n piece)
 
   abbrev whole : Fed
-  whole = fed_with (done_state k) (n + 1) false (length (done_bytes k))
+  whole = fed_with (done_state k) (n + 1) (Lent (length (done_bytes k)))
 
   abbrev part : Fed
-  part = fed_with k n false 0
+  part = fed_with k n (Lent 0)
 
   module _ (e : is_passed s.line (get_or piece 0 0) ≡ true) where
     pub passed-fed : pass_on s (length piece) n ≡ fed s piece

@@ -19,6 +19,7 @@ use Rattle.rounds.specs.declared.cuts.Line.{Line}
 use Rattle.rounds.specs.declared.cuts.State.{State}
 use Rattle.rounds.specs.declared.cuts.Fed.{Fed}
 use Rattle.rounds.specs.Promises.{handed_out}
+use Rattle.rounds.specs.declared.cuts.Out.TheVariants.{Piece}
 use Rattle.rounds.specs.code.Cuts.{state_with, fed_with, fresh_line, passed_line, kept_one, done_bytes, done_state, line_end, is_passed, pass_on, keep_on, fed, fed_bytes, Run, run, line_done, passed_one, keep_one, stepped}
 use Rattle.rounds.proofs.Cutting.{passed-bytes, passed-state, passed-fed, passed_none, whole-fed, whole-bytes, part-fed, part_none}
 use Rattle.rounds.proofs.Held.{take-over}
@@ -191,13 +192,13 @@ module _ (s : State) (piece lent o : List ℕ) where
   goes_by : {f : Fed} {bytes : List ℕ} → f ≡ fed s piece → bytes ≡ fed_bytes s piece → Goes f bytes → Goes (fed s piece) (fed_bytes s piece)
   goes_by {f} {bytes} p q g = subst (λ (x : Fed). Goes x (fed_bytes s piece)) p (subst (λ (x : List ℕ). Goes f x) q g)
 
-  pass-whole : line_end piece < length piece → fed_with (state_with s.kept fresh_line s.tally) (line_end piece + 1) true (line_end piece + 1) ≡ pass_on s (length piece) (line_end piece)
+  pass-whole : line_end piece < length piece → fed_with (state_with s.kept fresh_line s.tally) (line_end piece + 1) (Piece (line_end piece + 1)) ≡ pass_on s (length piece) (line_end piece)
   unfolding pass_on
-  pass-whole h = sym (cond-true (ltb (line_end piece) (length piece)) (fed_with (state_with s.kept fresh_line s.tally) (line_end piece + 1) true (line_end piece + 1)) (fed_with (handing s) (line_end piece) true (line_end piece)) (lt-ltb (line_end piece) (length piece) h))
+  pass-whole h = sym (cond-true (ltb (line_end piece) (length piece)) (fed_with (state_with s.kept fresh_line s.tally) (line_end piece + 1) (Piece (line_end piece + 1))) (fed_with (handing s) (line_end piece) (Piece (line_end piece))) (lt-ltb (line_end piece) (length piece) h))
 
-  pass-part : length piece ≤ line_end piece → fed_with (handing s) (line_end piece) true (line_end piece) ≡ pass_on s (length piece) (line_end piece)
+  pass-part : length piece ≤ line_end piece → fed_with (handing s) (line_end piece) (Piece (line_end piece)) ≡ pass_on s (length piece) (line_end piece)
   unfolding pass_on
-  pass-part h = sym (cond-false (ltb (line_end piece) (length piece)) (fed_with (state_with s.kept fresh_line s.tally) (line_end piece + 1) true (line_end piece + 1)) (fed_with (handing s) (line_end piece) true (line_end piece)) (le-ltb (line_end piece) (length piece) h))
+  pass-part h = sym (cond-false (ltb (line_end piece) (length piece)) (fed_with (state_with s.kept fresh_line s.tally) (line_end piece + 1) (Piece (line_end piece + 1))) (fed_with (handing s) (line_end piece) (Piece (line_end piece))) (le-ltb (line_end piece) (length piece) h))
 
   -- "the first n bytes, with the byte 10 after them"
   ended-front : line_end piece < length piece → (o ++ front piece) ++ (10 ∷ []) ≡ o ++ take (line_end piece + 1) piece

@@ -35,7 +35,7 @@ pub refused-one : (n : ℕ) → line_of refused_one (decimal n) ≡ refusal_byte
 unfolding line_of refusal_bytes
 refused-one n = rw one
 
-pub shorter : (text : List ℕ) {n : ℕ} → n ≡ min 81 (length text) → take n text ≡ take 81 text
+pub shorter : (text : List ℕ) {n : ℕ} → n ≡ min (length text) 81 → take n text ≡ take 81 text
 shorter text {n} e = go (dec_le 81 (length text))
   where
     go : Dec (81 ≤ length text) → take n text ≡ take 81 text

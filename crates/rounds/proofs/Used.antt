@@ -9,6 +9,7 @@ use lib.Dec.{eqb, ltb}
 use lib.ListN.{length, get_or, take}
 use Rattle.candidates.proofs.Tests.{by-test}
 use Rattle.rounds.specs.declared.cuts.State.{State}
+use Rattle.rounds.specs.declared.cuts.Out.TheVariants.{Piece, Lent}
 use Rattle.rounds.specs.code.Cuts.{state_with, fed_with, fresh_line, passed_line, done_bytes, done_state, line_end, is_passed, pass_on, keep_on, fed}
 
 pub end-most : (xs : List ℕ) → line_end xs ≤ length xs
@@ -27,7 +28,7 @@ module _ (s : State) (piece : List ℕ) where
       k : State
       k = keep_on s (take n piece)
 
-      go : (p q : Bool) → (cond p (cond q (fed_with (state_with s.kept fresh_line s.tally) (n + 1) true (n + 1)) (fed_with (state_with s.kept (passed_line s.line) s.tally) n true n)) (cond q (fed_with (done_state k) (n + 1) false (length (done_bytes k))) (fed_with k n false 0))).used ≡ cond q (n + 1) n
+      go : (p q : Bool) → (cond p (cond q (fed_with (state_with s.kept fresh_line s.tally) (n + 1) (Piece (n + 1))) (fed_with (state_with s.kept (passed_line s.line) s.tally) n (Piece n))) (cond q (fed_with (done_state k) (n + 1) (Lent (length (done_bytes k)))) (fed_with k n (Lent 0)))).used ≡ cond q (n + 1) n
       go true true = refl
       go true false = refl
       go false true = refl

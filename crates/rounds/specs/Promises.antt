@@ -1,5 +1,5 @@
 -- What the program's lines promise beyond their words.
-use Rattle.std.specs.Prelude.{◌≡◌, cond, List, [], ◌++◌, ℕ, ◌<◌, ◌≤◌, ℤ, length, take}
+use Rattle.std.specs.Prelude.{◌≡◌, List, [], ◌++◌, ℕ, ◌<◌, ◌≤◌, ℤ, length, take}
 use Rattle.stops.specs.Answer.{gives}
 use Rattle.board.specs.Boards.{only_digits}
 use Rattle.board.specs.declared.Verdict.TheVariants.{Dead, Finished}
@@ -7,6 +7,8 @@ use Rattle.text.specs.Texts.{clues_of, parse_of}
 use Rattle.card.specs.Cards.{card_for}
 use Rattle.output.specs.Lent.{over}
 use Rattle.rounds.specs.declared.cuts.State.{State}
+use Rattle.rounds.specs.declared.cuts.Out.{Out}
+use Rattle.rounds.specs.declared.cuts.Out.TheVariants.{Piece, Lent}
 use Rattle.rounds.specs.declared.cuts.Fed.{Fed}
 use Rattle.rounds.specs.declared.answers.Checked.TheVariants.{Right}
 use Rattle.rounds.specs.Answers.{answer_check}
@@ -25,9 +27,13 @@ pub record AnswersSay : Type 0 where
 
 -- ---- an input in pieces
 
--- what is to be handed out after a call: the first bytes of its piece where they are raw, else of the lent bytes as it left them
+-- what is to be handed out after a call: the first bytes of its piece as they are, or of the lent bytes as it left them
+abbrev pub first_bytes : Out → List ℕ → List ℕ → List ℕ
+first_bytes (Piece n) piece lent = take n piece
+first_bytes (Lent n) piece lent = take n lent
+
 abbrev pub handed_out : Fed → List ℕ → List ℕ → List ℕ
-handed_out f piece lent = take f.count (cond f.raw piece lent)
+handed_out f piece lent = first_bytes f.out piece lent
 
 -- The contracts of `fresh_state`, `feed` and `finish` (src/cuts.rt) name these five functions. The promise is one on any five: what they are is not asked.
 module _ (fresh_state : State) (fed : State → List ℕ → Fed) (fed_bytes : State → List ℕ → List ℕ) (last_state : State → State) (last_bytes : State → List ℕ) where

@@ -21,10 +21,7 @@ pub enum Checked {
 fn is_numeral(byte: u8) -> bool
     ensures { result ≡ is_numeral byte }
 {
-    if byte < b'1' {
-        return false;
-    }
-    byte <= b'9'
+    matches!(byte, b'1'..=b'9')
 }
 
 fn is_full(answer: &[u8]) -> bool
@@ -33,12 +30,10 @@ fn is_full(answer: &[u8]) -> bool
     if answer.len() != 81 {
         return false;
     }
-    let mut cell: usize = 0;
-    while cell < 81 {
+    for cell in 0..81 {
         if !is_numeral(byte_at(answer, cell)) {
             return false;
         }
-        cell += 1;
     }
     true
 }
@@ -47,22 +42,17 @@ fn is_full(answer: &[u8]) -> bool
 fn is_broken(clue: u8, digit: u8) -> bool
     ensures { result ≡ is_broken clue digit }
 {
-    if digit == clue {
-        return false;
-    }
-    is_numeral(clue)
+    digit != clue && is_numeral(clue)
 }
 
 // The clues in their order, then the verifier.
 fn judge(grid: &[u8], answer: &[u8]) -> Checked
     ensures { result ≡ judged (first_broken grid.now answer.now) (verified (clues_of answer.now)) }
 {
-    let mut cell: usize = 0;
-    while cell < 81 {
+    for cell in 0..81 {
         if is_broken(byte_at(grid, cell), byte_at(answer, cell)) {
             return Checked::Clue(cell);
         }
-        cell += 1;
     }
     let digits = clues_of(answer);
     if verify_solution(&digits) {

@@ -3,16 +3,18 @@
 ghost use Rattle.std.specs.Prelude.{◌≡◌, ◌≤◌, length, take};
 ghost use Rattle.steps.specs.Loops.{each};
 ghost use Rattle.output.specs.Lent.{over};
-ghost use Rattle.output.specs.code.Tapes.{tape, append};
+ghost use Rattle.output.specs.code.Tapes.{append};
+ghost use Rattle.output.specs.code.Pens.{writes};
 ghost use Rattle.rounds.specs.Lines.{is_separator};
 ghost use Rattle.rounds.specs.Rounds.{outcome_bytes};
 ghost use Rattle.rounds.specs.Summaries.{tallied};
 ghost use Rattle.rounds.specs.code.Kept.{outcome_from};
 ghost use Rattle.rounds.specs.code.Cuts.{fresh_line, fresh_state, held, grown, kept_one, bare_grid, done_bytes, done_state, line_end, is_passed, pass_on, fed, fed_bytes, last_bytes, last_state};
 
-use crate::lines::{least, write_line};
+use crate::lines::write_line;
 use crate::tallies::{Tally, count_one};
-use card::lines::{Lines, push};
+use card::lines::Lines;
+use output::Pen;
 use text::byte_at;
 
 // What is known of the line that a piece ended in.
@@ -38,13 +40,19 @@ pub struct State {
     pub tally: [usize; 7],
 }
 
-// What a call did: `used` bytes of the piece are done with, and `count` bytes are to be handed out, of the piece where they are `raw`, else of the lent ones.
+// What is to be handed out: so many first bytes of the piece, as they are, or of the lent ones.
+#[derive(Clone, Copy)]
+pub enum Out {
+    Piece(usize),
+    Lent(usize),
+}
+
+// What a call did: `used` bytes of the piece are done with.
 #[derive(Clone, Copy)]
 pub struct Fed {
     pub state: State,
     pub used: usize,
-    pub raw: bool,
-    pub count: usize,
+    pub out: Out,
 }
 
 // What the end of a line leaves, and how many bytes it made.
@@ -80,74 +88,56 @@ pub fn fresh_state() -> State
 fn is_separator(byte: u8) -> bool
     ensures { result ≡ is_separator byte }
 {
-    if byte == b' ' {
-        return true;
-    }
-    if byte == b'\t' {
-        return true;
-    }
-    if byte == b',' {
-        return true;
-    }
-    byte == b';'
+    matches!(byte, b' ' | b'\t' | b',' | b';')
 }
 
 fn grow(parted: bool, grid: usize) -> usize
     ensures { result ≡ grown parted grid }
 {
-    if parted {
-        return grid;
-    }
-    count_one(grid)
+    if parted { grid } else { count_one(grid) }
 }
 
 // More bytes of a line.
 fn keep(kept: &mut Lines, line: Line, bytes: &[u8]) -> Line
     ensures { held kept.new result ≡ each kept_one bytes.now (held kept.old line) }
 {
-    let passed = line.passed;
-    let mut end = line.end;
+    let mut pen = Pen {
+        bytes: kept,
+        end: line.end,
+    };
     let mut grid = line.grid;
     let mut parted = line.parted;
     let mut last = line.last;
-    let mut i: usize = 0;
-    while i < bytes.len() {
-        last = bytes[i];
-        end = push(kept, end, last);
-        parted = parted | is_separator(last);
+    for byte in bytes {
+        last = *byte;
+        pen.push(last);
+        parted |= is_separator(last);
         grid = grow(parted, grid);
-        i += 1;
     }
     Line {
-        end,
+        end: pen.end,
         grid,
         parted,
         last,
-        passed,
+        passed: line.passed,
     }
 }
 
 fn bare_grid(line: Line) -> usize
     ensures { result ≡ bare_grid line }
 {
-    if line.parted {
+    if line.parted || line.last != b'\r' {
         return line.grid;
     }
-    if line.last != b'\r' {
-        return line.grid;
-    }
-    if line.grid == 0 {
-        return 0;
-    }
-    line.grid - 1
+    line.grid.saturating_sub(1)
 }
 
 // What is printed of a line of which `end` bytes are kept.
-fn print_kept(kept: Lines, end: usize, whole: usize, out: &mut Lines, tally: &mut Tally) -> usize
-    ensures { (tape out.new result ≡ append 256 (outcome_bytes (take end kept) (outcome_from (take end kept) whole)) (tape out.old 0)) × (tally.new ≡ tallied (outcome_from (take end kept) whole) tally.old) }
+fn print_kept(kept: &Lines, end: usize, whole: usize, out: &mut Pen<256>, tally: &mut Tally)
+    ensures { (out.new ≡ writes (append 256 (outcome_bytes (take end kept.now) (outcome_from (take end kept.now) whole))) out.old) × (tally.new ≡ tallied (outcome_from (take end kept.now) whole) tally.old) }
 {
-    let size = least(end, 256);
-    write_line(&kept[..size], whole, out, tally)
+    let size = end.min(256);
+    write_line(&kept[..size], whole, out, tally);
 }
 
 // What the byte 10 after a line does.
@@ -157,26 +147,20 @@ fn end_line(state: State, out: &mut Lines) -> Ended
     let kept = state.kept;
     let line = state.line;
     let mut tally = state.tally;
+    let mut printed = Pen::new(out);
     if line.passed {
-        out[0] = b'\n';
-        return Ended {
-            state: State {
-                kept,
-                line: fresh_line(),
-                tally,
-            },
-            count: 1,
-        };
+        printed.push(b'\n');
+    } else {
+        let whole = bare_grid(line).min(9223372036854775807);
+        print_kept(&kept, line.end, whole, &mut printed, &mut tally);
     }
-    let whole = least(9223372036854775807, bare_grid(line));
-    let count = print_kept(kept, line.end, whole, out, &mut tally);
     Ended {
         state: State {
             kept,
             line: fresh_line(),
             tally,
         },
-        count,
+        count: printed.end,
     }
 }
 
@@ -184,62 +168,45 @@ fn end_line(state: State, out: &mut Lines) -> Ended
 fn line_end(piece: &[u8]) -> usize
     ensures { (result ≡ line_end piece.now) × (result ≤ length piece.now) }
 {
-    let mut i: usize = 0;
-    while i < piece.len() {
-        if piece[i] == b'\n' {
+    for (i, byte) in piece.iter().enumerate() {
+        if *byte == b'\n' {
             return i;
         }
-        i += 1;
     }
-    i
+    piece.len()
 }
 
 fn is_passed(line: Line, first: u8) -> bool
     ensures { result ≡ is_passed line first }
 {
-    if line.passed {
-        return true;
-    }
-    if line.end != 0 {
-        return false;
-    }
-    first == b'#'
+    line.passed || (line.end == 0 && first == b'#')
 }
 
 // A piece of `length` bytes, `end` of them before its first byte 10, in a line that is handed on.
 fn pass_on(state: State, length: usize, end: usize) -> Fed
     ensures { result ≡ pass_on state length end }
 {
-    let kept = state.kept;
-    let line = state.line;
-    let tally = state.tally;
     if end < length {
         return Fed {
             state: State {
-                kept,
                 line: fresh_line(),
-                tally,
+                ..state
             },
             used: end + 1,
-            raw: true,
-            count: end + 1,
+            out: Out::Piece(end + 1),
         };
     }
+    let line = state.line;
     Fed {
         state: State {
-            kept,
             line: Line {
-                end: line.end,
-                grid: line.grid,
-                parted: line.parted,
-                last: line.last,
                 passed: true,
+                ..line
             },
-            tally,
+            ..state
         },
         used: end,
-        raw: true,
-        count: end,
+        out: Out::Piece(end),
     }
 }
 
@@ -248,34 +215,29 @@ pub fn feed(state: State, piece: &[u8], out: &mut Lines) -> Fed
     ensures { (result ≡ fed state piece.now) × (out.new ≡ over (fed_bytes state piece.now) out.old) }
 {
     let end = line_end(piece);
-    let line = state.line;
-    if is_passed(line, byte_at(piece, 0)) {
+    if is_passed(state.line, byte_at(piece, 0)) {
         return pass_on(state, piece.len(), end);
     }
     let mut kept = state.kept;
-    let tally = state.tally;
-    let longer = keep(&mut kept, line, &piece[..end]);
+    let longer = keep(&mut kept, state.line, &piece[..end]);
     let more = State {
         kept,
         line: longer,
-        tally,
+        ..state
     };
     if end < piece.len() {
         let used = end + 1;
         let ended = end_line(more, out);
-        let next = ended.state;
         return Fed {
-            state: next,
+            state: ended.state,
             used,
-            raw: false,
-            count: ended.count,
+            out: Out::Lent(ended.count),
         };
     }
     Fed {
         state: more,
         used: end,
-        raw: false,
-        count: 0,
+        out: Out::Lent(0),
     }
 }
 
@@ -283,11 +245,7 @@ pub fn feed(state: State, piece: &[u8], out: &mut Lines) -> Fed
 pub fn finish(state: State, out: &mut Lines) -> Ended
     ensures { (result.state ≡ last_state state) × (result.count ≡ length (last_bytes state)) × (out.new ≡ over (last_bytes state) out.old) }
 {
-    let line = state.line;
-    if line.passed {
-        return end_line(state, out);
-    }
-    if line.end != 0 {
+    if state.line.passed || state.line.end != 0 {
         return end_line(state, out);
     }
     Ended { state, count: 0 }

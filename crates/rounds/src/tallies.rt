@@ -5,9 +5,10 @@ ghost use Rattle.rounds.specs.Summaries.{counted, raised, verdict_place, check_t
 
 use crate::answers::Checked;
 use board::Verdict;
-use card::layout::number_line;
-use card::lines::Lines;
+use card::lines::{Lines, number_line};
+use output::Pen;
 
+// Places by number and not named fields, since the summary's definitions and the promise on the tally (specs/Summaries and Promises) speak of places.
 pub type Tally = [usize; 7];
 
 // One more, up to a number that no count reaches.
@@ -67,11 +68,13 @@ pub fn tally_grid(tally: &mut Tally, verdict: Verdict, check: Checked)
 pub fn write_summary(tally: Tally, out: &mut Lines) -> usize
     ensures { tape out.new result ≡ append 256 (summary_bytes tally) (tape out.old 0) }
 {
-    let grids = number_line(out, 0, b"grids ", tally[0]);
-    let finished = number_line(out, grids, b"finished ", tally[1]);
-    let open = number_line(out, finished, b"open ", tally[2]);
-    let dead = number_line(out, open, b"dead ", tally[3]);
-    let refused = number_line(out, dead, b"refused ", tally[4]);
-    let right = number_line(out, refused, b"right ", tally[5]);
-    number_line(out, right, b"not ", tally[6])
+    let mut lines = Pen::new(out);
+    number_line(&mut lines, b"grids ", tally[0]);
+    number_line(&mut lines, b"finished ", tally[1]);
+    number_line(&mut lines, b"open ", tally[2]);
+    number_line(&mut lines, b"dead ", tally[3]);
+    number_line(&mut lines, b"refused ", tally[4]);
+    number_line(&mut lines, b"right ", tally[5]);
+    number_line(&mut lines, b"not ", tally[6]);
+    lines.end
 }

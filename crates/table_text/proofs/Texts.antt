@@ -8,26 +8,28 @@ use Rattle.grid.specs.Cells.{cells, peers, peer_table}
 use Rattle.output.specs.Decimals.{digits_in, decimal}
 use Rattle.steps.specs.Loops.{each, for, up_to}
 use Rattle.table_text.specs.Tables.{later, numbers, row_line, table_lines, units_header, peers_header, unit_rows, tables_text}
-use Rattle.output.specs.code.Tapes.{Tape, append}
+use Rattle.output.specs.declared.Pen.{Pen}
+use Rattle.output.specs.code.Tapes.{append}
+use Rattle.output.specs.code.Pens.{writes}
 use Rattle.table_text.specs.code.Pushes.{in_row, rows_of}
 use Rattle.table_text.specs.declared.Table.TheVariants as table
-use Rattle.output.proofs.Tapes.{joined}
+use Rattle.output.proofs.Pens.{writes-joined}
 
--- a row and a table, from what each push made of the tape before it
-module _ (t : Tape) {a b r : Tape} where
-  pub row-joined : (ns : List ℕ) → a ≡ append 7515 (91 ∷ []) t → b ≡ append 7515 (numbers ns) a → r ≡ append 7515 (93 ∷ 44 ∷ 10 ∷ []) b → r ≡ append 7515 (row_line ns) t
+-- a row and a table, from what each push made of the text before it
+module _ {room : ℕ} (p : Pen room) {a b r : Pen room} where
+  pub row-joined : (ns : List ℕ) → a ≡ writes (append room (91 ∷ [])) p → b ≡ writes (append room (numbers ns)) a → r ≡ writes (append room (93 ∷ 44 ∷ 10 ∷ [])) b → r ≡ writes (append room (row_line ns)) p
   unfolding row_line
-  row-joined ns p q s = joined 7515 (91 ∷ numbers ns) (93 ∷ 44 ∷ 10 ∷ []) t (joined 7515 (91 ∷ []) (numbers ns) t p q) s
+  row-joined ns k l m = writes-joined (91 ∷ numbers ns) (93 ∷ 44 ∷ 10 ∷ []) p (writes-joined (91 ∷ []) (numbers ns) p k l) m
 
-  pub table-joined : (header : List ℕ) (rows : List (List ℕ)) → a ≡ append 7515 header t → b ≡ append 7515 (for rows row_line) a → r ≡ append 7515 (93 ∷ 59 ∷ 10 ∷ []) b → r ≡ append 7515 (table_lines header rows) t
+  pub table-joined : (header : List ℕ) (rows : List (List ℕ)) → a ≡ writes (append room header) p → b ≡ writes (append room (for rows row_line)) a → r ≡ writes (append room (93 ∷ 59 ∷ 10 ∷ [])) b → r ≡ writes (append room (table_lines header rows)) p
   unfolding table_lines
-  table-joined header rows p q s = joined 7515 (header ++ for rows row_line) (93 ∷ 59 ∷ 10 ∷ []) t (joined 7515 header (for rows row_line) t p q) s
+  table-joined header rows k l m = writes-joined (header ++ for rows row_line) (93 ∷ 59 ∷ 10 ∷ []) p (writes-joined header (for rows row_line) p k l) m
 
 -- rows row by row
-pub rows-each : (f : ℕ → List ℕ) (is : List ℕ) (t : Tape) → each (λ i t. append 7515 (row_line (f i)) t) is t ≡ append 7515 (for (map f is) row_line) t
+pub rows-each : {room : ℕ} (f : ℕ → List ℕ) (is : List ℕ) (p : Pen room) → each (λ i p. writes (append room (row_line (f i))) p) is p ≡ writes (append room (for (map f is) row_line)) p
 unfolding each for append
-rows-each f [] t = refl
-rows-each f (i ∷ is) t = rows-each f is (append 7515 (row_line (f i)) t) ∙ joined 7515 (row_line (f i)) (for (map f is) row_line) t refl refl
+rows-each f [] p = refl
+rows-each {room} f (i ∷ is) p = rows-each f is (writes (append room (row_line (f i))) p) ∙ writes-joined (row_line (f i)) (for (map f is) row_line) p refl refl
 
 -- ---- the rows by their rule
 

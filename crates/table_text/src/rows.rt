@@ -1,46 +1,40 @@
 // A row of a table.
-ghost use Rattle.std.specs.Prelude.{◌≡◌, ◌<◌};
+ghost use Rattle.std.specs.Prelude.{◌≡◌};
+ghost use Rattle.output.specs.code.Tapes.{append};
+ghost use Rattle.output.specs.code.Pens.{writes};
 ghost use Rattle.table_text.specs.Tables.{numbers, row_line};
-ghost use Rattle.output.specs.code.Tapes.{tape, append};
 ghost use Rattle.table_text.specs.code.Pushes.{entry, in_row};
 
-use crate::Text;
-use crate::words::{push, push_number, push_word};
+use crate::TextPen;
 use grid::scopes::{Scope, in_scope};
 
 // A number; the first of a row has nothing before it.
-fn push_entry(text: &mut Text, at: usize, first: bool, n: u8) -> usize
-    requires { n < 100 }
-    ensures { tape text.new result ≡ append 7515 (entry first n) (tape text.old at) }
+fn push_entry(text: &mut TextPen, first: bool, n: u8)
+    ensures { text.new ≡ writes (append 7515 (entry first n)) text.old }
 {
-    if first {
-        return push_number(text, at, n);
+    if !first {
+        text.push_word(b", ");
     }
-    let end = push_word(text, at, b", ");
-    push_number(text, end, n)
+    text.push_number(usize::from(n));
 }
 
 // The cells of the row, rising.
-fn push_cells(text: &mut Text, at: usize, scope: Scope) -> usize
-    ensures { tape text.new result ≡ append 7515 (numbers (in_row scope)) (tape text.old at) }
+fn push_cells(text: &mut TextPen, scope: Scope)
+    ensures { text.new ≡ writes (append 7515 (numbers (in_row scope))) text.old }
 {
-    let mut end = at;
     let mut first = true;
-    let mut cell: u8 = 0;
-    while cell < 81 {
+    for cell in 0..81 {
         if in_scope(scope, cell) {
-            end = push_entry(text, end, first, cell);
+            push_entry(text, first, cell);
             first = false;
         }
-        cell += 1;
     }
-    end
 }
 
-pub fn push_row(text: &mut Text, at: usize, scope: Scope) -> usize
-    ensures { tape text.new result ≡ append 7515 (row_line (in_row scope)) (tape text.old at) }
+pub fn push_row(text: &mut TextPen, scope: Scope)
+    ensures { text.new ≡ writes (append 7515 (row_line (in_row scope))) text.old }
 {
-    let open = push(text, at, b'[');
-    let end = push_cells(text, open, scope);
-    push_word(text, end, b"],\n")
+    text.push(b'[');
+    push_cells(text, scope);
+    text.push_word(b"],\n");
 }

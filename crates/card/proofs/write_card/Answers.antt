@@ -4,6 +4,7 @@ use mathlib.Core.List.{List}
 use Prim.Native.Nat.{ℕ}
 use lib.IntN.{ℤ}
 use lib.ListN.{length, take}
+use Rattle.std.proofs.Common.{rules}
 use Rattle.stops.specs.Answer.{Answer, gives, map, passing, check_answer}
 use Rattle.stops.specs.declared.Check.{Check}
 use Rattle.stops.proofs.Answers.{map-map}
@@ -11,8 +12,9 @@ use Rattle.text.specs.Texts.{parse_of}
 use Rattle.card.specs.declared.layout.Card.{Card}
 use Rattle.card.specs.Cards.{text_length, card_for, card_of, card_bytes, card_lines}
 use Rattle.output.specs.Lent.{over}
-use Rattle.output.specs.code.Tapes.{Tape, tape, append}
-use Rattle.output.proofs.Tapes.{stands}
+use Rattle.output.specs.code.Tapes.{append}
+use Rattle.output.specs.code.Pens.{writes}
+use Rattle.output.proofs.Pens.{written}
 use Rattle.card.proofs.Cards.{read_short}
 use Rattle.card.proofs.write_card.Goals as goal
 
@@ -38,5 +40,7 @@ returns c =
     let z = p.result.clues in
     let lent = c.args.out.now in
     let e = read-case c.args.input.now c.length_without-length.result p.result.answer z p.ensures.0 c.length_without-length.ensures _ c.in-Passed.is in
-    let lines = c.card_lines.ensures ∙ ap (λ (k : Card). append 256 (card_bytes k) (tape lent 0)) c.card_of-card.ensures ∙ stands 256 lent (card_bytes (card_for z)) (read_short z) in
-    (ap (λ (t : Tape). gives t.end) lines ∙ ap (map (λ (k : Card). length (card_bytes k))) e, ap (λ (t : Tape). t.bytes) lines ∙ ap (λ (a : Answer Card). over (card_lines a) lent) e)
+    let made = c.card_lines.ensures ∙ ap (λ (k : Card). writes (append 256 (card_bytes k)) c.new-lines.result) c.card_of-card.ensures in
+    let filled = written (card_bytes (card_for z)) c.new-lines.ensures made (read_short z) in
+    let bytes = filled.1 ∙ ap (λ (a : Answer Card). over (card_lines a) lent) e in
+    (ap gives filled.2 ∙ ap (map (λ (k : Card). length (card_bytes k))) e, search rules)

@@ -4,8 +4,8 @@ use native.Mathlib.Omega.{arith}
 use lib.ListN.{length}
 use Rattle.card.specs.Layout.{refusal_bytes}
 use Rattle.output.specs.Lent.{over}
-use Rattle.output.specs.code.Tapes.{Tape}
-use Rattle.output.proofs.Tapes.{stands}
+use Rattle.output.proofs.Pens.{written}
+use Rattle.std.proofs.Common.{rules}
 use Rattle.stops.specs.Answer.{writing_answer}
 use Rattle.stops.specs.declared.Writing.{Writing}
 use Rattle.card.specs.Cards.{refusal_line}
@@ -16,8 +16,9 @@ returns-in-Refused c =
     let lent = c.args.out.now in
     let e = sym c.in-Refused.is in
     let bytes = refusal_bytes c.in-Refused.stop in
-    let w = c.refusal_lines.ensures.0 ∙ stands 256 lent bytes c.refusal_lines.ensures.1 in (
-      ap (λ (t : Tape). t.end) w ∙ ap (λ (q : Writing). length (refusal_line (writing_answer q))) e,
-      ap (λ (t : Tape). t.bytes) w ∙ ap (λ (q : Writing). over (refusal_line (writing_answer q)) lent) e,
-      omega (arith, ap (λ (t : Tape). t.end) w, c.refusal_lines.ensures.1),
+    let filled = written bytes c.new-lines.ensures c.refusal_lines.ensures.0 c.refusal_lines.ensures.1 in
+    let over_them = filled.1 ∙ ap (λ (q : Writing). over (refusal_line (writing_answer q)) lent) e in (
+      filled.2 ∙ ap (λ (q : Writing). length (refusal_line (writing_answer q))) e,
+      search rules,
+      omega (arith, filled.2, c.refusal_lines.ensures.1),
     )

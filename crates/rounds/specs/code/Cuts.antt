@@ -4,6 +4,8 @@ use Rattle.steps.specs.Loops.{each}
 use Rattle.output.specs.code.Tapes.{tape, pushed}
 use Rattle.rounds.specs.declared.cuts.Line.{Line}
 use Rattle.rounds.specs.declared.cuts.State.{State}
+use Rattle.rounds.specs.declared.cuts.Out.{Out}
+use Rattle.rounds.specs.declared.cuts.Out.TheVariants.{Piece, Lent}
 use Rattle.rounds.specs.declared.cuts.Fed.{Fed}
 use Rattle.rounds.specs.Lines.{is_separator}
 use Rattle.rounds.specs.Rounds.{Outcome, outcome_bytes}
@@ -16,8 +18,8 @@ line_with end grid parted last passed = record { end = end; grid = grid; parted 
 abbrev pub state_with : List ℕ → Line → List ℕ → State
 state_with kept line tally = record { kept = kept; line = line; tally = tally }
 
-abbrev pub fed_with : State → ℕ → Bool → ℕ → Fed
-fed_with state used raw count = record { state = state; used = used; raw = raw; count = count }
+abbrev pub fed_with : State → ℕ → Out → Fed
+fed_with state used out = record { state = state; used = used; out = out }
 
 abbrev pub fresh_line : Line
 fresh_line = line_with 0 0 false 0 false
@@ -80,7 +82,7 @@ passed_line l = line_with l.end l.grid l.parted l.last true
 -- the bytes of the piece, with the byte 10 where there is one, as they are
 unfoldable pub pass_on : State → ℕ → ℕ → Fed
 pass_on s length end =
-    cond (ltb end length) (fed_with (state_with s.kept fresh_line s.tally) (end + 1) true (end + 1)) (fed_with (state_with s.kept (passed_line s.line) s.tally) end true end)
+    cond (ltb end length) (fed_with (state_with s.kept fresh_line s.tally) (end + 1) (Piece (end + 1))) (fed_with (state_with s.kept (passed_line s.line) s.tally) end (Piece end))
 
 unfoldable pub keep_on : State → List ℕ → State
 keep_on s bytes =
@@ -92,7 +94,7 @@ fed s piece =
     let n = line_end piece in
     let k = keep_on s (take n piece) in
     cond (is_passed s.line (get_or piece 0 0)) (pass_on s (length piece) n)
-    (cond (ltb n (length piece)) (fed_with (done_state k) (n + 1) false (length (done_bytes k))) (fed_with k n false 0))
+    (cond (ltb n (length piece)) (fed_with (done_state k) (n + 1) (Lent (length (done_bytes k)))) (fed_with k n (Lent 0)))
 
 -- what it makes of its own: nothing where bytes are handed on as they are
 unfoldable pub fed_bytes : State → List ℕ → List ℕ

@@ -1,23 +1,25 @@
-use mathlib.Core.Path.{sym, ap, ◌∙◌}
+use mathlib.Core.Path.{ap, ◌∙◌}
+use mathlib.Core.List.{[], ◌∷◌}
+use Prim.Native.Nat.{ℕ}
 use Rattle.grid.specs.Cells.{cells}
 use Rattle.grid.proofs.Lists.{turn-done, turns-over}
 use Rattle.steps.specs.Boards.{at}
-use Rattle.output.specs.code.Tapes.{tape, pushed}
-use Rattle.output.proofs.Tapes.{append-each}
+use Rattle.output.specs.code.Tapes.{append}
+use Rattle.output.specs.code.Pens.{writes}
+use Rattle.output.proofs.Pens.{writes-map}
 use Rattle.card.specs.Layout.{cell_byte}
 use Rattle.card.proofs.lines.push_grid.Invariants.{turn}
 use Rattle.card.proofs.lines.push_grid.Goals as goal
 
-pub loop-cell-init : goal.loop-cell-init
+pub loop-mask-init : goal.loop-mask-init
 unfolding cells
-loop-cell-init c = sym (append-each 256 (λ i. cell_byte (at c.args.masks.now i)) cells (tape c.args.lines.now c.args.at))
+loop-mask-init c = writes-map (λ i. cell_byte (at c.args.masks.now i)) cells c.args.lines.now
 
-pub loop-cell-preserved : goal.loop-cell-preserved
-loop-cell-preserved c =
-    let masks = c.args.masks.now in
-    turn-done (turn masks) 81 c.loop-cell.cell c.loop-cell-test.true
-    (c.push-end.ensures ∙ ap (pushed 256 (tape c.loop-cell.lines c.loop-cell.end)) c.cell_byte.ensures) c.loop-cell.invariant
+pub loop-mask-preserved : goal.loop-mask-preserved
+loop-mask-preserved c =
+    turn-done (turn c.args.masks.now) 81 c.loop-mask.mask-index c.loop-mask-test.true
+    (c.push.ensures ∙ ap (λ (b : ℕ). writes (append 256 (b ∷ [])) c.loop-mask.lines) c.cell_byte.ensures) c.loop-mask.invariant
 
 pub returns : goal.returns
 returns c =
-    turns-over (turn c.args.masks.now) 81 c.loop-cell.cell c.loop-cell-test.false c.loop-cell.invariant
+    turns-over (turn c.args.masks.now) 81 c.loop-mask.mask-index c.loop-mask-test.false c.loop-mask.invariant

@@ -1,28 +1,23 @@
--- The sign, and then the size.
-use mathlib.Core.Path.{◌≡◌, sym, ap, ◌∙◌}
+-- `card::lines::push_signed` meets its contract: the sign, and then the size. Assumes nothing.
+use mathlib.Core.Path.{◌≡◌, ap, ◌∙◌}
 use mathlib.Core.List.{List, [], ◌∷◌}
-use Prim.Native.Nat.{ℕ, ◌+◌}
-use lib.IntN.{ℤ, pos, negsuc, nat_abs, ◌-ℤ◌}
+use Prim.Native.Nat.{ℕ}
+use lib.IntN.{nat_abs}
 use mir.Facts.{to_z-of_z}
 use mir.Syntax.{w64}
-use mir.Val.{to_z, of_z}
 use Rattle.output.specs.Decimals.{decimal}
-use Rattle.output.specs.code.Tapes.{tape, append}
-use Rattle.output.proofs.Tapes.{append-one, joined}
-use Rattle.card.proofs.Signs.{Negative, negative}
+use Rattle.output.specs.code.Tapes.{append}
+use Rattle.output.specs.code.Pens.{writes}
+use Rattle.output.proofs.Pens.{writes-joined}
+use Rattle.card.proofs.Signs.{negative, positive}
+use Rattle.card.proofs.lines.push_signed.Goals.{then-z-lt0, else-z-lt0}
 use Rattle.card.proofs.lines.push_signed.Goals as goal
 
-pub returns-then-z-lt0 : goal.returns-then-z-lt0
-returns-then-z-lt0 c =
-    let below : Negative c.args.z = (
-    negative c.args.z c.ranges.z c.if-z-lt0.true
-    ) in
-    let size : to_z w64 (of_z w64 (negsuc 0 -ℤ to_z w64 (of_z w64 c.args.z))) ≡ pos below.less = (
-    ap (λ (y : ℤ). to_z w64 (of_z w64 y)) below.from ∙ to_z-of_z {w = w64} (record { sfits = below.small })
-    ) in
-    let a = c.args in
-    let n = below in
-    let t = tape a.lines.now a.at in
-    joined 256 (45 ∷ []) (decimal (n.less + 1)) t (c.push-sign.ensures ∙ append-one 256 45 t)
-    (c.push_number.ensures ∙ ap (λ (y : ℤ). append 256 (decimal (nat_abs y + 1)) (tape c.push-sign.new.lines c.push-sign.result)) (size))
-    ∙ ap (λ (bs : List ℕ). append 256 bs t) (sym n.written)
+pub returns : goal.returns
+returns c =
+    let z = c.args.z in
+    let p = c.args.lines.now in
+    let is = to_z-of_z {w = w64} c.ranges.z in
+    let size : c.unsigned_abs.result ≡ nat_abs z = c.unsigned_abs.ensures.value ∙ ap nat_abs is in
+    let number = c.push_number.ensures ∙ ap (λ (n : ℕ). writes (append 256 (decimal n)) c.if-z-lt0.lines) size in
+    elim c.if-z-lt0.branch [ then-z-lt0 w ↦ writes-joined (45 ∷ []) (decimal (nat_abs z)) p (w.lines-is ∙ w.push.ensures) number ∙ ap (λ (bs : List ℕ). writes (append 256 bs) p) (negative z (rw is at w.if-z-lt0.true)) | else-z-lt0 w ↦ number ∙ ap (writes (append 256 (decimal (nat_abs z)))) w.lines-is ∙ ap (λ (bs : List ℕ). writes (append 256 bs) p) (positive z (rw is at w.if-z-lt0.false)) ]

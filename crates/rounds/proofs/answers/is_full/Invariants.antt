@@ -9,6 +9,3 @@ use Rattle.rounds.proofs.answers.is_full.Given as goal
 
 abbrev pub invariant-loop-cell : goal.invariant-loop-cell
 invariant-loop-cell l = all (λ i. is_numeral (get_or l.answer i 0)) (range (81 - l.cell) l.cell) ≡ is_full l.answer
-
-abbrev pub decreases-loop-cell : goal.decreases-loop-cell
-decreases-loop-cell l = 81 - l.cell

@@ -9,6 +9,3 @@ use Rattle.rounds.proofs.answers.judge.Given as goal
 
 abbrev pub invariant-loop-cell : goal.invariant-loop-cell
 invariant-loop-cell l = first (λ i. is_broken (get_or l.grid i 0) (get_or l.answer i 0)) (range (81 - l.cell) l.cell) ≡ first_broken l.grid l.answer
-
-abbrev pub decreases-loop-cell : goal.decreases-loop-cell
-decreases-loop-cell l = 81 - l.cell

@@ -1,6 +1,5 @@
 -- `rounds::cuts::feed` meets its contract. Assumes nothing.
 use mathlib.Core.Path.{◌≡◌, sym, ap, ap₂, ◌∙◌}
-use mathlib.Core.Bool.{false}
 use mathlib.Core.List.{List}
 use Prim.Native.Nat.{ℕ, ◌+◌, ◌<◌, ◌≤◌}
 use native.Mathlib.Omega.{arith}
@@ -8,6 +7,7 @@ use lib.ListN.{length, get_or, take}
 use Rattle.steps.specs.Loops.{each}
 use Rattle.output.specs.Lent.{over}
 use Rattle.rounds.specs.declared.cuts.State.{State}
+use Rattle.rounds.specs.declared.cuts.Out.TheVariants.{Lent}
 use Rattle.rounds.specs.code.Cuts.{state_with, fed_with, Held, held, kept_one, done_bytes, done_state, line_end, is_passed, pass_on, keep_on}
 use Rattle.rounds.proofs.Cutting.{passed-fed, passed_none, whole-fed, whole-bytes, part-fed, part_none}
 use Rattle.rounds.proofs.cuts.feed.Goals as goal
@@ -44,8 +44,8 @@ returns-then-end-piece c =
     let less : line_end x < length x = omega (arith, n, c.if-end-piece.true) in
     let more = keeps in
     let bytes = ap done_bytes more ∙ whole-bytes s x no less in (
-      ap₂ (λ (q : State) (m : ℕ). fed_with q (c.line_end-end.result + 1) false m) (c.end_line-ended.ensures.0 ∙ ap done_state more) (c.end_line-ended.ensures.1 ∙ ap (λ (q : State). length (done_bytes q)) more)
-          ∙ ap (λ (m : ℕ). fed_with (done_state (keep_on s (take (line_end x) x))) (m + 1) false (length (done_bytes (keep_on s (take (line_end x) x))))) n
+      ap₂ (λ (q : State) (m : ℕ). fed_with q (c.line_end-end.result + 1) (Lent m)) (c.end_line-ended.ensures.0 ∙ ap done_state more) (c.end_line-ended.ensures.1 ∙ ap (λ (q : State). length (done_bytes q)) more)
+          ∙ ap (λ (m : ℕ). fed_with (done_state (keep_on s (take (line_end x) x))) (m + 1) (Lent (length (done_bytes (keep_on s (take (line_end x) x)))))) n
           ∙ whole-fed s x no less,
       c.end_line-ended.ensures.2 ∙ ap (λ (b : List ℕ). over b a.out.now) bytes,
     )
@@ -68,4 +68,4 @@ returns c =
     let no = sym (tests) ∙ c.if-is_passed.false in
     let n = c.line_end-end.ensures.0 in
     let all : length x ≤ line_end x = omega (arith, n, c.if-end-piece.false) in
-    (ap₂ (λ (q : State) (m : ℕ). fed_with q m false 0) (keeps) n ∙ part-fed s x no all, ap (λ (b : List ℕ). over b a.out.now) (part_none s x no all))
+    (ap₂ (λ (q : State) (m : ℕ). fed_with q m (Lent 0)) (keeps) n ∙ part-fed s x no all, ap (λ (b : List ℕ). over b a.out.now) (part_none s x no all))

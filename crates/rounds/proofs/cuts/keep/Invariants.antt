@@ -1,13 +1,9 @@
--- `rounds::cuts::keep` meets its contract. Assumes nothing. The invariant: the bytes from i on still make all of it.
+-- `rounds::cuts::keep` meets its contract. Assumes nothing. The invariant: the bytes that are left still make all of it, on the same lent bytes.
 use mathlib.Core.Path.{◌≡◌}
-use Prim.Native.Nat.{◌-◌}
-use lib.ListN.{length, drop}
+use lib.ListN.{drop}
 use Rattle.steps.specs.Loops.{each}
 use Rattle.rounds.specs.code.Cuts.{line_with, held, kept_one}
 use Rattle.rounds.proofs.cuts.keep.Given as goal
 
-abbrev pub invariant-loop-i : goal.invariant-loop-i
-invariant-loop-i l = each kept_one (drop l.i l.bytes) (held l.kept (line_with l.end l.grid l.parted l.last l.passed)) ≡ each kept_one l.bytes (held l.initial.kept (line_with l.initial.end l.initial.grid l.initial.parted l.initial.last l.passed))
-
-abbrev pub decreases-loop-i : goal.decreases-loop-i
-decreases-loop-i l = length l.bytes - l.i
+abbrev pub invariant-loop-byte : goal.invariant-loop-byte
+invariant-loop-byte l = (l.pen.bytes.ghost_name ≡ l.initial.pen.bytes.ghost_name) × (each kept_one (drop l.byte-index l.bytes) (held l.pen.bytes.now (line_with l.pen.end l.grid l.parted l.last l.line.passed)) ≡ each kept_one l.bytes (held l.initial.pen.bytes.now (line_with l.initial.pen.end l.initial.grid l.initial.parted l.initial.last l.line.passed)))

@@ -9,7 +9,8 @@ use Rattle.steps.proofs.Check.{clues-givens}
 use Rattle.difficulty.specs.Ratings.{rating_answer}
 use Rattle.difficulty.specs.code.Rates.{rating_by, rate_of}
 use Rattle.difficulty.proofs.Figures.{counts-few}
-use Rattle.output.specs.code.Tapes.{tape, append}
+use Rattle.output.specs.code.Tapes.{append}
+use Rattle.output.specs.code.Pens.{writes}
 use Rattle.card.specs.declared.layout.Card.{Card}
 use Rattle.rounds.specs.Rounds.{score_bytes}
 use Rattle.rounds.specs.Summaries.{raised, verdict_place, check_tallied, tallied}
@@ -27,6 +28,6 @@ returns c =
     let z = a.clues.now in
     let rated : rating_answer c.rating_of-rating.result ≡ rate_of (givens_of z) = c.rating_of-rating.ensures ∙ ap₂ rating_by c.givens_of-givens.ensures c.score-card.ensures.1 in (
       c.write_score.ensures
-          ∙ ap₂ (λ (k : Card) (f : Answer Figure). append 256 (score_bytes k f a.check) (tape a.out.now 0)) c.score-card.ensures.0 rated,
+          ∙ ap₂ (λ (k : Card) (f : Answer Figure). writes (append 256 (score_bytes k f a.check)) a.out.now) c.score-card.ensures.0 rated,
       c.tally_grid.ensures ∙ ap (λ (k : Card). check_tallied a.check (raised (verdict_place k.verdict) (raised 0 a.tally.now))) c.score-card.ensures.0,
     )

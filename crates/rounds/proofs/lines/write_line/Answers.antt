@@ -3,8 +3,9 @@ use mathlib.Core.Path.{sym, ap, ◌∙◌}
 use mathlib.Core.List.{List, [], ◌∷◌}
 use Prim.Native.Nat.{ℕ}
 use lib.ListN.{take}
-use Rattle.output.specs.code.Tapes.{tape, append}
-use Rattle.output.proofs.Tapes.{append-one, joined}
+use Rattle.output.specs.code.Tapes.{append}
+use Rattle.output.specs.code.Pens.{writes}
+use Rattle.output.proofs.Pens.{writes-joined}
 use Rattle.rounds.specs.Rounds.{Outcome, outcome_bytes}
 use Rattle.rounds.specs.Summaries.{tallied}
 use Rattle.rounds.specs.code.Kept.{scored_from}
@@ -16,8 +17,8 @@ unfolding tallied
 returns-then-length-eq0 c =
     let a = c.args in
     let is = from-none a.kept.now a.whole (sym c.length_without-length.ensures ∙ c.if-length-eq0.true) in (
-      joined 256 a.kept.now (10 ∷ []) (tape a.out.now 0) c.push_word-end.ensures (c.push.ensures ∙ append-one 256 10 _)
-          ∙ ap (λ (o : Outcome). append 256 (outcome_bytes a.kept.now o) (tape a.out.now 0)) is,
+      writes-joined a.kept.now (10 ∷ []) a.out.now c.push_word.ensures c.push.ensures
+          ∙ ap (λ (o : Outcome). writes (append 256 (outcome_bytes a.kept.now o)) a.out.now) is,
       ap (λ (o : Outcome). tallied o a.tally.now) is,
     )
 
@@ -27,8 +28,8 @@ returns-then-whole-ne81 c =
     let a = c.args in
     let is = from-other a.kept.now a.whole (λ n. c.if-length-eq0.false (c.length_without-length.ensures ∙ n)) c.if-whole-ne81.true in (
       c.number_line.ensures
-          ∙ ap (λ (bytes : List ℕ). append 256 bytes (tape a.out.now 0)) (refused-one a.whole)
-          ∙ ap (λ (o : Outcome). append 256 (outcome_bytes a.kept.now o) (tape a.out.now 0)) is,
+          ∙ ap (λ (bytes : List ℕ). writes (append 256 bytes) a.out.now) (refused-one a.whole)
+          ∙ ap (λ (o : Outcome). writes (append 256 (outcome_bytes a.kept.now o)) a.out.now) is,
       c.tally_refused.ensures ∙ ap (λ (o : Outcome). tallied o a.tally.now) is,
     )
 
@@ -37,7 +38,7 @@ returns c =
     let a = c.args in
     let bare = ap (λ (n : ℕ). take n a.kept.now) c.length_without-length.ensures in
     let is = ap scored_from bare ∙ from-grid a.kept.now a.whole (λ n. c.if-length-eq0.false (c.length_without-length.ensures ∙ n)) c.if-whole-ne81.false in (
-      c.score_text.ensures.0 ∙ ap (λ (bytes : List ℕ). append 256 bytes (tape a.out.now 0)) (scored-bytes _ a.kept.now)
-          ∙ ap (λ (o : Outcome). append 256 (outcome_bytes a.kept.now o) (tape a.out.now 0)) is,
+      c.score_text.ensures.0 ∙ ap (λ (bytes : List ℕ). writes (append 256 bytes) a.out.now) (scored-bytes _ a.kept.now)
+          ∙ ap (λ (o : Outcome). writes (append 256 (outcome_bytes a.kept.now o)) a.out.now) is,
       c.score_text.ensures.1 ∙ ap (λ (o : Outcome). tallied o a.tally.now) is,
     )

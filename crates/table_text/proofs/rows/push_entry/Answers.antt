@@ -2,21 +2,19 @@
 use mathlib.Core.Path.{sym, ap, ◌∙◌}
 use mathlib.Core.Bool.{Bool}
 use mathlib.Core.List.{[], ◌∷◌}
+use Prim.Native.Nat.{ℕ}
 use Rattle.output.specs.Decimals.{decimal}
-use Rattle.output.specs.code.Tapes.{tape, append}
+use Rattle.output.specs.code.Tapes.{append}
+use Rattle.output.specs.code.Pens.{writes}
+use Rattle.output.proofs.Pens.{writes-joined}
 use Rattle.table_text.specs.code.Pushes.{entry}
-use Rattle.output.proofs.Tapes.{joined}
+use Rattle.table_text.proofs.rows.push_entry.Goals.{then-not-first, else-not-first}
 use Rattle.table_text.proofs.rows.push_entry.Goals as goal
-
-pub returns-then-first : goal.returns-then-first
-unfolding entry
-returns-then-first c =
-    let a = c.args in
-    c.push_number.ensures ∙ ap (λ (first : Bool). append 7515 (entry first a.n) (tape a.text.now a.at)) (sym c.if-first.true)
 
 pub returns : goal.returns
 unfolding entry
 returns c =
-    let a = c.args in
-    joined 7515 (44 ∷ 32 ∷ []) (decimal a.n) (tape a.text.now a.at) c.push_word-end.ensures c.push_number-2.ensures
-    ∙ ap (λ (first : Bool). append 7515 (entry first a.n) (tape a.text.now a.at)) (sym c.if-first.false)
+    let n = c.args.n in
+    let p = c.args.text.now in
+    let number = c.push_number.ensures ∙ ap (λ (n : ℕ). writes (append 7515 (decimal n)) c.if-not-first.text) c.from.ensures in
+    elim c.if-not-first.branch [ then-not-first w ↦ writes-joined (44 ∷ 32 ∷ []) (decimal n) p (w.text-is ∙ w.push_word.ensures) number ∙ ap (λ (first : Bool). writes (append 7515 (entry first n)) p) (sym w.if-not-first.true) | else-not-first w ↦ rw (w.if-not-first.false, ← w.text-is) number ]
