@@ -2,14 +2,13 @@
 ghost use Rattle.std.specs.Prelude.{◌≡◌, pos};
 ghost use Rattle.std.specs.Int.{w64};
 ghost use Rattle.std.proofs.Common.{SFits};
-ghost use Rattle.stops.specs.Answer.{check_answer, map, passing, writing_answer};
-ghost use Rattle.candidates.specs.Sets.{new_answer, presence_answer};
+ghost use Rattle.stops.specs.Answer.{answer_of, map, passing};
 ghost use Rattle.sudoku.specs.Codes.{four, given, refused, coded, test_number, unknown};
 ghost use Rattle.sudoku.specs.Sets.{new_set, single_code};
 ghost use Rattle.sudoku.specs.code.Fitting.{Fitting};
 
-use candidates::{NewSet, Presence, SingleCandidate};
-use stops::{Check, Stop, Writing};
+use candidates::{SingleCandidate, SudokuCandidateSet};
+use stops::Stop;
 
 pub fn widened(number: i32) -> i64
     ensures { result ≡ number }
@@ -59,42 +58,41 @@ pub fn of_unknown(call: u8) -> [i64; 4]
 }
 
 // The value of a call that was checked.
-pub fn of_check(check: Check, value: i64, mask: u16) -> [i64; 4]
-    ensures { result ≡ coded (passing (check_answer check) value) mask }
+pub fn of_check(check: Result<(), Stop>, value: i64, mask: u16) -> [i64; 4]
+    ensures { result ≡ coded (passing (answer_of check) value) mask }
 {
     match check {
-        Check::Refused(stop) => of_stop(stop, mask),
-        Check::Passed => of_given(value, mask),
+        Err(stop) => of_stop(stop, mask),
+        Ok(()) => of_given(value, mask),
     }
 }
 
-// The bytes that a writer wrote.
-pub fn of_writing(writing: Writing) -> [i64; 4]
-    requires { Fitting (map pos (writing_answer writing)) }
-    ensures { result ≡ coded (map pos (writing_answer writing)) 0 }
+// What a call counts, as a writer its bytes.
+pub fn of_counted(answer: Result<usize, Stop>) -> [i64; 4]
+    requires { Fitting (map pos (answer_of answer)) }
+    ensures { result ≡ coded (map pos (answer_of answer)) 0 }
 {
-    match writing {
-        Writing::Refused(stop) => of_stop(stop, 0),
-        Writing::Written(count) => of_count(count),
+    match answer {
+        Err(stop) => of_stop(stop, 0),
+        Ok(count) => of_count(count),
     }
 }
 
-pub fn of_new(new: NewSet) -> [i64; 4]
-    ensures { result ≡ new_set (new_answer new) }
+pub fn of_new(new: Result<SudokuCandidateSet, Stop>) -> [i64; 4]
+    ensures { result ≡ new_set (map (λ set. set.mask) (answer_of new)) }
 {
     match new {
-        NewSet::Refused(stop) => of_stop(stop, 0),
-        NewSet::Set(set) => of_given(0, set.mask),
+        Err(stop) => of_stop(stop, 0),
+        Ok(set) => of_given(0, set.mask),
     }
 }
 
-pub fn of_presence(presence: Presence, mask: u16) -> [i64; 4]
-    ensures { result ≡ coded (map test_number (presence_answer presence)) mask }
+pub fn of_presence(presence: Result<bool, Stop>, mask: u16) -> [i64; 4]
+    ensures { result ≡ coded (map test_number (answer_of presence)) mask }
 {
     match presence {
-        Presence::Refused(stop) => of_stop(stop, mask),
-        Presence::Present => of_given(1, mask),
-        Presence::Absent => of_given(0, mask),
+        Err(stop) => of_stop(stop, mask),
+        Ok(present) => of_given(of_test(present), mask),
     }
 }
 

@@ -67,10 +67,7 @@ pub extern "C" fn sudoku_next(mask: u16, place: u8, answer: &mut [i64; 4])
 pub extern "C" fn sudoku_read(text: &[u8], clues: &mut [i32; 81], answer: &mut [i64; 4])
     ensures { (answer.new ≡ read_code text.now) × (clues.new ≡ read_clues text.now clues.old) }
 {
-    let parsed = text::parse_string(text);
-    let parsing = parsed.answer;
-    let grid = parsed.clues;
-    arrays::put_grid(parsing, &grid, clues, answer);
+    arrays::put_grid(text::parse_string(text), clues, answer);
 }
 
 // The text of 81 clues.
@@ -78,8 +75,7 @@ pub extern "C" fn sudoku_read(text: &[u8], clues: &mut [i32; 81], answer: &mut [
 pub extern "C" fn sudoku_write_text(clues: &[i32; 81], text: &mut [u8], answer: &mut [i64; 4])
     ensures { (answer.new ≡ text_code clues.now text.old) × (text.new ≡ written_text clues.now text.old) }
 {
-    let writing = text::write_text(clues, text);
-    *answer = codes::of_writing(writing);
+    *answer = codes::of_counted(text::write_text(clues, text));
 }
 
 // The clues of a pasted sheet.
@@ -87,10 +83,7 @@ pub extern "C" fn sudoku_write_text(clues: &[i32; 81], text: &mut [u8], answer: 
 pub extern "C" fn sudoku_read_sheet(sheet: &[u8], clues: &mut [i32; 81], answer: &mut [i64; 4])
     ensures { (answer.new ≡ sheet_read_code sheet.now) × (clues.new ≡ sheet_clues sheet.now clues.old) }
 {
-    let parsed = text::sheets::parse_sheet(sheet);
-    let accepting = parsed.answer;
-    let cells = parsed.clues;
-    arrays::put_grid(accepting, &cells, clues, answer);
+    arrays::put_grid(text::sheets::parse_sheet(sheet), clues, answer);
 }
 
 // The canonical sheet of 81 clues.
@@ -98,8 +91,7 @@ pub extern "C" fn sudoku_read_sheet(sheet: &[u8], clues: &mut [i32; 81], answer:
 pub extern "C" fn sudoku_write_sheet(clues: &[i32; 81], sheet: &mut [u8], answer: &mut [i64; 4])
     ensures { (answer.new ≡ sheet_code clues.now sheet.old) × (sheet.new ≡ written_sheet clues.now sheet.old) }
 {
-    let writing = text::sheets::write_sheet(clues, sheet);
-    *answer = codes::of_writing(writing);
+    *answer = codes::of_counted(text::sheets::write_sheet(clues, sheet));
 }
 
 // The fresh masks of 81 clues.
@@ -107,12 +99,13 @@ pub extern "C" fn sudoku_write_sheet(clues: &[i32; 81], sheet: &mut [u8], answer
 pub extern "C" fn sudoku_open(clues: &[i32; 81], masks: &mut [u16; 81], answer: &mut [i64; 4])
     ensures { (answer.new ≡ open_code clues.now) × (masks.new ≡ open_masks clues.now masks.old) }
 {
-    let opened = Board::new(*clues);
-    let opening = opened.answer;
-    let grid = opened.board.clues;
-    let fresh = opened.board.masks;
-    *answer = codes::of_check(opening, arrays::clue_number(&grid), 0);
-    arrays::put_masks(opening, &fresh, masks);
+    match Board::new(*clues) {
+        Err(stop) => *answer = codes::of_stop(stop, 0),
+        Ok(board) => {
+            *answer = codes::of_given(arrays::clue_number(&board.clues), 0);
+            *masks = board.masks;
+        }
+    }
 }
 
 // A question to a board by its number; `cell` is the cell whose mask is asked for.
@@ -132,7 +125,7 @@ pub extern "C" fn sudoku_ask(
         entries: *entries,
         masks: *masks,
     };
-    *answer = accessors::ask(question, board, cell);
+    *answer = accessors::ask(question, &board, cell);
 }
 
 // The printed clues of a board.
@@ -151,11 +144,7 @@ pub extern "C" fn sudoku_original_puzzle(
         entries: *entries,
         masks: *masks,
     };
-    let found = board.original_puzzle();
-    let check = found.answer;
-    let grid = found.clues;
-    *answer = codes::of_check(check, 0, 0);
-    arrays::put_clues(check, &grid, puzzle);
+    arrays::put(board.original_puzzle(), puzzle, answer);
 }
 
 // The masks of a board.
@@ -174,11 +163,7 @@ pub extern "C" fn sudoku_get_candidates(
         entries: *entries,
         masks: *masks,
     };
-    let found = board.get_candidates();
-    let check = found.answer;
-    let sets = found.masks;
-    *answer = codes::of_check(check, 0, 0);
-    arrays::put_masks(check, &sets, candidates);
+    arrays::put(board.get_candidates(), candidates, answer);
 }
 
 // A board call by its step number.
@@ -208,13 +193,14 @@ pub extern "C" fn sudoku_enter(
 )
     ensures { (answer.new ≡ pencil_code (enter cell digit) (handed clues.now entries.old masks.old)) × (entries.new ≡ pencil_entries (enter cell digit) (handed clues.now entries.old masks.old)) × (masks.new ≡ pencil_masks (enter cell digit) (handed clues.now entries.old masks.old)) }
 {
-    let board = Board {
+    let mut board = Board {
         clues: *clues,
         entries: *entries,
         masks: *masks,
     };
-    let done = board::entries::enter(board, cell, digit);
-    arrays::put_pencilled(done, entries, masks, answer);
+    *answer = codes::of_check(board::entries::enter(&mut board, cell, digit), 0, 0);
+    *entries = board.entries;
+    *masks = board.masks;
 }
 
 // The entry of a cell of a board rubbed out.
@@ -228,13 +214,14 @@ pub extern "C" fn sudoku_rub_out(
 )
     ensures { (answer.new ≡ pencil_code (rub_out cell) (handed clues.now entries.old masks.old)) × (entries.new ≡ pencil_entries (rub_out cell) (handed clues.now entries.old masks.old)) × (masks.new ≡ pencil_masks (rub_out cell) (handed clues.now entries.old masks.old)) }
 {
-    let board = Board {
+    let mut board = Board {
         clues: *clues,
         entries: *entries,
         masks: *masks,
     };
-    let done = board::entries::rub_out(board, cell);
-    arrays::put_pencilled(done, entries, masks, answer);
+    *answer = codes::of_check(board::entries::rub_out(&mut board, cell), 0, 0);
+    *entries = board.entries;
+    *masks = board.masks;
 }
 
 // A list of steps from the fresh board of clues and entries.
@@ -248,11 +235,7 @@ pub extern "C" fn sudoku_run(
 )
     ensures { (answer.new ≡ run_code clues.now entries.now steps.now) × (masks.new ≡ run_masks clues.now entries.now steps.now masks.old) }
 {
-    let done = calls::replay(*clues, *entries, steps);
-    let replaying = done.answer;
-    let board = done.board;
-    *answer = step_calls::of_replaying(replaying, board);
-    step_calls::put_run(replaying, board, masks);
+    step_calls::put_run(calls::replay(*clues, *entries, steps), masks, answer);
 }
 
 // Settling, the steps of it that removed something, six bytes each, and what each of the six wide passes removed.
@@ -267,7 +250,7 @@ pub extern "C" fn sudoku_settle(
 )
     ensures { (answer.new ≡ settle_code (handed clues.now entries.now masks.old)) × (masks.new ≡ settle_masks (handed clues.now entries.now masks.old)) × (steps.new ≡ settle_steps (handed clues.now entries.now masks.old) steps.old) × (counts.new ≡ settle_counts (handed clues.now entries.now masks.old) counts.old) }
 {
-    *masks = settlings::settle(*clues, *entries, *masks, steps, counts, answer);
+    settlings::settle(clues, entries, masks, steps, counts, answer);
 }
 
 // A list of setters' steps, six bytes each, checked from the fresh board of clues and entries.
@@ -281,16 +264,13 @@ pub extern "C" fn sudoku_check_steps(
 )
     ensures { (answer.new ≡ checked_code (handed clues.now entries.now masks.old) steps.now) × (masks.new ≡ checked_masks (handed clues.now entries.now masks.old) steps.now) }
 {
-    let board = Board {
+    let mut board = Board {
         clues: *clues,
         entries: *entries,
         masks: *masks,
     };
-    let done = step_lists::check_steps(board, steps);
-    let check = done.answer;
-    let left = done.board.masks;
-    *answer = codes::of_check(check, 0, 0);
-    arrays::put_masks(check, &left, masks);
+    *answer = codes::of_check(step_lists::check_steps(&mut board, steps), 0, 0);
+    *masks = board.masks;
 }
 
 // The difficulty figure of the fresh board of clues and entries.
@@ -308,7 +288,7 @@ pub extern "C" fn sudoku_difficulty(
         entries: *entries,
         masks: *masks,
     };
-    *answer = ratings::of_rating(difficulty::difficulty(board));
+    *answer = ratings::of_rating(difficulty::difficulty(&board));
 }
 
 // The record of a board.
@@ -327,8 +307,7 @@ pub extern "C" fn sudoku_write_record(
         entries: *entries,
         masks: *masks,
     };
-    let writing = record::write_record(board, bytes);
-    *answer = codes::of_writing(writing);
+    *answer = codes::of_counted(record::write_record(&board, bytes));
 }
 
 // The board of a record.
@@ -342,15 +321,15 @@ pub extern "C" fn sudoku_read_record(
 )
     ensures { (answer.new ≡ record_read_code bytes.now) × (clues.new ≡ record_clues bytes.now clues.old) × (entries.new ≡ record_entries bytes.now entries.old) × (masks.new ≡ record_masks bytes.now masks.old) }
 {
-    let read = record::read_record(bytes);
-    let reading = read.answer;
-    let grid = read.board.clues;
-    let pencilled = read.board.entries;
-    let sets = read.board.masks;
-    *answer = codes::of_check(reading, arrays::clue_number(&grid), 0);
-    arrays::put_clues(reading, &grid, clues);
-    arrays::put_clues(reading, &pencilled, entries);
-    arrays::put_masks(reading, &sets, masks);
+    match record::read_record(bytes) {
+        Err(stop) => *answer = codes::of_stop(stop, 0),
+        Ok(board) => {
+            *answer = codes::of_given(arrays::clue_number(&board.clues), 0);
+            *clues = board.clues;
+            *entries = board.entries;
+            *masks = board.masks;
+        }
+    }
 }
 
 // An old record in the new form, or a new one back in the old form.
@@ -363,8 +342,7 @@ pub extern "C" fn sudoku_move_record(
 )
     ensures { (answer.new ≡ move_code back bytes.now moved.old) × (moved.new ≡ moved_record back bytes.now moved.old) }
 {
-    let writing = moves::move_either(back, bytes, moved);
-    *answer = codes::of_writing(writing);
+    *answer = codes::of_counted(moves::move_either(back, bytes, moved));
 }
 
 // A trial round of a solution.
@@ -378,10 +356,11 @@ pub extern "C" fn sudoku_trial_round(
 )
     ensures { (answer.new ≡ trial_code start percentage solution.now) × (clues.new ≡ trial_clues start percentage solution.now clues.old) }
 {
-    let made = trial_rounds::trial_round(start, percentage, solution);
-    let making = made.answer;
-    let kept = made.clues;
-    arrays::put_grid(making, &kept, clues, answer);
+    arrays::put_grid(
+        trial_rounds::trial_round(start, percentage, solution),
+        clues,
+        answer,
+    );
 }
 
 // The card of a text.
@@ -389,6 +368,5 @@ pub extern "C" fn sudoku_trial_round(
 pub extern "C" fn sudoku_card(input: &[u8], card: &mut [u8; 256], answer: &mut [i64; 4])
     ensures { (answer.new ≡ card_code input.now) × (card.new ≡ written_card input.now card.old) }
 {
-    let writing = card::write_card(input, card);
-    *answer = codes::of_writing(writing);
+    *answer = codes::of_counted(card::write_card(input, card));
 }

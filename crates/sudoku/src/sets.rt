@@ -6,28 +6,26 @@ ghost use Rattle.sudoku.specs.Codes.{coded, test_number, no_number};
 ghost use Rattle.sudoku.specs.Sets.{set_call, next_call};
 
 use crate::codes;
-use candidates::{NextCandidate, SudokuCandidateIter, SudokuCandidateSet, lent};
+use candidates::{SudokuCandidateIter, SudokuCandidateSet, lent};
 
 fn insert_call(mask: u16, digit: i32) -> [i64; 4]
     ensures { result ≡ coded (map no_number (insert_of digit)) (inserted mask digit) }
 {
     let after = lent::insert(mask, digit);
-    let answer = after.answer;
-    codes::of_check(answer, 0, after.mask)
+    codes::of_check(after.answer, 0, after.mask)
 }
 
 fn remove_call(mask: u16, digit: i32) -> [i64; 4]
     ensures { result ≡ coded (map test_number (contains_of mask digit)) (removed mask digit) }
 {
     let after = lent::remove(mask, digit);
-    let answer = after.answer;
-    codes::of_presence(answer, after.mask)
+    codes::of_presence(after.answer, after.mask)
 }
 
 pub fn set_call(call: u8, mask: u16, digit: i32) -> [i64; 4]
     ensures { result ≡ set_call call mask digit }
 {
-    let set = SudokuCandidateSet { mask: mask };
+    let set = SudokuCandidateSet { mask };
     match call {
         0 => codes::of_given(0, SudokuCandidateSet::new().mask),
         1 => codes::of_given(0, SudokuCandidateSet::full().mask),
@@ -47,13 +45,12 @@ pub fn set_call(call: u8, mask: u16, digit: i32) -> [i64; 4]
 pub fn next_call(mask: u16, place: u8) -> [i64; 4]
     ensures { result ≡ next_call mask place }
 {
-    let iter = SudokuCandidateIter {
-        mask: mask,
+    let mut rest = SudokuCandidateIter {
+        mask,
         current: place,
     };
-    let found = iter.next();
-    match found {
-        NextCandidate::Digit(digit, rest) => codes::of_digit(digit, rest.current, rest.mask),
-        NextCandidate::Done => codes::of_digit(0, place, mask),
+    match rest.next() {
+        Some(digit) => codes::of_digit(digit, rest.current, rest.mask),
+        None => codes::of_digit(0, place, mask),
     }
 }
