@@ -3,7 +3,7 @@
 #![tactic(auto)]
 
 ghost use Rattle.std.specs.Prelude.{◌≡◌, ◌≤◌, length};
-ghost use Rattle.stops.specs.Answer.{map, writing_answer};
+ghost use Rattle.stops.specs.Answer.{answer_of, map};
 ghost use Rattle.steps.specs.Boards.{givens_of, fresh};
 ghost use Rattle.steps.specs.Difficulty.{pass_counts};
 ghost use Rattle.card.specs.Cards.{card_bytes, card_for, card_lines, card_of, length_without, refusal_line};
@@ -16,7 +16,7 @@ use board::verdicts::verdict_of;
 use layout::{Card, card_lines, refusal_lines};
 use output::Pen;
 use passes::settle;
-use stops::{Check, Writing};
+use stops::Stop;
 use techniques::singles::singles;
 use text::parse_string;
 
@@ -60,32 +60,27 @@ fn card_of(clues: &[i32; 81]) -> Card
 }
 
 // The card of the grid in `input`, in the first lent bytes; a refusal leaves them as they are.
-pub fn write_card(input: &[u8], out: &mut [u8; 256]) -> Writing
-    ensures { (writing_answer result ≡ map (λ card. length (card_bytes card)) (card_of input.now)) × (out.new ≡ over (card_lines (card_of input.now)) out.old) }
+pub fn write_card(input: &[u8], out: &mut [u8; 256]) -> Result<usize, Stop>
+    ensures { (answer_of result ≡ map (λ card. length (card_bytes card)) (card_of input.now)) × (out.new ≡ over (card_lines (card_of input.now)) out.old) }
 {
     let length = length_without(input, b'\n');
-    let parsed = parse_string(&input[..length]);
-    let answer = parsed.answer;
-    let Check::Passed = answer else {
-        return stops::written(answer, 0);
-    };
-    let clues = parsed.clues;
+    let clues = parse_string(&input[..length])?;
     let card = card_of(&clues);
     let mut lines = Pen::new(out);
     card_lines(&mut lines, &card);
-    Writing::Written(lines.end)
+    Ok(lines.end)
 }
 
 // The line of a refusal, in the first lent bytes, and how many it has; none for an answer that is no refusal.
-pub fn write_refusal(answer: Writing, out: &mut [u8; 256]) -> usize
-    ensures { (result ≡ length (refusal_line (writing_answer answer))) × (out.new ≡ over (refusal_line (writing_answer answer)) out.old) × (result ≤ 256) }
+pub fn write_refusal(answer: Result<usize, Stop>, out: &mut [u8; 256]) -> usize
+    ensures { (result ≡ length (refusal_line (answer_of answer))) × (out.new ≡ over (refusal_line (answer_of answer)) out.old) × (result ≤ 256) }
 {
     match answer {
-        Writing::Refused(stop) => {
+        Err(stop) => {
             let mut lines = Pen::new(out);
             refusal_lines(&mut lines, stop);
             lines.end
         }
-        Writing::Written(_) => 0,
+        Ok(_) => 0,
     }
 }
