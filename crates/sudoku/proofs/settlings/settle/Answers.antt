@@ -1,12 +1,8 @@
 -- Settling's answer as numbers; its masks, steps and counts in what was lent.
-use mathlib.Core.Path.{sym, ap, ◌∙◌}
-use Prim.Native.Nat.{ℕ}
+use mathlib.Core.Path.{refl, ap, ◌∙◌}
 use native.Mathlib.Omega.{arith}
-use borrow.Author.Rules.{rules}
-use lib.IntN.{pos}
 use mir.Facts.{to_z_pos}
 use mir.Syntax.{w64}
-use mir.Val.{SFits}
 use Rattle.stops.specs.Answer.{value_or}
 use Rattle.steps.specs.Boards as S
 use Rattle.board.specs.Boards.{handed}

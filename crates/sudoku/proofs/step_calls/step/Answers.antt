@@ -1,5 +1,5 @@
 -- The step of the number, or none.
-use mathlib.Core.Path.{◌≡◌, sym, ap, subst, ◌∙◌}
+use mathlib.Core.Path.{◌≡◌, refl, sym, ap, subst, ◌∙◌}
 use mathlib.Core.List.{List}
 use mathlib.Core.Option.{Option, some}
 use Prim.Native.Nat.{ℕ}
@@ -9,7 +9,7 @@ use Rattle.steps.specs.Boards as S
 use Rattle.steps.specs.Calls.{Outcome}
 use Rattle.board.specs.Boards.{handed}
 use Rattle.techniques.specs.code.Searches.{search_call}
-use Rattle.calls.specs.StepNumbers.{outcome_or, step_answer, step_left}
+use Rattle.calls.specs.StepNumbers.{outcome_or, step_left}
 use Rattle.calls.specs.code.QuietSteps.{call_of_step, quiet_call}
 use Rattle.calls.specs.declared.kinds.Step.{Step}
 use Rattle.calls.proofs.Arms.{no-step-is, step_is}
