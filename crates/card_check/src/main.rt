@@ -4,7 +4,6 @@
 
 use printing::{number, refusal, word};
 use std::io;
-use stops::Writing;
 
 fn bytes(rt: &impl Print, out: &[u8; 256]) -> io::Result<()> {
     word(rt, b"\n")?;
@@ -17,11 +16,11 @@ fn show(rt: &impl Print, input: &[u8]) -> io::Result<()> {
     let mut out = [b'x'; 256];
     let answer = card::write_card(input, &mut out);
     match answer {
-        Writing::Written(count) => {
+        Ok(count) => {
             word(rt, b"card")?;
             number(rt, count as u64)?;
         }
-        Writing::Refused(stop) => {
+        Err(stop) => {
             word(rt, b"stop")?;
             refusal(rt, stop)?;
             bytes(rt, &out)?;

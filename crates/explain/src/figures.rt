@@ -6,7 +6,7 @@ use output::Pen;
 use rounds::fields::push_rating;
 use std::io;
 
-pub fn print_difficulty(rt: &impl Print, board: Board) -> io::Result<()> {
+pub fn print_difficulty(rt: &impl Print, board: &Board) -> io::Result<()> {
     let mut room = [0; 256];
     let mut line = Pen::new(&mut room);
     line.push_word(b"difficulty ");

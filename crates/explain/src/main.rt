@@ -9,11 +9,12 @@ use board::entries::fresh_board;
 use board::verdicts::verdict_of;
 use card::layout::verdict_line;
 use card::write_refusal;
+use cells::notes::Steps;
 use output::Pen;
 use passes::apply_settling;
 use std::io;
 use std::io::Write;
-use stops::Check;
+use stops::Stop;
 
 mod drawing;
 mod figures;
@@ -23,9 +24,9 @@ mod names;
 mod reading;
 mod step_lines;
 
-fn refuse(rt: &impl Print, answer: Check) -> io::Result<()> {
+fn refuse(rt: &impl Print, stop: Stop) -> io::Result<()> {
     let mut line = [0; 256];
-    let end = write_refusal(stops::written(answer, 0), &mut line);
+    let end = write_refusal(Err(stop), &mut line);
     io::writer(rt).write_all(&line[..end])
 }
 
@@ -36,24 +37,31 @@ fn print_verdict(rt: &impl Print, masks: &[u16; 81]) -> io::Result<()> {
     lines::write_out(rt, &line)
 }
 
-// Settling does not refuse a fresh board.
-fn explain(rt: &impl Print, board: Board) -> io::Result<()> {
-    let after = apply_settling(board);
-    let settled = after.board;
-    let masks = settled.masks;
-    step_lines::print_steps(rt, board, after.steps)?;
+fn print_settled(
+    rt: &impl Print,
+    fresh: &Board,
+    steps: &Steps,
+    masks: &[u16; 81],
+) -> io::Result<()> {
+    step_lines::print_steps(rt, fresh, steps)?;
     lines::write_line(rt, &mut Pen::new(&mut [0; 256]))?;
-    drawing::print_grid(rt, &masks)?;
-    figures::print_difficulty(rt, board)?;
-    print_verdict(rt, &masks)
+    drawing::print_grid(rt, masks)?;
+    figures::print_difficulty(rt, fresh)?;
+    print_verdict(rt, masks)
+}
+
+// Settling does not refuse a fresh board.
+fn explain(rt: &impl Print, fresh: Board) -> io::Result<()> {
+    let mut board = fresh;
+    match apply_settling(&mut board) {
+        Err(stop) => refuse(rt, stop),
+        Ok(settled) => print_settled(rt, &fresh, &settled.steps, &board.masks),
+    }
 }
 
 fn main(rt: HostRuntime) -> io::Result<()> {
-    let parsed = reading::read_clues(&rt);
-    let answer = parsed.answer;
-    let clues = parsed.clues;
-    let Check::Passed = answer else {
-        return refuse(&rt, answer);
-    };
-    explain(&rt, fresh_board(clues, [0; 81]))
+    match reading::read_clues(&rt) {
+        Err(stop) => refuse(&rt, stop),
+        Ok(clues) => explain(&rt, fresh_board(clues, [0; 81])),
+    }
 }

@@ -3,26 +3,16 @@
 ghost use Rattle.std.specs.Prelude.{◌≤◌, ◌<◌};
 
 use input::read_full;
-use stops::{Check, Stop};
+use stops::Stop;
 use text::sheets::parse_sheet;
-use text::{Parsed, byte_at, parse_string};
+use text::{byte_at, parse_string};
 
 // The clues of the first 81 bytes, or of all where there are fewer.
-fn first_cells(text: &[u8]) -> Parsed {
+fn first_cells(text: &[u8]) -> Result<[i32; 81], Stop> {
     if text.len() < 81 {
         return parse_string(text);
     }
     parse_string(&text[..81])
-}
-
-// Whether 81 cells stand first.
-fn starts_with_grid(text: &[u8]) -> bool {
-    let parsed = first_cells(text);
-    let answer = parsed.answer;
-    match answer {
-        Check::Passed => true,
-        Check::Refused(_) => false,
-    }
 }
 
 // Whether a separator and 81 digits stand after them.
@@ -48,7 +38,7 @@ fn line_ends_at(text: &[u8], index: usize) -> bool
 
 // Whether the first line is one of a round: a grid of 81 cells, alone or with a separator and an answer of 81 digits.
 fn is_round_line(text: &[u8]) -> bool {
-    if !starts_with_grid(text) {
+    if first_cells(text).is_err() {
         return false;
     }
     if goes_on_with_answer(text) {
@@ -82,7 +72,7 @@ fn count_rest(rt: &impl Input) -> u64
 }
 
 // The clues of the round's line or of the sheet, or the sheet reader's stop: for 10 the whole length is counted.
-pub fn read_clues(rt: &impl Input) -> Parsed {
+pub fn read_clues(rt: &impl Input) -> Result<[i32; 81], Stop> {
     let mut sheet = [0u8; 4096];
     let read = read_full(rt, &mut sheet);
     if is_round_line(&sheet[..read]) {
@@ -91,10 +81,7 @@ pub fn read_clues(rt: &impl Input) -> Parsed {
     if read == 4096 {
         let rest = count_rest(rt);
         if 0 < rest {
-            return Parsed {
-                answer: Check::Refused(Stop::SheetLength((4096 + rest) as i64)),
-                clues: [0; 81],
-            };
+            return Err(Stop::SheetLength((4096 + rest) as i64));
         }
     }
     parse_sheet(&sheet[..read])

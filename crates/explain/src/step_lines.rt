@@ -49,7 +49,7 @@ fn print_step(
 }
 
 // The steps from the fresh board on.
-pub fn print_steps(rt: &impl Print, fresh: Board, steps: Steps) -> io::Result<()> {
+pub fn print_steps(rt: &impl Print, fresh: &Board, steps: &Steps) -> io::Result<()> {
     let givens = givens_of(&fresh.clues, &fresh.entries);
     let mut masks = fresh.masks;
     for index in 0..729 {

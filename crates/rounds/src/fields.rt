@@ -3,14 +3,15 @@ ghost use Rattle.std.specs.Prelude.{◌≡◌};
 ghost use Rattle.output.specs.Decimals.{decimal};
 ghost use Rattle.output.specs.code.Tapes.{append};
 ghost use Rattle.output.specs.code.Pens.{writes};
-ghost use Rattle.difficulty.specs.Ratings.{figure_in, rating_answer};
-ghost use Rattle.stops.specs.Answer.{gives};
+ghost use Rattle.difficulty.specs.Ratings.{figure_in};
+ghost use Rattle.stops.specs.Answer.{answer_of, gives, map};
 ghost use Rattle.rounds.specs.Rounds.{field, figure_bytes, check_bytes, score_bytes};
 
 use crate::answers::Checked;
 use card::layout::{Card, push_verdict};
 use card::lines::LinesPen;
-use difficulty::{Figure, Rating};
+use difficulty::Figure;
+use stops::Stop;
 
 fn push_field(line: &mut LinesPen, n: usize)
     ensures { line.new ≡ writes (append 256 (field (decimal n))) line.old }
@@ -30,12 +31,12 @@ fn push_figure(line: &mut LinesPen, figure: Figure)
 }
 
 // A fresh board is refused with 19 alone: a full grid has no figure.
-pub fn push_rating(line: &mut LinesPen, rating: Rating)
-    ensures { line.new ≡ writes (append 256 (figure_bytes (rating_answer rating))) line.old }
+pub fn push_rating(line: &mut LinesPen, rating: Result<Figure, Stop>)
+    ensures { line.new ≡ writes (append 256 (figure_bytes (map figure_in (answer_of rating)))) line.old }
 {
     match rating {
-        Rating::Refused(_) => line.push_word(b"none"),
-        Rating::Is(figure) => push_figure(line, figure),
+        Err(_) => line.push_word(b"none"),
+        Ok(figure) => push_figure(line, figure),
     }
 }
 
@@ -57,8 +58,8 @@ fn push_check(line: &mut LinesPen, check: Checked)
     }
 }
 
-pub fn write_score(line: &mut LinesPen, card: &Card, rating: Rating, check: Checked)
-    ensures { line.new ≡ writes (append 256 (score_bytes card.now (rating_answer rating) check)) line.old }
+pub fn write_score(line: &mut LinesPen, card: &Card, rating: Result<Figure, Stop>, check: Checked)
+    ensures { line.new ≡ writes (append 256 (score_bytes card.now (map figure_in (answer_of rating)) check)) line.old }
 {
     push_field(line, card.clues);
     push_field(line, card.reported);

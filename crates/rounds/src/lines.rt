@@ -14,7 +14,6 @@ use card::layout::refusal_lines;
 use card::lines::{LinesPen, number_line};
 use card::{length_without, score};
 use difficulty::rating_of;
-use stops::Check;
 use text::parse_string;
 
 fn score_clues(clues: &[i32; 81], check: Checked, out: &mut LinesPen, tally: &mut Tally)
@@ -33,15 +32,12 @@ fn score_text(text: &[u8], out: &mut LinesPen, tally: &mut Tally)
     ensures { (out.new ≡ writes (append 256 (outcome_bytes [] (scored_from text.now))) out.old) × (tally.new ≡ tallied (scored_from text.now) tally.old) }
 {
     let size = text.len().min(81);
-    let parsed = parse_string(&text[..size]);
-    let answer = parsed.answer;
-    let clues = parsed.clues;
-    match answer {
-        Check::Refused(stop) => {
+    match parse_string(&text[..size]) {
+        Err(stop) => {
             tally_refused(tally);
             refusal_lines(out, stop);
         }
-        Check::Passed => score_clues(&clues, check_text(text), out, tally),
+        Ok(clues) => score_clues(&clues, check_text(text), out, tally),
     }
 }
 

@@ -8,17 +8,15 @@ ghost use Rattle.output.specs.Lent.{over};
 use input::read_full;
 use std::io;
 use std::io::Write;
-use stops::Writing;
 
 // What is printed of the bytes that were read, in the first lent bytes, and how many there are.
 fn print(input: &[u8], out: &mut [u8; 256]) -> usize
     ensures { (result ≡ length (printed (card_of input.now))) × (out.new ≡ over (printed (card_of input.now)) out.old) × (result ≤ 256) }
 {
-    let answer = card::write_card(input, out);
-    let Writing::Written(count) = answer else {
-        return card::write_refusal(answer, out);
-    };
-    count
+    match card::write_card(input, out) {
+        Ok(count) => count,
+        Err(stop) => card::write_refusal(Err(stop), out),
+    }
 }
 
 fn main(rt: HostRuntime) -> io::Result<()> {

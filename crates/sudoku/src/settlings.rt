@@ -31,9 +31,12 @@ pub fn settle(
                 done.counts.sweeps as i64,
                 done.counts.removed as i64,
             ];
-            *steps = done.steps.bytes;
-            *counts = done.by_pass;
-            *masks = board.masks;
+            let list = done.steps.bytes;
+            let by_pass = done.by_pass;
+            let after = board.masks;
+            *steps = list;
+            *counts = by_pass;
+            *masks = after;
         }
     }
 }

@@ -37,11 +37,7 @@ fn of_values(number: u8, made: bool, reports: usize, sweeps: usize, removed: usi
 const NO_STEP: i64 = 20;
 
 // A list that was run, or why it was not.
-pub fn put_run(
-    replayed: Result<Board, ReplayError>,
-    lent: &mut [u16; 81],
-    answer: &mut [i64; 4],
-)
+pub fn put_run(replayed: Result<Board, ReplayError>, lent: &mut [u16; 81], answer: &mut [i64; 4])
     requires { RunFits (replaying replayed) }
     ensures { (answer.new ≡ ran_code (replaying replayed)) × (lent.new ≡ ran_masks (replaying replayed) lent.old) }
 {
@@ -49,8 +45,9 @@ pub fn put_run(
         Err(ReplayError::Refused(stop)) => *answer = codes::of_stop(stop, 0),
         Err(ReplayError::NoStep(index)) => *answer = [NO_STEP, index as i64, 0, 0],
         Ok(board) => {
+            let after = board.masks;
             *answer = codes::of_given(0, 0);
-            *lent = board.masks;
+            *lent = after;
         }
     }
 }

@@ -1,8 +1,6 @@
 -- The figure or the stop, coded.
-use mathlib.Core.Path.{sym, ap, subst, ◌∙◌}
-use borrow.Author.Rules.{rules}
+use mathlib.Core.Path.{sym, subst}
 use Rattle.board.specs.Boards.{handed}
-use Rattle.sudoku.specs.Ratings.{figure_code}
 use Rattle.sudoku.specs.code.Fitting.{FigureFits}
 use Rattle.sudoku.proofs.FigureParts.{figure-fits}
 use Rattle.sudoku.proofs.sudoku_difficulty.Goals as goal

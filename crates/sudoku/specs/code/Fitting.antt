@@ -4,16 +4,10 @@ use Rattle.std.specs.Int.{w64}
 use Rattle.std.proofs.Common.{SFits}
 use Rattle.stops.specs.Answer.{Answer, gives, stop}
 use Rattle.steps.specs.Difficulty.{Figure}
-use Rattle.passes.specs.declared.Counts.{Counts}
 
 abbrev pub Fitting : Answer ℤ → Type 0
 Fitting (gives z) = SFits w64 z
 Fitting (stop s) = Unit {0}
-
--- what settling counts
-abbrev pub CountsFit : Answer Counts → Type 0
-CountsFit (gives k) = SFits w64 (pos k.sweeps) × SFits w64 (pos k.removed)
-CountsFit (stop s) = Unit {0}
 
 -- a difficulty figure
 abbrev pub FigureFits : Answer Figure → Type 0

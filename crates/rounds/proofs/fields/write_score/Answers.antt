@@ -2,7 +2,8 @@
 use mathlib.Core.List.{[], ◌∷◌, ◌++◌}
 use Rattle.output.specs.Decimals.{decimal}
 use Rattle.output.proofs.Pens.{writes-joined}
-use Rattle.difficulty.specs.Ratings.{rating_answer}
+use Rattle.stops.specs.Answer.{answer_of, map}
+use Rattle.difficulty.specs.Ratings.{figure_in}
 use Rattle.card.specs.Cards.{verdict_word}
 use Rattle.rounds.specs.Rounds.{field, figure_bytes, check_bytes, score_bytes}
 use Rattle.rounds.proofs.fields.write_score.Goals as goal
@@ -17,7 +18,7 @@ returns c =
     let e = field (decimal card.sweeps) in
     let f = field (decimal card.removed) in
     let v = verdict_word card.verdict in
-    let g = figure_bytes (rating_answer c.args.rating) in
+    let g = figure_bytes (map figure_in (answer_of c.args.rating)) in
     let k = check_bytes c.args.check in
     let four = writes-joined (b ++ d ++ e) f p (writes-joined (b ++ d) e p (writes-joined b d p c.push_field.ensures c.push_field-2.ensures) c.push_field-3.ensures) c.push_field-4.ensures in
     let five = writes-joined (b ++ d ++ e ++ f) (field v) p four (writes-joined v (32 ∷ []) _ c.push_verdict.ensures c.push.ensures) in

@@ -2,11 +2,11 @@
 use mathlib.Core.Path.{◌≡◌, sym, ap, ap₂, subst, ◌∙◌}
 use mathlib.Core.List.{List}
 use Prim.Native.Nat.{ℕ, ◌≤◌}
-use Rattle.stops.specs.Answer.{Answer}
+use Rattle.stops.specs.Answer.{Answer, answer_of, map}
 use Rattle.steps.specs.Boards.{givens_of}
 use Rattle.steps.specs.Difficulty.{Figure, summed}
 use Rattle.steps.proofs.Check.{clues-givens}
-use Rattle.difficulty.specs.Ratings.{rating_answer}
+use Rattle.difficulty.specs.Ratings.{figure_in}
 use Rattle.difficulty.specs.code.Rates.{rating_by, rate_of}
 use Rattle.difficulty.proofs.Figures.{counts-few}
 use Rattle.output.specs.code.Tapes.{append}
@@ -26,7 +26,7 @@ unfolding tallied
 returns c =
     let a = c.args in
     let z = a.clues.now in
-    let rated : rating_answer c.rating_of-rating.result ≡ rate_of (givens_of z) = c.rating_of-rating.ensures ∙ ap₂ rating_by c.givens_of-givens.ensures c.score-card.ensures.1 in (
+    let rated : map figure_in (answer_of c.rating_of-rating.result) ≡ rate_of (givens_of z) = c.rating_of-rating.ensures ∙ ap₂ rating_by c.givens_of-givens.ensures c.score-card.ensures.1 in (
       c.write_score.ensures
           ∙ ap₂ (λ (k : Card) (f : Answer Figure). writes (append 256 (score_bytes k f a.check)) a.out.now) c.score-card.ensures.0 rated,
       c.tally_grid.ensures ∙ ap (λ (k : Card). check_tallied a.check (raised (verdict_place k.verdict) (raised 0 a.tally.now))) c.score-card.ensures.0,

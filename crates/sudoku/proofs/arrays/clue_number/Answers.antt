@@ -5,7 +5,6 @@ use lib.IntN.{pos}
 use Rattle.stops.proofs.Numbers.{small}
 use Rattle.steps.specs.Boards.{givens_of}
 use Rattle.sudoku.proofs.Fitting.{few-clues, place-fits}
-use borrow.Author.Rules.{rules}
 use Rattle.sudoku.proofs.arrays.clue_number.Goals as goal
 
 pub overflow_cast-result : goal.overflow_cast-result

@@ -1,9 +1,8 @@
 -- Each arm is the entry of the table at its number.
 use mathlib.Core.Path.{◌≡◌, ap, ◌∙◌}
 use mathlib.Core.Bool.{Bool}
-use Prim.Native.Nat.{ℕ, zero-le, ◌<◌, ◌^◌}
+use Prim.Native.Nat.{ℕ, ◌<◌, ◌^◌}
 use native.Mathlib.Omega.{arith}
-use borrow.Author.Rules.{rules}
 use lib.Count.{ones-le}
 use lib.IntN.{ℤ, pos}
 use mir.Facts.{to_z-of_z, to_z_pos}
@@ -15,7 +14,6 @@ use Rattle.candidates.specs.Sets.{single_of, contains_of, insert_of, inserted, r
 use Rattle.candidates.specs.declared.SingleCandidate.{SingleCandidate}
 use Rattle.sudoku.specs.Codes.{given, coded, test_number, no_number}
 use Rattle.sudoku.specs.Sets.{new_set, single_code}
-use Rattle.candidates.proofs.Tests.{past}
 use Rattle.sudoku.proofs.Calls.{called, not-called}
 use Rattle.sudoku.proofs.sets.set_call.Goals as goal
 

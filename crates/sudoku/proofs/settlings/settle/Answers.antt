@@ -1,24 +1,43 @@
--- Settling's answer, coded, the masks of the board that it leaves, and its steps and counts in what was lent.
-use mathlib.Core.Path.{sym, ap, subst, ◌∙◌}
+-- Settling's answer as numbers; its masks, steps and counts in what was lent.
+use mathlib.Core.Path.{sym, ap, ◌∙◌}
 use Prim.Native.Nat.{ℕ}
 use native.Mathlib.Omega.{arith}
 use borrow.Author.Rules.{rules}
 use lib.IntN.{pos}
+use mir.Facts.{to_z_pos}
 use mir.Syntax.{w64}
 use mir.Val.{SFits}
-use Rattle.stops.specs.Answer.{Answer}
+use Rattle.stops.specs.Answer.{value_or}
 use Rattle.steps.specs.Boards as S
 use Rattle.board.specs.Boards.{handed}
-use Rattle.passes.specs.declared.Counts.{Counts}
-use Rattle.sudoku.specs.code.Fitting.{CountsFit}
-use Rattle.sudoku.proofs.SettledParts.{counts-fit, steps-fit, settle-coded, settle-bytes, settle-counts}
+use Rattle.sudoku.proofs.Numbers.{four_same}
+use Rattle.sudoku.proofs.StepNumbers.{settling-fits, settled-put}
 use Rattle.sudoku.proofs.settlings.settle.Goals as goal
 
-pub of_settling-requires : goal.of_settling-requires
-of_settling-requires c =
+pub overflow_cast-answer : goal.overflow_cast-answer
+overflow_cast-answer c =
     let a = c.args in
-    let b = handed a.clues a.entries a.masks in
-    let hands = c.apply_settling-done.ensures in (
-      subst (λ (k : Answer Counts). CountsFit k) (sym hands.counts) (counts-fit b (omega arith) (omega arith) (omega arith)),
-      subst (λ (n : ℕ). SFits w64 (pos n)) (sym hands.step_count) (steps-fit b (omega arith) (omega arith) (omega arith)),
+    (settling-fits (handed a.clues.now a.entries.now a.masks.now) (omega arith) (omega arith) (omega arith) c.in-Ok.ensures).0
+
+pub overflow_cast-answer-in-Ok : goal.overflow_cast-answer-in-Ok
+overflow_cast-answer-in-Ok c =
+    let a = c.args in
+    (settling-fits (handed a.clues.now a.entries.now a.masks.now) (omega arith) (omega arith) (omega arith) c.in-Ok.ensures).1
+
+pub overflow_cast-answer-in-Ok-2 : goal.overflow_cast-answer-in-Ok-2
+overflow_cast-answer-in-Ok-2 c =
+    let a = c.args in
+    (settling-fits (handed a.clues.now a.entries.now a.masks.now) (omega arith) (omega arith) (omega arith) c.in-Ok.ensures).2
+
+pub returns-in-Ok : goal.returns-in-Ok
+returns-in-Ok c =
+    let a = c.args in
+    let b = handed a.clues.now a.entries.now a.masks.now in
+    let e = c.in-Ok.ensures in
+    let fits = settling-fits b (omega arith) (omega arith) (omega arith) e in (
+      ap (λ (b : S.Board). b.masks) e.board,
+      ap (value_or a.steps.now) e.steps,
+      ap (value_or a.counts.now) e.passes,
+      four_same refl (to_z_pos w64 fits.0.sfits) (to_z_pos w64 fits.1.sfits) (to_z_pos w64 fits.2.sfits)
+          ∙ settled-put b (omega arith) (omega arith) (omega arith) e,
     )
