@@ -45,7 +45,6 @@ ORDER = [
     ("steps/specs/DifficultyPromises", "the promise on the figure"),
     ("symmetries/specs/Changes", "document 02, F-13: changes of cells and digits, and the six kinds"),
     ("symmetries/specs/OtherClothes", "the promise on grids in other clothes"),
-    ("board/specs/Answers", "what the board's enums answer"),
     ("board/specs/Boards", "opener, accessors, verdict"),
     ("board/specs/Entering", "what entering and rubbing out hand back"),
     ("board/specs/Verdicts", "what a verdict says of the puzzle"),

@@ -4,11 +4,12 @@
 
 use board::entries::{enter, rub_out};
 use board::{Board, Verdict};
-use calls::{Stepping, step};
+use calls::{StepError, Stepped, step};
 use printing::{number, refusal, word};
 use record::{move_back, move_record, write_record};
 use std::io;
 use stops::Stop;
+use techniques::singles::Reports;
 
 fn end(rt: &impl Print) -> io::Result<()> {
     word(rt, b"\n")
@@ -98,19 +99,18 @@ fn flag(made: bool) -> u64 {
     0
 }
 
-fn progress(answer: Stepping) -> u64 {
+fn progress(answer: Result<Stepped, StepError>) -> u64 {
     match answer {
-        Stepping::Made(made) => flag(made),
-        Stepping::Refused(stop) => stops::number(stop) as u64,
-        Stepping::NoStep => 20,
+        Ok(done) => flag(done.made),
+        Err(StepError::Refused(stop)) => stops::number(stop) as u64,
+        Err(StepError::NoStep) => 20,
     }
 }
 
 // The step on the board; the board after it.
 fn take(rt: &impl Print, name: &[u8], which: u8, board: Board) -> io::Result<Board> {
-    let done = step(which, board);
-    let answer = done.answer;
-    let after = done.board;
+    let mut after = board;
+    let answer = step(which, &mut after);
     word(rt, name)?;
     number(rt, which as u64)?;
     number(rt, progress(answer))?;
@@ -127,11 +127,20 @@ fn passes(rt: &impl Print, name: &[u8], board: Board) -> io::Result<()> {
     Ok(())
 }
 
+// What a step hands back; where it is refused, no flag, no report and nothing counted.
+fn stepped(which: u8, board: &mut Board) -> Stepped {
+    step(which, board).unwrap_or(Stepped {
+        made: false,
+        reports: Reports::new(),
+        sweeps: 0,
+        removed: 0,
+    })
+}
+
 fn settle(rt: &impl Print, name: &[u8], board: Board) -> io::Result<()> {
-    let done = step(12, board);
-    let sweeps = done.sweeps;
-    let removed = done.removed;
-    line(rt, name, sweeps as u64, removed as u64)
+    let mut after = board;
+    let done = stepped(12, &mut after);
+    line(rt, name, done.sweeps as u64, done.removed as u64)
 }
 
 fn report(rt: &impl Print, cell: u8, digit: u8) -> io::Result<()> {
@@ -141,7 +150,8 @@ fn report(rt: &impl Print, cell: u8, digit: u8) -> io::Result<()> {
 
 // How many reports, and the first three.
 fn reports(rt: &impl Print, name: &[u8], which: u8, board: Board) -> io::Result<()> {
-    let done = step(which, board);
+    let mut after = board;
+    let done = stepped(which, &mut after);
     let found = done.reports;
     word(rt, name)?;
     number(rt, found.count as u64)?;
@@ -286,8 +296,9 @@ fn conflict(rt: &impl Print) -> io::Result<()> {
     open(rt, b"P11 open", clues_of(text))?;
     let board = fresh(text);
     row_masks(rt, b"P11 mask", board)?;
-    let done = step(12, board);
-    row_masks(rt, b"P11 settled", done.board)
+    let mut after = board;
+    stepped(12, &mut after);
+    row_masks(rt, b"P11 settled", after)
 }
 
 // No wide pass but Claiming removes anything, so that a sweep without it would stop at once.
