@@ -45,7 +45,7 @@ fn pair_sums(holders: &Cells<81>) -> [u16; 27]
     sums
 }
 
-// Row, column, box.
+// Row, column, box: as an array all three would be found at each call.
 fn own_unit(cell: usize, nth: usize) -> usize
     ensures { result ≡ own_unit cell nth }
 {

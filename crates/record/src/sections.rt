@@ -27,7 +27,8 @@ fn count_width(section: Section) -> usize
     }
 }
 
-// The entries of a cell's digits, rising, from `start` on; what is returned is the offset after them.
+// The entries of a cell's digits, rising, from `start` on; what is returned is the offset after them. The mask that is left is the counter: an iterator over
+// its digits would be these two calls again.
 fn put_cell(cell: usize, set: u16, bytes: &mut [u8; 1786], start: usize) -> usize
     requires { (cell < 81) × (start + 2 * length (cell_candidates cell set) ≤ 1786) }
     ensures { (bytes.new ≡ stored bytes.old start (entry_bytes (cell_candidates cell set))) × (result ≡ start + 2 * length (cell_candidates cell set)) }

@@ -37,7 +37,7 @@ fn of_cell_mask(found: Result<u16, Stop>) -> [i64; 4]
     }
 }
 
-// A question by its number.
+// A question by its number, which callers in C have.
 pub fn ask(question: u8, board: &Board, cell: u32) -> [i64; 4]
     ensures { result ≡ asked question (board_of board.now) cell }
 {

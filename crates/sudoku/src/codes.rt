@@ -10,12 +10,6 @@ ghost use Rattle.sudoku.specs.code.Fitting.{Fitting};
 use candidates::{SingleCandidate, SudokuCandidateSet};
 use stops::Stop;
 
-pub fn widened(number: i32) -> i64
-    ensures { result ≡ number }
-{
-    number as i64
-}
-
 pub fn of_test(yes: bool) -> i64
     ensures { result ≡ test_number yes }
 {
@@ -100,7 +94,7 @@ pub fn of_presence(presence: Result<bool, Stop>, mask: u16) -> [i64; 4]
 pub fn of_digit(digit: i32, beside: u8, mask: u16) -> [i64; 4]
     ensures { result ≡ four (pos 0) (pos beside) digit (pos mask) }
 {
-    [0, beside as i64, widened(digit), mask as i64]
+    [0, beside as i64, i64::from(digit), mask as i64]
 }
 
 // The value is 0 for empty and for several, which the number beside it tells apart.

@@ -1,4 +1,4 @@
-// The calls of the candidate set by number, and one step of an iterator.
+// The calls of the candidate set by their numbers, which callers in C have, and one step of an iterator.
 ghost use Rattle.std.specs.Prelude.{◌≡◌};
 ghost use Rattle.candidates.specs.Sets.{insert_of, contains_of, inserted, removed};
 ghost use Rattle.stops.specs.Answer.{map};

@@ -12,6 +12,7 @@ use cells::{open_mask, places_of, unit_masks};
 use grid::unit_cell;
 
 // The reported cells and digits, the first first, and how many; unused entries are 0. No call has more than 324.
+// A fixed buffer: the engine has no heap. Cells and digits stand apart, as the definition of the reports has them (specs/Reports).
 #[derive(Clone, Copy)]
 pub struct Reports {
     pub cells: [u8; 324],
