@@ -1,6 +1,6 @@
 // The calls, and what each answers on a mask, as a number.
 use crate::codes;
-use candidates::{NextCandidate, SudokuCandidateSet, digits, lent, masks};
+use candidates::{SudokuCandidateSet, digits, lent, masks};
 
 // A call with what it is handed beside the mask. `New`, `Full`, `Single`, `PlaceOf`, `DigitMask` and `DigitAt` take no mask.
 #[derive(Clone, Copy)]
@@ -34,19 +34,14 @@ pub enum Call {
 }
 
 fn set(mask: u16) -> SudokuCandidateSet {
-    SudokuCandidateSet { mask: mask }
+    SudokuCandidateSet { mask }
 }
 
 // The digits that `next` gives one after the other, folded: their codes are below 31, so no two lists are alike.
 fn digits_of(mask: u16) -> u64 {
-    let mut rest = set(mask).iter();
     let mut sum: u64 = 0;
-    for _ in 0u8..10 {
-        let NextCandidate::Digit(digit, after) = rest.next() else {
-            return sum;
-        };
+    for digit in set(mask).iter() {
         sum = codes::fold(sum, codes::of_digit(digit));
-        rest = after;
     }
     sum
 }
@@ -64,7 +59,7 @@ pub fn answer(call: Call, mask: u16) -> u64 {
         Call::IsEmpty => codes::of_test(set(mask).is_empty()),
         Call::SingleCandidate => codes::of_single(set(mask).single_candidate()),
         Call::Iter => digits_of(mask),
-        Call::PlaceOf(digit) => digits::place_of(digit) as u64,
+        Call::PlaceOf(digit) => codes::of_place(digits::place_of(digit)),
         Call::DigitAt(place) => codes::of_digit(digits::digit_at(place)),
         Call::HasDigit(place) => codes::of_test(masks::has_digit(mask, place)),
         Call::DigitMask(place) => masks::digit_mask(place) as u64,

@@ -2,8 +2,8 @@
 ghost use Rattle.std.specs.Prelude.{◌≤◌};
 
 use candidates::lent::{Inserted, Removed};
-use candidates::{NewSet, Presence, SingleCandidate};
-use stops::{Check, Stop};
+use candidates::{SingleCandidate, SudokuCandidateSet};
+use stops::Stop;
 
 // The largest prime below 2^56.
 const P: u64 = 72057594037927931;
@@ -47,26 +47,32 @@ fn of_stop(stop: Stop) -> u64
 }
 
 // No 0, yes 1.
-pub fn of_test(yes: bool) -> u64 {
+pub fn of_test(yes: bool) -> u64
+    ensures { result ≤ 1 }
+{
     if yes { 1 } else { 0 }
 }
 
+// A place; 9 for none.
+pub fn of_place(place: Option<usize>) -> u64 {
+    place.unwrap_or(9) as u64
+}
+
 // The mask; for a digit refused 65,536 more than its code.
-pub fn of_new(new: NewSet) -> u64 {
+pub fn of_new(new: Result<SudokuCandidateSet, Stop>) -> u64 {
     match new {
-        NewSet::Set(set) => set.mask as u64,
-        NewSet::Refused(stop) => of_stop(stop) + 65536,
+        Ok(set) => set.mask as u64,
+        Err(stop) => of_stop(stop) + 65536,
     }
 }
 
 // Absent 0, present 1; for a digit refused 2 more than its code.
-pub fn of_presence(presence: Presence) -> u64
+pub fn of_presence(presence: Result<bool, Stop>) -> u64
     ensures { result ≤ 4294967300 }
 {
     match presence {
-        Presence::Absent => 0,
-        Presence::Present => 1,
-        Presence::Refused(stop) => of_stop(stop) + 2,
+        Ok(present) => of_test(present),
+        Err(stop) => of_stop(stop) + 2,
     }
 }
 
@@ -80,22 +86,20 @@ pub fn of_single(single: SingleCandidate) -> u64 {
 }
 
 // Passed 0; for a digit refused 1 more than its code.
-pub fn of_check(check: Check) -> u64
+pub fn of_check(check: Result<(), Stop>) -> u64
     ensures { result ≤ 4294967299 }
 {
     match check {
-        Check::Passed => 0,
-        Check::Refused(stop) => of_stop(stop) + 1,
+        Ok(()) => 0,
+        Err(stop) => of_stop(stop) + 1,
     }
 }
 
 // 65,536 times the answer, and the mask.
 pub fn of_inserted(inserted: Inserted) -> u64 {
-    let answer = inserted.answer;
-    of_check(answer) * 65536 + inserted.mask as u64
+    of_check(inserted.answer) * 65536 + inserted.mask as u64
 }
 
 pub fn of_removed(removed: Removed) -> u64 {
-    let answer = removed.answer;
-    of_presence(answer) * 65536 + removed.mask as u64
+    of_presence(removed.answer) * 65536 + removed.mask as u64
 }

@@ -6,60 +6,43 @@
 // number, its flag, a checksum of the masks after it, and each report, its cell and its digit.
 #![tactic(auto)]
 
-use board::Board;
-use calls::Stepping;
+use board::{Board, count_clues};
+use calls::{StepError, step};
 use input::read_full;
 use printing::{mask_sum, number, refusal, word};
 use std::io;
-use stops::{Check, Stop};
+use stops::Stop;
 use techniques::singles::Reports;
 
-fn widened(byte: u8) -> u64 {
-    byte as u64
-}
-
-fn print_reports(rt: &impl Print, reports: Reports) -> io::Result<()> {
-    let cells = reports.cells;
-    let digits = reports.digits;
-    for report in 0..324 {
-        if report < reports.count {
-            number(rt, widened(cells[report]))?;
-            number(rt, widened(digits[report]))?;
-        }
+fn print_reports(rt: &impl Print, reports: &Reports) -> io::Result<()> {
+    let found = reports.cells.iter().zip(&reports.digits);
+    for (cell, digit) in found.take(reports.count) {
+        print!(rt; " {cell} {digit}")?;
     }
     Ok(())
 }
 
-// One step and its line; the board that it leaves.
-fn print_step(rt: &impl Print, step: u8, board: Board) -> io::Result<Board> {
-    let done = calls::step(step, board);
-    let stepping = done.answer;
-    let next = done.board;
-    let masks = next.masks;
-    print!(rt; "{step}")?;
-    match stepping {
-        Stepping::Made(made) => number(rt, made as u64)?,
-        Stepping::Refused(_) => word(rt, b" refused")?,
-        Stepping::NoStep => word(rt, b" no step")?,
+// One step on the board, and its line.
+fn print_step(rt: &impl Print, which: u8, board: &mut Board) -> io::Result<()> {
+    let answer = step(which, board);
+    let sum = mask_sum(&board.masks);
+    print!(rt; "{which}")?;
+    match answer {
+        Ok(done) => {
+            print!(rt; " {} {sum}", done.made as u64)?;
+            print_reports(rt, &done.reports)?;
+        }
+        Err(StepError::Refused(_)) => print!(rt; " refused {sum}")?,
+        Err(StepError::NoStep) => print!(rt; " no step {sum}")?,
     }
-    number(rt, mask_sum(&masks))?;
-    print_reports(rt, done.reports)?;
-    word(rt, b"\n")?;
-    Ok(next)
+    word(rt, b"\n")
 }
 
-fn step_at(rt: &impl Print, byte: u8, board: Board) -> io::Result<Board> {
-    if byte < b'0' {
-        return Ok(board);
-    }
-    print_step(rt, byte - b'0', board)
-}
-
-fn print_list(rt: &impl Print, line: &[u8; 94], opened: Board) -> io::Result<()> {
-    let mut board = opened;
-    for at in 82..93 {
-        let next = step_at(rt, line[at], board)?;
-        board = next;
+fn print_list(rt: &impl Print, steps: &[u8], board: &mut Board) -> io::Result<()> {
+    for byte in steps {
+        if b'0' <= *byte {
+            print_step(rt, *byte - b'0', board)?;
+        }
     }
     Ok(())
 }
@@ -67,57 +50,49 @@ fn print_list(rt: &impl Print, line: &[u8; 94], opened: Board) -> io::Result<()>
 fn refused(rt: &impl Print, stop: Stop) -> io::Result<()> {
     word(rt, b"refused")?;
     refusal(rt, stop)?;
-    word(rt, b"\n")?;
-    Ok(())
+    word(rt, b"\n")
 }
 
-fn print_opened(rt: &impl Print, line: &[u8; 94], clues: [i32; 81]) -> io::Result<()> {
-    let opened = Board::new(clues);
-    let opening = opened.answer;
-    let board = opened.board;
-    let masks = board.masks;
-    match opening {
-        Check::Refused(stop) => refused(rt, stop)?,
-        Check::Passed => {
-            word(rt, b"open")?;
-            number(rt, board::count_clues(&clues) as u64)?;
-            number(rt, mask_sum(&masks))?;
-            word(rt, b"\n")?;
-            print_list(rt, line, board)?;
+fn print_opened(rt: &impl Print, board: &Board) -> io::Result<()> {
+    word(rt, b"open")?;
+    number(rt, count_clues(&board.clues) as u64)?;
+    number(rt, mask_sum(&board.masks))?;
+    word(rt, b"\n")
+}
+
+fn opened(grid: &[u8]) -> Result<Board, Stop> {
+    Board::new(text::parse_string(grid)?)
+}
+
+fn print_case(rt: &impl Print, line: &[u8; 94]) -> io::Result<()> {
+    let grid = &line[..81];
+    word(rt, grid)?;
+    word(rt, b"\n")?;
+    match opened(grid) {
+        Err(stop) => refused(rt, stop),
+        Ok(mut board) => {
+            print_opened(rt, &board)?;
+            print_list(rt, &line[82..93], &mut board)
         }
     }
-    Ok(())
-}
-
-fn print_case(rt: &impl Print, line: [u8; 94]) -> io::Result<()> {
-    word(rt, &line[..81])?;
-    word(rt, b"\n")?;
-    let parsed = text::parse_string(&line[..81]);
-    let parsing = parsed.answer;
-    let clues = parsed.clues;
-    match parsing {
-        Check::Refused(stop) => refused(rt, stop)?,
-        Check::Passed => print_opened(rt, &line, clues)?,
-    }
-    Ok(())
 }
 
 // Whether there was a case to read.
 fn next_case(rt: &(impl Input + Print)) -> io::Result<bool> {
     let mut line = [0u8; 94];
-    let got = read_full(rt, &mut line);
-    if got < 94 {
+    if read_full(rt, &mut line) < 94 {
         return Ok(false);
     }
-    print_case(rt, line)?;
+    print_case(rt, &line)?;
     Ok(true)
 }
 
 // At most so many cases.
 fn main(rt: HostRuntime) -> io::Result<()> {
-    let mut left: usize = 1000;
-    while 0 < left && next_case(&rt)? {
-        left -= 1;
+    for _ in 0..1000 {
+        if !next_case(&rt)? {
+            break;
+        }
     }
     Ok(())
 }

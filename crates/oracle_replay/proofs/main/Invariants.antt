@@ -1,5 +1,0 @@
--- The loop's measure.
-use Rattle.oracle_replay.proofs.main.Given as goal
-
-abbrev pub decreases-loop-left : goal.decreases-loop-left
-decreases-loop-left l = l.left
