@@ -27,7 +27,7 @@ use Rattle.cells.proofs.Meetings.{three-boxes, six-lines, met-below}
 use Rattle.cells.proofs.Places.{all-mask}
 use Rattle.cells.proofs.NineBits.{place_is, not-held, held-meet}
 use Rattle.cells.proofs.Shared.{joined_at_lem, at_joined}
-use Rattle.lanes.specs.code.Lanes.{laid, doors_of, lane_at, lane_masks, InLanes, Alike, lane_of}
+use Rattle.lanes.specs.code.Lanes.{laid, doors_of, lane_at, lane_masks, Alike, lane_of}
 use Rattle.lanes.proofs.LaneUnits.{lane-reads, lane-holds}
 use Rattle.locked.specs.code.Locked.{locked_unit, DigitSkips, BoxesOrLines}
 use Rattle.locked.specs.code.Rests.{loose_masks, rest_of, put_rests, Rests, renewed, due_on, due_three, row_due, col_due, box_due, unit_due, NoneDue}
@@ -288,9 +288,9 @@ none_before g m {r} {boxes} kinds w none u from before to =
     low true e = ltb-false u 18 e
     low false e = omega arith
 
-pub first-skips : (g m l : List ℕ) {q p r : List ℕ} {boxes : Bool} {first end s : ℕ} (kinds : BoxesOrLines first end boxes) → InLanes g m q p → r ≡ put_rests p q boxes (replicate 288 0) → NoneDue r (cond boxes 18 0) s
+pub first-skips : (g m l : List ℕ) {q p r : List ℕ} {boxes : Bool} {first end s : ℕ} (kinds : BoxesOrLines first end boxes) → q ≡ laid (doors_of g) → p ≡ laid m → r ≡ put_rests p q boxes (replicate 288 0) → NoneDue r (cond boxes 18 0) s
     → (first ≤ s) × Outs g m boxes r × Left g first end kinds.most m l s
-first-skips g m l {q} {p} {r} {boxes} {first} {end} {s} kinds in-lanes put none =
-    let table = rests-laid g m in-lanes.doors in-lanes.masks (rests-read p q boxes (replicate 288 0) refl put) in
+first-skips g m l {q} {p} {r} {boxes} {first} {end} {s} kinds doors masks put none =
+    let table = rests-laid g m doors masks (rests-read p q boxes (replicate 288 0) refl put) in
     let rise : first ≤ s = omega (arith, kinds.low, none.from) in
     (rise, outs-laid g m r boxes table, units-past g first end kinds.most m l s rise (none_before g m kinds table none))

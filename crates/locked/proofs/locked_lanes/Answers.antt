@@ -13,36 +13,35 @@ use Rattle.locked.proofs.locked_lanes.Goals as goal
 pub returns-then-end-start : goal.returns-then-end-start
 returns-then-end-start c =
     let a = c.args in
-    let g = a.givens.now in
+    let g = a.givens.now.cells in
     let s = c.first_due-start.result in
-    let left = (first-skips g a.masks.now a.log.now c.requires.1 c.requires.0 c.put_rests.ensures c.first_due-start.ensures).2 in record {
+    let left = (first-skips g a.laid.now.masks a.log.now c.requires a.givens.now.in_lanes a.laid.now.in_lanes c.put_rests.ensures c.first_due-start.ensures).2 in record {
       masks_after = turns-over (locked_unit g) a.end s c.if-end-start.true left.0;
-      lanes_after = c.requires.0.masks;
-      log_after = log-over g unit_instances a.end s a.masks.now a.log.now c.if-end-start.true left.1;
+      log_after = log-over g unit_instances a.end s a.laid.now.masks a.log.now c.if-end-start.true left.1;
     }
 
 pub loop-unit-init : goal.loop-unit-init
 loop-unit-init c =
     let a = c.args in
-    let w = first-skips a.givens.now a.masks.now a.log.now c.requires.1 c.requires.0 c.put_rests.ensures c.first_due-start.ensures in
+    let w = first-skips a.givens.now.cells a.laid.now.masks a.log.now c.requires a.givens.now.in_lanes a.laid.now.in_lanes c.put_rests.ensures c.first_due-start.ensures in
     (w.0, w.2.0, w.1, w.2.1)
 
 pub locked_unit-requires : goal.locked_unit-requires
 locked_unit-requires c =
     let l = c.loop-unit in (
-      omega (arith, c.requires.1.most),
+      omega (arith, c.requires.most),
       c.all_masks-nine.ensures,
-      (now-skips c.args.givens.now l.masks l.unit c.requires.1 l.invariant.0 (omega arith) l.invariant.2 c.all_masks-nine.ensures c.due_now-due.ensures.rests_after c.due_now-due.ensures.value).1,
+      (now-skips c.args.givens.now.cells l.masks l.unit c.requires l.invariant.0 (omega arith) l.invariant.2 c.all_masks-nine.ensures c.due_now-due.ensures.rests_after c.due_now-due.ensures.value).1,
     )
 
 pub loop-unit-preserved : goal.loop-unit-preserved
 loop-unit-preserved c =
     let l = c.loop-unit in
     let a = c.args in
-    let g = a.givens.now in
+    let g = a.givens.now.cells in
     let turn = locked_unit g in
-    let same = unit-each g l.unit (omega (arith, c.requires.1.most)) l.masks in
-    let now = now-skips g l.masks l.unit c.requires.1 l.invariant.0 (omega arith) l.invariant.2 c.all_masks-nine.ensures c.due_now-due.ensures.rests_after c.due_now-due.ensures.value in
+    let same = unit-each g l.unit (omega (arith, c.requires.most)) l.masks in
+    let now = now-skips g l.masks l.unit c.requires l.invariant.0 (omega arith) l.invariant.2 c.all_masks-nine.ensures c.due_now-due.ensures.rests_after c.due_now-due.ensures.value in
     elim c.if-due-ne0.branch [
       | then-due-ne0 w ↦
           let done = w.masks-is ∙ w.locked_unit.ensures.masks_after in (
@@ -64,7 +63,6 @@ pub returns : goal.returns
 returns c =
     let l = c.loop-unit in
     let a = c.args in record {
-      masks_after = turns-over (locked_unit a.givens.now) a.end l.unit c.loop-unit-test.false l.invariant.1;
-      lanes_after = c.lay.ensures;
-      log_after = log-over a.givens.now unit_instances a.end l.unit l.masks l.log c.loop-unit-test.false l.invariant.3;
+      masks_after = turns-over (locked_unit a.givens.now.cells) a.end l.unit c.loop-unit-test.false l.invariant.1;
+      log_after = log-over a.givens.now.cells unit_instances a.end l.unit l.masks l.log c.loop-unit-test.false l.invariant.3;
     }

@@ -9,5 +9,5 @@ use Rattle.locked.proofs.locked_lanes.Given as goal
 
 abbrev pub invariant-loop-unit : goal.invariant-loop-unit
 invariant-loop-unit l =
-    (l.first ≤ l.unit) × (each (locked_unit l.givens) (range (l.end - l.unit) l.unit) l.masks ≡ each (locked_unit l.givens) (range (l.end - l.first) l.first) l.initial.masks) × Outs l.givens l.masks l.boxes l.rests
-    × (log_after l.givens (for (range (l.end - l.unit) l.unit) unit_instances) l.masks l.log ≡ log_after l.givens (for (range (l.end - l.first) l.first) unit_instances) l.initial.masks l.initial.log)
+    (l.first ≤ l.unit) × (each (locked_unit l.givens.cells) (range (l.end - l.unit) l.unit) l.masks ≡ each (locked_unit l.givens.cells) (range (l.end - l.first) l.first) l.initial.masks) × Outs l.givens.cells l.masks l.boxes l.rests
+    × (log_after l.givens.cells (for (range (l.end - l.unit) l.unit) unit_instances) l.masks l.log ≡ log_after l.givens.cells (for (range (l.end - l.first) l.first) unit_instances) l.initial.masks l.initial.log)

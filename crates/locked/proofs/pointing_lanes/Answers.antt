@@ -10,7 +10,6 @@ pub returns : goal.returns
 returns c =
     let a = c.args in
     let done = c.locked_lanes.ensures in record {
-      masks_after = done.masks_after ∙ pointing-pass a.givens.now a.masks.now;
-      lanes_after = done.lanes_after;
-      log_after = done.log_after ∙ ap (λ (xs : List Instance). log_after a.givens.now xs a.masks.now a.log.now) pointings-are;
+      masks_after = done.masks_after ∙ pointing-pass a.givens.now.cells a.laid.now.masks;
+      log_after = done.log_after ∙ ap (λ (xs : List Instance). log_after a.givens.now.cells xs a.laid.now.masks a.log.now) pointings-are;
     }
