@@ -12,7 +12,7 @@ pub returns-then-join_sets-eq0 : goal.returns-then-join_sets-eq0
 unfolding place_family
 returns-then-join_sets-eq0 c =
     let spares : PlaceSpares c.args.givens.now.cells c.args.laid.now.masks c.args.family c.due_lanes-due.result = (
-    place-spared c.args.givens.now.cells c.args.laid.now.masks c.args.family c.requires record { doors = c.args.givens.now.in_lanes; masks = c.args.laid.now.in_lanes } c.loose-free.ensures c.due_lanes-due.ensures
+    place-spared c.args.givens.now.cells c.args.laid.now.masks c.args.family c.requires c.args.givens.now.in_lanes c.args.laid.now.in_lanes c.loose-free.ensures c.due_lanes-due.ensures
     ) in
     let a = c.args in
     let idle = skips-idle (place-parted a.givens.now.cells a.family c.requires) (spares-skips (spares)) (sym c.join_sets.ensures ∙ c.if-join_sets-eq0.true) in record {
@@ -23,6 +23,6 @@ returns-then-join_sets-eq0 c =
 pub place_due-requires : goal.place_due-requires
 place_due-requires c =
     let spares : PlaceSpares c.args.givens.now.cells c.args.laid.now.masks c.args.family c.due_lanes-due.result = (
-    place-spared c.args.givens.now.cells c.args.laid.now.masks c.args.family c.requires record { doors = c.args.givens.now.in_lanes; masks = c.args.laid.now.in_lanes } c.loose-free.ensures c.due_lanes-due.ensures
+    place-spared c.args.givens.now.cells c.args.laid.now.masks c.args.family c.requires c.args.givens.now.in_lanes c.args.laid.now.in_lanes c.loose-free.ensures c.due_lanes-due.ensures
     ) in
     (c.requires, spares)
