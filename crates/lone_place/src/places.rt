@@ -4,7 +4,7 @@ ghost use Rattle.candidates.specs.Masks.{minus, single};
 ghost use Rattle.steps.specs.Instances as named;
 ghost use Rattle.steps.specs.Passes.{instances, instance_taken, pass, Place};
 ghost use Rattle.steps.specs.code.Logs.{log_after};
-ghost use Rattle.cells.specs.code.Places.{spots_in, held_places};
+ghost use Rattle.cells.specs.code.Places.{held_places};
 ghost use Rattle.lone_place.specs.code.Turns.{place_digit, place_unit, digit_places, unit_places, family_places};
 ghost use Rattle.lanes.specs.code.Lanes.{lane_masks, lane_of};
 ghost use Rattle.lone_place.specs.code.Due.{turns_of, due_of, place_due, place_sets, place_family, Spares, PlaceSpares};
@@ -46,11 +46,11 @@ fn unit_lane(lanes: &[u16; 432], unit: usize) -> [u16; 9]
 }
 
 // The places of a unit that hold the digit.
-fn held_in(lanes: &[u16; 432], unit: usize, digit: usize) -> u16
-    requires { unit < 27 }
-    ensures { result ≡ spots_in (lane_masks lanes.now (lane_of unit)) digit }
+fn held_in(laid: &LaidMasks, unit: usize, digit: usize) -> u16
+    requires { (unit < 27) × (digit < 9) }
+    ensures { result ≡ held_places laid.now.masks unit digit }
 {
-    let nine = unit_lane(lanes, unit);
+    let nine = unit_lane(&laid.lanes, unit);
     places_of(&nine, digit)
 }
 
@@ -74,7 +74,7 @@ fn place_digit(givens: &[u8; 81], laid: &mut LaidMasks, log: &mut [u8], unit: us
     ensures masks_after { laid.new.masks ≡ place_digit givens.now unit digit laid.old.masks }
     ensures log_after { log.new ≡ log_after givens.now (digit_places unit digit) laid.old.masks log.old }
 {
-    let mut left = turns_of(held_in(&laid.lanes, unit, digit));
+    let mut left = turns_of(held_in(laid, unit, digit));
     // The mask that is left is the counter: an iterator over its places would be these two calls again.
     while left != 0 {
         place_at(givens, laid, log, unit, digit, masks::lowest_digit(left));

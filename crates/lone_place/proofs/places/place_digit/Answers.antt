@@ -1,5 +1,5 @@
-use mathlib.Core.Path.{◌≡◌, ap, ◌∙◌}
-use mathlib.Core.List.{List, [], ◌∷◌}
+use mathlib.Core.Path.{ap, ◌∙◌}
+use mathlib.Core.List.{[], ◌∷◌}
 use Prim.Native.Nat.{ℕ, ◌<◌}
 use native.Mathlib.Omega.{arith}
 use Rattle.candidates.specs.Masks.{minus, count, single, lowest}
@@ -8,32 +8,22 @@ use Rattle.candidates.proofs.FewDigits.{lowest-in}
 use Rattle.steps.specs.Instances as named
 use Rattle.steps.specs.Passes.{instance_taken}
 use Rattle.steps.specs.code.Logs.{log_after}
-use Rattle.cells.specs.code.Places.{spots_in, held_places}
+use Rattle.cells.specs.code.Places.{held_places}
 use Rattle.cells.proofs.HeldPlaces.{held_small}
 use Rattle.cells.proofs.Rising.{lowest-place}
-use Rattle.lanes.specs.code.Lanes.{lane_masks, lane_of}
 use Rattle.lone_place.specs.code.Due.{turns_of}
 use Rattle.lone_place.proofs.PlaceSets.{turning-start, turning-on, turning-end}
-use Rattle.lone_place.proofs.UnitLanes.{lane-spots}
 use Rattle.lone_place.proofs.places.place_digit.Goals as goal
 
 pub turns_of-left-requires : goal.turns_of-left-requires
 turns_of-left-requires c =
-    let held : let a = c.args in c.held_in.result ≡ held_places a.laid.now.masks a.unit a.digit = (
     let a = c.args in
-    c.held_in.ensures ∙ ap (λ (p : List ℕ). spots_in (lane_masks p (lane_of a.unit)) a.digit) c.args.laid.now.in_lanes ∙ lane-spots a.laid.now.masks a.unit c.requires.0 a.digit c.requires.1
-    ) in
-    let a = c.args in
-    omega (arith, held, held_small a.laid.now.masks a.unit a.digit)
+    omega (arith, c.held_in.ensures, held_small a.laid.now.masks a.unit a.digit)
 
 pub loop-left-init : goal.loop-left-init
 loop-left-init c =
-    let held : let a = c.args in c.held_in.result ≡ held_places a.laid.now.masks a.unit a.digit = (
     let a = c.args in
-    c.held_in.ensures ∙ ap (λ (p : List ℕ). spots_in (lane_masks p (lane_of a.unit)) a.digit) c.args.laid.now.in_lanes ∙ lane-spots a.laid.now.masks a.unit c.requires.0 a.digit c.requires.1
-    ) in
-    let a = c.args in
-    turning-start a.givens.now a.unit a.digit c.requires.0 c.requires.1 a.laid.now.masks a.log.now (c.turns_of-left.ensures ∙ ap turns_of (held))
+    turning-start a.givens.now a.unit a.digit c.requires.0 c.requires.1 a.laid.now.masks a.log.now (c.turns_of-left.ensures ∙ ap turns_of c.held_in.ensures)
 
 pub place_at-requires : goal.place_at-requires
 place_at-requires c =
