@@ -11,19 +11,18 @@ use Rattle.lone_place.proofs.places.place_family.Goals as goal
 pub returns-then-join_sets-eq0 : goal.returns-then-join_sets-eq0
 unfolding place_family
 returns-then-join_sets-eq0 c =
-    let spares : PlaceSpares c.args.givens.now c.args.masks.now c.args.family c.due_lanes-due.result = (
-    place-spared c.args.givens.now c.args.masks.now c.args.family c.requires.0 c.requires.1 c.loose-free.ensures c.due_lanes-due.ensures
+    let spares : PlaceSpares c.args.givens.now.cells c.args.laid.now.masks c.args.family c.due_lanes-due.result = (
+    place-spared c.args.givens.now.cells c.args.laid.now.masks c.args.family c.requires c.args.givens.now.in_lanes c.args.laid.now.in_lanes c.loose-free.ensures c.due_lanes-due.ensures
     ) in
     let a = c.args in
-    let idle = skips-idle (place-parted a.givens.now a.family c.requires.0) (spares-skips (spares)) (sym c.join_sets.ensures ∙ c.if-join_sets-eq0.true) in record {
+    let idle = skips-idle (place-parted a.givens.now.cells a.family c.requires) (spares-skips (spares)) (sym c.join_sets.ensures ∙ c.if-join_sets-eq0.true) in record {
       masks_after = sym idle;
-      lanes_after = c.requires.1.masks;
-      log_after = sym (log-idle a.givens.now (family_places a.family) a.masks.now a.log.now (sym (place-family a.givens.now a.family a.masks.now) ∙ idle));
+      log_after = sym (log-idle a.givens.now.cells (family_places a.family) a.laid.now.masks a.log.now (sym (place-family a.givens.now.cells a.family a.laid.now.masks) ∙ idle));
     }
 
 pub place_due-requires : goal.place_due-requires
 place_due-requires c =
-    let spares : PlaceSpares c.args.givens.now c.args.masks.now c.args.family c.due_lanes-due.result = (
-    place-spared c.args.givens.now c.args.masks.now c.args.family c.requires.0 c.requires.1 c.loose-free.ensures c.due_lanes-due.ensures
+    let spares : PlaceSpares c.args.givens.now.cells c.args.laid.now.masks c.args.family c.due_lanes-due.result = (
+    place-spared c.args.givens.now.cells c.args.laid.now.masks c.args.family c.requires c.args.givens.now.in_lanes c.args.laid.now.in_lanes c.loose-free.ensures c.due_lanes-due.ensures
     ) in
-    (c.requires.0, spares, c.requires.1.masks)
+    (c.requires, spares)
