@@ -49,14 +49,6 @@ pub fn lay(masks: &[u16; 81], lanes: &mut [u16; 432])
     }
 }
 
-fn lanes_of(masks: &[u16; 81]) -> [u16; 432]
-    ensures { result ≡ laid masks.now }
-{
-    let mut lanes = [0u16; 432];
-    lay(masks, &mut lanes);
-    lanes
-}
-
 // Masks, and the lanes in which they stand.
 #[derive(Drop)]
 pub struct LaidMasks {
@@ -69,10 +61,12 @@ impl LaidMasks {
     pub fn of(masks: &[u16; 81]) -> LaidMasks
         ensures { result.masks ≡ masks.now }
     {
-        LaidMasks {
+        let mut laid = LaidMasks {
             masks: *masks,
-            lanes: lanes_of(masks),
-        }
+            lanes: [0; 432],
+        };
+        lay(masks, &mut laid.lanes);
+        laid
     }
 }
 
@@ -111,10 +105,12 @@ impl LaidGivens {
     pub fn of(givens: &[u8; 81]) -> LaidGivens
         ensures { result.cells ≡ givens.now }
     {
-        LaidGivens {
+        let mut laid = LaidGivens {
             cells: *givens,
-            doors: lanes_of(&doors(givens)),
-        }
+            doors: [0; 432],
+        };
+        lay(&doors(givens), &mut laid.doors);
+        laid
     }
 }
 
