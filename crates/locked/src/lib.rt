@@ -2,14 +2,14 @@
 // Both are one step over a unit and those that meet it: Pointing a box and its six lines, Claiming a line and its three boxes.
 #![tactic(auto)]
 
-ghost use Rattle.std.specs.Prelude.{◌≡◌, [], ◌∷◌, ◌-◌, ◌<◌};
-ghost use Rattle.steps.specs.Loops.{each, for, range};
+ghost use Rattle.std.specs.Prelude.{◌≡◌, cond, [], ◌∷◌, ◌<◌};
+ghost use Rattle.steps.specs.Loops.{each, for};
 ghost use Rattle.steps.specs.Passes.{pass, instances, Pointing, Claiming};
 ghost use Rattle.steps.specs.StepLists.{step_bytes};
 ghost use Rattle.steps.specs.code.Logs.{noted, log_after};
 ghost use Rattle.cells.specs.code.Meets.{meetings, meet_turn};
 ghost use Rattle.cells.specs.code.Places.{all_masks, held_places};
-ghost use Rattle.locked.specs.code.Locked.{met_instance, digit_instances, unit_instances, locked_digit, locked_unit, DigitSkips, BoxesOrLines};
+ghost use Rattle.locked.specs.code.Locked.{met_instance, digit_instances, unit_instances, locked_digit, locked_unit, units_of, DigitSkips};
 
 mod rests;
 
@@ -89,22 +89,25 @@ fn locked_unit(
     }
 }
 
-// The instances of the units from the first to before the end, which are boxes or lines. Those before the first of which anything is due are passed over; from there on each is asked anew, since a loss at one may make others due.
-fn locked_lanes(
-    givens: &LaidGivens,
-    laid: &mut LaidMasks,
-    log: &mut [u8],
-    first: usize,
-    end: usize,
-    boxes: bool,
-)
-    requires { BoxesOrLines first end boxes }
-    ensures masks_after { laid.new.masks ≡ each (locked_unit givens.now.cells) (range (end - first) first) laid.old.masks }
-    ensures log_after { log.new ≡ log_after givens.now.cells (for (range (end - first) first) unit_instances) laid.old.masks log.old }
+// The unit after the boxes, or after the lines.
+fn end_of(boxes: bool) -> usize
+    ensures { result ≡ cond boxes 27 18 }
+{
+    if boxes {
+        return 27;
+    }
+    18
+}
+
+// The instances of the boxes, or of the lines. The units before the first of which anything is due are passed over; from there on each is asked anew, since a loss at one may make others due.
+fn locked_lanes(givens: &LaidGivens, laid: &mut LaidMasks, log: &mut [u8], boxes: bool)
+    ensures masks_after { laid.new.masks ≡ each (locked_unit givens.now.cells) (units_of boxes) laid.old.masks }
+    ensures log_after { log.new ≡ log_after givens.now.cells (for (units_of boxes) unit_instances) laid.old.masks log.old }
 {
     let mut rests = [0u16; 288];
     rests::put_rests(&laid.lanes, &givens.doors, &mut rests, boxes);
     let start = rests::first_due(&rests, boxes);
+    let end = end_of(boxes);
     if end <= start {
         return;
     }
@@ -124,7 +127,7 @@ pub fn pointing_lanes(givens: &LaidGivens, laid: &mut LaidMasks, log: &mut [u8])
     ensures masks_after { laid.new.masks ≡ pass givens.now.cells Pointing laid.old.masks }
     ensures log_after { log.new ≡ log_after givens.now.cells (instances Pointing) laid.old.masks log.old }
 {
-    locked_lanes(givens, laid, log, 18, 27, true);
+    locked_lanes(givens, laid, log, true);
 }
 
 // Claiming, likewise.
@@ -132,7 +135,7 @@ pub fn claiming_lanes(givens: &LaidGivens, laid: &mut LaidMasks, log: &mut [u8])
     ensures masks_after { laid.new.masks ≡ pass givens.now.cells Claiming laid.old.masks }
     ensures log_after { log.new ≡ log_after givens.now.cells (instances Claiming) laid.old.masks log.old }
 {
-    locked_lanes(givens, laid, log, 0, 18, false);
+    locked_lanes(givens, laid, log, false);
 }
 
 // Pointing: all cells of a box that hold d are on one line: the line's cells outside the box lose d.

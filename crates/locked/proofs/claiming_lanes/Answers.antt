@@ -3,10 +3,12 @@ use mathlib.Core.Path.{ap, ◌∙◌}
 use mathlib.Core.List.{List}
 use Rattle.steps.specs.Instances.{Instance}
 use Rattle.steps.specs.code.Logs.{log_after}
+use Rattle.locked.specs.code.Locked.{units_of}
 use Rattle.locked.proofs.LockedTurns.{claimings-are, claiming-pass}
 use Rattle.locked.proofs.claiming_lanes.Goals as goal
 
 pub returns : goal.returns
+unfolding units_of
 returns c =
     let a = c.args in
     let done = c.locked_lanes.ensures in record {
