@@ -49,12 +49,25 @@ pub fn lay(masks: &[u16; 81], lanes: &mut [u16; 432])
     }
 }
 
-pub fn lanes_of(masks: &[u16; 81]) -> [u16; 432]
-    ensures { result ≡ laid masks.now }
-{
-    let mut lanes = [0u16; 432];
-    lay(masks, &mut lanes);
-    lanes
+// Masks, and the lanes in which they stand.
+#[derive(Drop)]
+pub struct LaidMasks {
+    pub masks: [u16; 81],
+    pub lanes: [u16; 432],
+    pub ghost in_lanes: { lanes ≡ laid masks },
+}
+
+impl LaidMasks {
+    pub fn of(masks: &[u16; 81]) -> LaidMasks
+        ensures { result.masks ≡ masks.now }
+    {
+        let mut laid = LaidMasks {
+            masks: *masks,
+            lanes: [0; 432],
+        };
+        lay(masks, &mut laid.lanes);
+        laid
+    }
 }
 
 // The nine masks of a lane.
@@ -70,7 +83,7 @@ pub fn lane_masks(lanes: &[u16; 432], lane: usize) -> [u16; 9]
 }
 
 // All digits where the cell is open, none where it is not.
-pub fn doors(givens: &[u8; 81]) -> [u16; 81]
+fn doors(givens: &[u8; 81]) -> [u16; 81]
     ensures { result ≡ doors_of givens.now }
 {
     let mut all = [0u16; 81];
@@ -78,6 +91,27 @@ pub fn doors(givens: &[u8; 81]) -> [u16; 81]
         all[cell] = door(*given);
     }
     all
+}
+
+// The givens of a board, and the lanes in which their doors stand.
+#[derive(Drop)]
+pub struct LaidGivens {
+    pub cells: [u8; 81],
+    pub doors: [u16; 432],
+    pub ghost in_lanes: { doors ≡ laid (doors_of cells) },
+}
+
+impl LaidGivens {
+    pub fn of(givens: &[u8; 81]) -> LaidGivens
+        ensures { result.cells ≡ givens.now }
+    {
+        let mut laid = LaidGivens {
+            cells: *givens,
+            doors: [0; 432],
+        };
+        lay(&doors(givens), &mut laid.doors);
+        laid
+    }
 }
 
 // What the open cells of a lane hold; `doors` are those of the givens, in lanes.

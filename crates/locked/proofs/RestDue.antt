@@ -18,7 +18,8 @@ use Rattle.grid.specs.Units.{unit_cell}
 use Rattle.grid.proofs.Lists.{at-up_to}
 use Rattle.grid.proofs.Units.{cell_below}
 use Rattle.steps.specs.Boards.{at, is_open, Under}
-use Rattle.steps.specs.Loops.{up_to}
+use Rattle.steps.specs.Loops.{each, for, range, up_to}
+use Rattle.steps.specs.code.Logs.{log_after}
 use Rattle.steps.proofs.Loops.{in-up_to, each-idle}
 use Rattle.cells.specs.code.Places.{all_masks, lose_places, held_places}
 use Rattle.cells.specs.code.Meets.{meetings, met_places, met_back, outside, box_unit, line_unit, met_unit, meet_turn, meet_turns}
@@ -27,11 +28,11 @@ use Rattle.cells.proofs.Meetings.{three-boxes, six-lines, met-below}
 use Rattle.cells.proofs.Places.{all-mask}
 use Rattle.cells.proofs.NineBits.{place_is, not-held, held-meet}
 use Rattle.cells.proofs.Shared.{joined_at_lem, at_joined}
-use Rattle.lanes.specs.code.Lanes.{laid, doors_of, lane_at, lane_masks, InLanes, Alike, lane_of}
+use Rattle.lanes.specs.code.Lanes.{laid, doors_of, lane_at, lane_masks, Alike, lane_of}
 use Rattle.lanes.proofs.LaneUnits.{lane-reads, lane-holds}
-use Rattle.locked.specs.code.Locked.{locked_unit, DigitSkips, BoxesOrLines}
+use Rattle.locked.specs.code.Locked.{unit_instances, locked_unit, units_of, DigitSkips}
 use Rattle.locked.specs.code.Rests.{loose_masks, rest_of, put_rests, Rests, renewed, due_on, due_three, row_due, col_due, box_due, unit_due, NoneDue}
-use Rattle.locked.proofs.LockedTurns.{locked-digit, Left, units-past}
+use Rattle.locked.proofs.LockedTurns.{locked-digit, units-past}
 use Rattle.locked.proofs.LockedDue.{places-idle, none-due}
 use Rattle.locked.proofs.RestTable.{rests-read, renewed-size, renewed-own, renewed-other}
 
@@ -269,28 +270,43 @@ module _ (g m r : List ℕ) (boxes : Bool) (u : ℕ) (hu : u < 27) (outs : Outs 
     idle = λ d l free n same. locked-digit g u d hu l n ∙ each-idle (meet_turn g u d (held_places n u d)) (up_to (meetings u)) n (λ k o. turn-idle d l n same free k (in-up_to (meetings u) k o));
   }
 
+-- ---- the boxes, or the lines
+
+kind : (boxes : Bool) (u : ℕ) → cond boxes 18 0 ≤ u → u < cond boxes 27 18 → (u < 27) × (ltb u 18 ≡ not boxes)
+kind true u from to = (to, le-ltb u 18 from)
+kind false u from to = (omega (arith, to), lt-ltb u 18 to)
+
+most : (boxes : Bool) → cond boxes 27 18 ≤ 27
+most true = omega arith
+most false = omega arith
+
+units-are : (boxes : Bool) → range (cond boxes 27 18 - cond boxes 18 0) (cond boxes 18 0) ≡ units_of boxes
+unfolding units_of
+units-are true = refl
+units-are false = refl
+
 -- as code finds it: the unit's own rests taken anew
-pub now-skips : (g m : List ℕ) {r s nine : List ℕ} {boxes : Bool} {first end due : ℕ} (u : ℕ) → BoxesOrLines first end boxes → first ≤ u → u < end → Outs g m boxes r → nine ≡ all_masks m u → s ≡ renewed nine u r → due ≡ unit_due s u → Outs g m boxes s × DigitSkips g m u due
-now-skips g m {r} {s} {nine} {boxes} u kinds from to outs read is due-is =
-    let hu : u < 27 = omega (arith, kinds.most) in
-    let kind = kinds.each u from to in
-    let o = outs-renewed g m r boxes u hu kind outs in
-    rw (due-is, is, read) (o, rest-skips g m (renewed (all_masks m u) u r) boxes u hu o (owns-renewed g m r boxes u hu kind outs) kind)
+pub now-skips : (g m : List ℕ) {r s nine : List ℕ} {boxes : Bool} {due : ℕ} (u : ℕ) → cond boxes 18 0 ≤ u → u < cond boxes 27 18 → Outs g m boxes r → nine ≡ all_masks m u → s ≡ renewed nine u r → due ≡ unit_due s u
+    → (u < 27) × Outs g m boxes s × DigitSkips g m u due
+now-skips g m {r} {s} {nine} {boxes} u from to outs read is due-is =
+    let k = kind boxes u from to in
+    let o = outs-renewed g m r boxes u k.0 k.1 outs in
+    rw (due-is, is, read) (k.0, o, rest-skips g m (renewed (all_masks m u) u r) boxes u k.0 o (owns-renewed g m r boxes u k.0 k.1 outs) k.1)
 
 -- and before that: the units before the first of which anything is due lose nothing
-none_before : (g m : List ℕ) {r : List ℕ} {boxes : Bool} {first end s : ℕ} → BoxesOrLines first end boxes → Rests (laid m) (laid (doors_of g)) boxes r → NoneDue r (cond boxes 18 0) s → (u : ℕ) → first ≤ u → u < s → u < end → locked_unit g u m ≡ m
-none_before g m {r} {boxes} kinds w none u from before to =
-    let hu : u < 27 = omega (arith, kinds.most) in
-    let kind = kinds.each u from to in
-    none-due g m u (rest-skips g m r boxes u hu (outs-laid g m r boxes w) (owns-laid g m r boxes w u hu kind) kind) (none.none u (low boxes kind) before)
-  where
-    low : (b : Bool) → ltb u 18 ≡ not b → cond b 18 0 ≤ u
-    low true e = ltb-false u 18 e
-    low false e = omega arith
+none_before : (g m : List ℕ) {r : List ℕ} {boxes : Bool} {s : ℕ} → Rests (laid m) (laid (doors_of g)) boxes r → NoneDue r (cond boxes 18 0) s → (u : ℕ) → cond boxes 18 0 ≤ u → u < s → u < cond boxes 27 18 → locked_unit g u m ≡ m
+none_before g m {r} {boxes} w none u from before to =
+    let k = kind boxes u from to in
+    none-due g m u (rest-skips g m r boxes u k.0 (outs-laid g m r boxes w) (owns-laid g m r boxes w u k.0 k.1) k.1) (none.none u from before)
 
-pub first-skips : (g m l : List ℕ) {q p r : List ℕ} {boxes : Bool} {first end s : ℕ} (kinds : BoxesOrLines first end boxes) → InLanes g m q p → r ≡ put_rests p q boxes (replicate 288 0) → NoneDue r (cond boxes 18 0) s
-    → (first ≤ s) × Outs g m boxes r × Left g first end kinds.most m l s
-first-skips g m l {q} {p} {r} {boxes} {first} {end} {s} kinds in-lanes put none =
-    let table = rests-laid g m in-lanes.doors in-lanes.masks (rests-read p q boxes (replicate 288 0) refl put) in
-    let rise : first ≤ s = omega (arith, kinds.low, none.from) in
-    (rise, outs-laid g m r boxes table, units-past g first end kinds.most m l s rise (none_before g m kinds table none))
+pub first-skips : (g m l : List ℕ) {q p r : List ℕ} {boxes : Bool} {s : ℕ} → q ≡ laid (doors_of g) → p ≡ laid m → r ≡ put_rests p q boxes (replicate 288 0) → NoneDue r (cond boxes 18 0) s
+    → (cond boxes 18 0 ≤ s) × Outs g m boxes r × (each (locked_unit g) (range (cond boxes 27 18 - s) s) m ≡ each (locked_unit g) (units_of boxes) m)
+    × (log_after g (for (range (cond boxes 27 18 - s) s) unit_instances) m l ≡ log_after g (for (units_of boxes) unit_instances) m l)
+first-skips g m l {q} {p} {r} {boxes} {s} doors masks put none =
+    let table = rests-laid g m doors masks (rests-read p q boxes (replicate 288 0) refl put) in
+    let left = units-past g (cond boxes 18 0) (cond boxes 27 18) (most boxes) m l s none.from (none_before g m table none) in (
+      none.from,
+      outs-laid g m r boxes table,
+      left.0 ∙ ap (λ (us : List ℕ). each (locked_unit g) us m) (units-are boxes),
+      left.1 ∙ ap (λ (us : List ℕ). log_after g (for us unit_instances) m l) (units-are boxes),
+    )

@@ -2,15 +2,14 @@
 // Both are one step over a unit and those that meet it: Pointing a box and its six lines, Claiming a line and its three boxes.
 #![tactic(auto)]
 
-ghost use Rattle.std.specs.Prelude.{◌≡◌, [], ◌∷◌, ◌-◌, ◌<◌};
-ghost use Rattle.steps.specs.Loops.{each, for, range};
+ghost use Rattle.std.specs.Prelude.{◌≡◌, cond, [], ◌∷◌, ◌<◌};
+ghost use Rattle.steps.specs.Loops.{each, for};
 ghost use Rattle.steps.specs.Passes.{pass, instances, Pointing, Claiming};
 ghost use Rattle.steps.specs.StepLists.{step_bytes};
 ghost use Rattle.steps.specs.code.Logs.{noted, log_after};
 ghost use Rattle.cells.specs.code.Meets.{meetings, meet_turn};
 ghost use Rattle.cells.specs.code.Places.{all_masks, held_places};
-ghost use Rattle.lanes.specs.code.Lanes.{InLanes, laid};
-ghost use Rattle.locked.specs.code.Locked.{met_instance, digit_instances, unit_instances, locked_digit, locked_unit, DigitSkips, BoxesOrLines};
+ghost use Rattle.locked.specs.code.Locked.{met_instance, digit_instances, unit_instances, locked_digit, locked_unit, units_of, DigitSkips};
 
 mod rests;
 
@@ -18,7 +17,7 @@ use candidates::masks;
 use cells::meets::{lose_met, meetings, met_unit};
 use cells::notes::note;
 use cells::{all_masks, places_of};
-use lanes::{doors, lanes_of, lay};
+use lanes::{LaidGivens, LaidMasks, lay};
 
 // Claiming is noted of a line, Pointing of a box.
 fn note_met(log: &mut [u8], unit: usize, digit: usize, nth: usize)
@@ -90,86 +89,69 @@ fn locked_unit(
     }
 }
 
-// The instances of the units from the first to before the end, which are boxes or lines. Those before the first of which anything is due are passed over; from there on each is asked anew, since a loss at one may make others due.
-fn locked_lanes(
-    givens: &[u8; 81],
-    masks: &mut [u16; 81],
-    log: &mut [u8],
-    doors: &[u16; 432],
-    lanes: &mut [u16; 432],
-    first: usize,
-    end: usize,
-    boxes: bool,
-)
-    requires { InLanes givens.now masks.old doors.now lanes.old × BoxesOrLines first end boxes }
-    ensures masks_after { masks.new ≡ each (locked_unit givens.now) (range (end - first) first) masks.old }
-    ensures lanes_after { lanes.new ≡ laid masks.new }
-    ensures log_after { log.new ≡ log_after givens.now (for (range (end - first) first) unit_instances) masks.old log.old }
+// The unit after the boxes, or after the lines.
+fn end_of(boxes: bool) -> usize
+    ensures { result ≡ cond boxes 27 18 }
+{
+    if boxes {
+        return 27;
+    }
+    18
+}
+
+// The instances of the boxes, or of the lines. The units before the first of which anything is due are passed over; from there on each is asked anew, since a loss at one may make others due.
+fn locked_lanes(givens: &LaidGivens, laid: &mut LaidMasks, log: &mut [u8], boxes: bool)
+    ensures masks_after { laid.new.masks ≡ each (locked_unit givens.now.cells) (units_of boxes) laid.old.masks }
+    ensures log_after { log.new ≡ log_after givens.now.cells (for (units_of boxes) unit_instances) laid.old.masks log.old }
 {
     let mut rests = [0u16; 288];
-    rests::put_rests(lanes, doors, &mut rests, boxes);
+    rests::put_rests(&laid.lanes, &givens.doors, &mut rests, boxes);
     let start = rests::first_due(&rests, boxes);
+    let end = end_of(boxes);
     if end <= start {
         return;
     }
+    let masks = &mut laid.masks;
     for unit in start..end {
         let nine = all_masks(masks, unit);
         let due = rests::due_now(&nine, &mut rests, unit);
         if due != 0 {
-            locked_unit(givens, masks, log, &nine, unit, due);
+            locked_unit(&givens.cells, masks, log, &nine, unit, due);
         }
     }
-    lay(masks, lanes);
+    lay(masks, &mut laid.lanes);
 }
 
-// Pointing, where the masks and the doors of the givens stand in lanes too.
-pub fn pointing_lanes(
-    givens: &[u8; 81],
-    masks: &mut [u16; 81],
-    log: &mut [u8],
-    doors: &[u16; 432],
-    lanes: &mut [u16; 432],
-)
-    requires { InLanes givens.now masks.old doors.now lanes.old }
-    ensures masks_after { masks.new ≡ pass givens.now Pointing masks.old }
-    ensures lanes_after { lanes.new ≡ laid masks.new }
-    ensures log_after { log.new ≡ log_after givens.now (instances Pointing) masks.old log.old }
+// Pointing, over masks that stand in lanes.
+pub fn pointing_lanes(givens: &LaidGivens, laid: &mut LaidMasks, log: &mut [u8])
+    ensures masks_after { laid.new.masks ≡ pass givens.now.cells Pointing laid.old.masks }
+    ensures log_after { log.new ≡ log_after givens.now.cells (instances Pointing) laid.old.masks log.old }
 {
-    locked_lanes(givens, masks, log, doors, lanes, 18, 27, true);
+    locked_lanes(givens, laid, log, true);
 }
 
 // Claiming, likewise.
-pub fn claiming_lanes(
-    givens: &[u8; 81],
-    masks: &mut [u16; 81],
-    log: &mut [u8],
-    doors: &[u16; 432],
-    lanes: &mut [u16; 432],
-)
-    requires { InLanes givens.now masks.old doors.now lanes.old }
-    ensures masks_after { masks.new ≡ pass givens.now Claiming masks.old }
-    ensures lanes_after { lanes.new ≡ laid masks.new }
-    ensures log_after { log.new ≡ log_after givens.now (instances Claiming) masks.old log.old }
+pub fn claiming_lanes(givens: &LaidGivens, laid: &mut LaidMasks, log: &mut [u8])
+    ensures masks_after { laid.new.masks ≡ pass givens.now.cells Claiming laid.old.masks }
+    ensures log_after { log.new ≡ log_after givens.now.cells (instances Claiming) laid.old.masks log.old }
 {
-    locked_lanes(givens, masks, log, doors, lanes, 0, 18, false);
+    locked_lanes(givens, laid, log, false);
 }
 
 // Pointing: all cells of a box that hold d are on one line: the line's cells outside the box lose d.
 pub fn pointing(givens: &[u8; 81], masks: &mut [u16; 81])
     ensures { masks.new ≡ pass givens.now Pointing masks.old }
 {
-    let mut none: [u8; 0] = [];
-    let doors = lanes_of(&doors(givens));
-    let mut lanes = lanes_of(masks);
-    pointing_lanes(givens, masks, &mut none, &doors, &mut lanes);
+    let mut laid = LaidMasks::of(masks);
+    pointing_lanes(&LaidGivens::of(givens), &mut laid, &mut []);
+    *masks = laid.masks;
 }
 
 // Claiming: all cells of a row or column that hold d are in one box: the other cells of that box lose d.
 pub fn claiming(givens: &[u8; 81], masks: &mut [u16; 81])
     ensures { masks.new ≡ pass givens.now Claiming masks.old }
 {
-    let mut none: [u8; 0] = [];
-    let doors = lanes_of(&doors(givens));
-    let mut lanes = lanes_of(masks);
-    claiming_lanes(givens, masks, &mut none, &doors, &mut lanes);
+    let mut laid = LaidMasks::of(masks);
+    claiming_lanes(&LaidGivens::of(givens), &mut laid, &mut []);
+    *masks = laid.masks;
 }

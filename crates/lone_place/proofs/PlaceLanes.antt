@@ -26,7 +26,7 @@ use Rattle.steps.proofs.Steps.{lose-none}
 use Rattle.cells.specs.code.Places.{mask_at, all_masks, held_places}
 use Rattle.cells.proofs.NineBits.{held-meet}
 use Rattle.cells.proofs.Places.{mask_at_lem}
-use Rattle.lanes.specs.code.Lanes.{laid, doors_of, lane_masks, nines, loose_sets, InLanes, SameOn, Skips}
+use Rattle.lanes.specs.code.Lanes.{laid, doors_of, lane_masks, nines, loose_sets, SameOn, Skips}
 use Rattle.lanes.proofs.Families.{families, take-off, unit-parted}
 use Rattle.lanes.proofs.LaneUnits.{lane-masks, in-loose}
 use Rattle.lanes.proofs.Turns.{Parted}
@@ -78,10 +78,10 @@ place-spares g m f hf = record { of = λ k hk n s. record { idle = λ d l t. spa
             ∙ sym (ap (λ (x : ℕ). has x d) (cond-false (eqb (at (loose_sets (laid m) (laid (doors_of g)) (16 * f)) k) 0) 0 (due_of (lane_masks (laid m) (16 * f + k))) t)) ∙ is)
 
 -- as code finds the sets
-pub place-spared : (g m : List ℕ) (f : ℕ) → f < 3 → {q p free due : List ℕ} → InLanes g m q p → free ≡ loose_sets p q (16 * f) → due ≡ place_sets p free (16 * f) → PlaceSpares g m f due
-place-spared g m f hf {q} {p} {free} {due} w a b =
+pub place-spared : (g m : List ℕ) (f : ℕ) → f < 3 → {q p free due : List ℕ} → q ≡ laid (doors_of g) → p ≡ laid m → free ≡ loose_sets p q (16 * f) → due ≡ place_sets p free (16 * f) → PlaceSpares g m f due
+place-spared g m f hf {q} {p} {free} {due} doors lanes a b =
     subst (PlaceSpares g m f)
-    (sym (b ∙ ap (λ (z : List ℕ). place_sets p z (16 * f)) (a ∙ ap (λ (z : List ℕ). loose_sets p z (16 * f)) w.doors) ∙ ap (λ (z : List ℕ). place_sets z (loose_sets z (laid (doors_of g)) (16 * f)) (16 * f)) w.masks))
+    (sym (b ∙ ap (λ (z : List ℕ). place_sets p z (16 * f)) (a ∙ ap (λ (z : List ℕ). loose_sets p z (16 * f)) doors) ∙ ap (λ (z : List ℕ). place_sets z (loose_sets z (laid (doors_of g)) (16 * f)) (16 * f)) lanes))
     (place-spares g m f hf)
 
 -- where a set holds nothing, the turn of its unit is idle

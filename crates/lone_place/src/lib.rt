@@ -8,21 +8,22 @@ pub mod lones;
 pub mod losses;
 pub mod places;
 
-use lanes::{doors, lanes_of};
+use lanes::{LaidGivens, LaidMasks};
 
 // Lone: a cell that holds nothing but d, or nothing: its peers lose d.
 pub fn lone(givens: &[u8; 81], masks: &mut [u16; 81])
     ensures { masks.new ≡ pass givens.now Lone masks.old }
 {
-    let mut lanes = lanes_of(masks);
-    lones::lone_lanes(givens, masks, &mut [], &mut lanes);
+    let mut laid = LaidMasks::of(masks);
+    lones::lone_lanes(givens, &mut laid, &mut []);
+    *masks = laid.masks;
 }
 
 // Place: no other cell of a unit holds d: the cell loses all but d.
 pub fn place(givens: &[u8; 81], masks: &mut [u16; 81])
     ensures { masks.new ≡ pass givens.now Place masks.old }
 {
-    let doors = lanes_of(&doors(givens));
-    let mut lanes = lanes_of(masks);
-    places::place_lanes(givens, masks, &mut [], &doors, &mut lanes);
+    let mut laid = LaidMasks::of(masks);
+    places::place_lanes(&LaidGivens::of(givens), &mut laid, &mut []);
+    *masks = laid.masks;
 }

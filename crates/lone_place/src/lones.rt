@@ -3,7 +3,6 @@ ghost use Rattle.std.specs.Prelude.{◌≡◌, [], ◌∷◌, ◌<◌};
 ghost use Rattle.steps.specs.Instances.{lone};
 ghost use Rattle.steps.specs.Passes.{instances, instance_taken, pass, Lone};
 ghost use Rattle.steps.specs.code.Logs.{log_after};
-ghost use Rattle.lanes.specs.code.Lanes.{laid};
 ghost use Rattle.lone_place.specs.code.Turns.{lone_cell, lone_row, cell_lones, row_lones};
 ghost use Rattle.lone_place.specs.code.Due.{loose_in, loose_near, lone_held, shared_lanes, near_row, lone_due, due_flag, due_row, Near, NearRow, Covers, Kept};
 
@@ -13,7 +12,7 @@ use cells::notes::note;
 use cells::unions::{join_all, shared};
 use cells::{loose_digits, mask_at, unit_masks};
 use grid::{box_of, col_of, row_of};
-use lanes::{lane_masks, lay};
+use lanes::{LaidMasks, lane_masks, lay};
 
 // One instance.
 fn lone_at(givens: &[u8; 81], masks: &mut [u16; 81], log: &mut [u8], cell: usize, digit: usize)
@@ -163,18 +162,16 @@ fn lone_rows(givens: &[u8; 81], masks: &mut [u16; 81], log: &mut [u8], sets: &[u
     any
 }
 
-// Lone, where the masks stand in lanes too. Where no open cell holds anything, as on a dead board, nothing can be lost.
-pub fn lone_lanes(givens: &[u8; 81], masks: &mut [u16; 81], log: &mut [u8], lanes: &mut [u16; 432])
-    requires { lanes.old ≡ laid masks.old }
-    ensures masks_after { masks.new ≡ pass givens.now Lone masks.old }
-    ensures lanes_after { lanes.new ≡ laid masks.new }
-    ensures log_after { log.new ≡ log_after givens.now (instances Lone) masks.old log.old }
+// Lone. Where no open cell holds anything, as on a dead board, nothing can be lost.
+pub fn lone_lanes(givens: &[u8; 81], laid: &mut LaidMasks, log: &mut [u8])
+    ensures masks_after { laid.new.masks ≡ pass givens.now Lone laid.old.masks }
+    ensures log_after { log.new ≡ log_after givens.now (instances Lone) laid.old.masks log.old }
 {
-    if loose_digits(givens, masks) == 0 {
+    if loose_digits(givens, &laid.masks) == 0 {
         return;
     }
-    let sets = shared_lanes(lanes);
-    if lone_rows(givens, masks, log, &sets) {
-        lay(masks, lanes);
+    let sets = shared_lanes(&laid.lanes);
+    if lone_rows(givens, &mut laid.masks, log, &sets) {
+        lay(&laid.masks, &mut laid.lanes);
     }
 }

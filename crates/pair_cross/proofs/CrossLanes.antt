@@ -24,7 +24,7 @@ use Rattle.cells.specs.code.Places.{held_places}
 use Rattle.cells.proofs.HeldPlaces.{held_small, has-held, held_same}
 use Rattle.cells.proofs.NineBits.{held-meet, not-held, nine-small, place_is}
 use Rattle.cells.proofs.Shared.{union-at, union-held}
-use Rattle.lanes.specs.code.Lanes.{laid, doors_of, lane_at, lane_masks, nines, loose_sets, joined_sets, InLanes, Alike}
+use Rattle.lanes.specs.code.Lanes.{laid, doors_of, lane_at, lane_masks, nines, loose_sets, joined_sets, Alike}
 use Rattle.lanes.proofs.Families.{take-alike, digit-parted}
 use Rattle.lanes.proofs.LaneUnits.{lane-at, in-loose}
 use Rattle.lanes.proofs.Turns.{Parted}
@@ -119,8 +119,8 @@ lines_same m n f d hf s =
     (λ l k. let hl = in-up_to 9 l k in held_same n m (9 * f + l) d (omega arith) (λ i hi. s.at (unit_cell (9 * f + l) i)))
 
 -- the lines of a digit, as its lane has them
-pub cross-lines : {m q : List ℕ} (half d : ℕ) → half < 2 → d < 9 → DigitLanes (laid m) (16 * half) q → (n : List ℕ) → Alike d n m → {lines : List ℕ} → lines ≡ lane_masks q d → lines ≡ nines (held_lines n (9 * half) d)
-cross-lines {m} {q} half d h hd w n s e = e ∙ digit-lines m q half d (omega arith) hd w ∙ ap nines (sym (lines_same m n half d (omega arith) s))
+pub cross-lines : {m p q : List ℕ} (half d : ℕ) → half < 2 → d < 9 → p ≡ laid m → DigitLanes p (16 * half) q → (n : List ℕ) → Alike d n m → {lines : List ℕ} → lines ≡ lane_masks q d → lines ≡ nines (held_lines n (9 * half) d)
+cross-lines {m} {p} {q} half d h hd is-laid w n s e = e ∙ digit-lines m q half d (omega arith) hd (subst (λ (z : List ℕ). DigitLanes z (16 * half) q) is-laid w) ∙ ap nines (sym (lines_same m n half d (omega arith) s))
 
 -- the open places, which are the same for each digit
 pub cross-doors : (g : List ℕ) (half d : ℕ) → half < 2 → d < 9 → {q doors : List ℕ} → q ≡ laid (doors_of g) → doors ≡ open_places q (16 * half) → doors ≡ nines (held_lines (doors_of g) (9 * half) d)
@@ -167,12 +167,12 @@ module _ (g m q : List ℕ) (half held : ℕ) (h : half < 2) (digits : DigitLane
           ∙ sym (at-up_to (λ k. lively_of (at (lane_masks q (0 + k))) (at (places_if held) k)) 0 16 d (omega arith)) ∙ e)
 
 -- as code finds the sets
-pub cross-skipped : (g m : List ℕ) (half : ℕ) → half < 2 → {q p loose digits free due : List ℕ} {held : ℕ} → InLanes g m q p → loose ≡ loose_sets p q (16 * half) → held ≡ joined_sets loose
+pub cross-skipped : (g m : List ℕ) (half : ℕ) → half < 2 → {q p loose digits free due : List ℕ} {held : ℕ} → q ≡ laid (doors_of g) → p ≡ laid m → loose ≡ loose_sets p q (16 * half) → held ≡ joined_sets loose
     → DigitLanes p (16 * half) digits → free ≡ places_if held → due ≡ lively_sets digits free 0 → CrossSkips g m half due
-cross-skipped g m half h {q} {p} {loose} {digits} {free} {due} {held} w a b d e f =
+cross-skipped g m half h {q} {p} {loose} {digits} {free} {due} {held} doors masks a b d e f =
     subst (CrossSkips g m half) (sym (f ∙ ap (λ (z : List ℕ). lively_sets digits z 0) e))
-    (cross-skips g m digits half held h (subst (λ (z : List ℕ). DigitLanes z (16 * half) digits) w.masks d)
-    (b ∙ ap joined_sets (a ∙ ap (λ (z : List ℕ). loose_sets p z (16 * half)) w.doors ∙ ap (λ (z : List ℕ). loose_sets z (laid (doors_of g)) (16 * half)) w.masks)))
+    (cross-skips g m digits half held h (subst (λ (z : List ℕ). DigitLanes z (16 * half) digits) masks d)
+    (b ∙ ap joined_sets (a ∙ ap (λ (z : List ℕ). loose_sets p z (16 * half)) doors ∙ ap (λ (z : List ℕ). loose_sets z (laid (doors_of g)) (16 * half)) masks)))
 
 -- its steps lose one digit alone
 pub cross-parted : (g : List ℕ) (f : ℕ) → Parted Alike (λ d. frame_taken g (Lines f d))

@@ -15,7 +15,7 @@ use Rattle.steps.proofs.Loops.{in-up_to, each_keeps}
 use Rattle.cells.specs.code.Places.{mask_at, all_masks}
 use Rattle.cells.proofs.NineBits.{held-meet}
 use Rattle.cells.proofs.Places.{mask_at_lem}
-use Rattle.lanes.specs.code.Lanes.{laid, doors_of, lane_masks, nines, loose_sets, InLanes, SameOn, Skips}
+use Rattle.lanes.specs.code.Lanes.{laid, doors_of, lane_masks, nines, loose_sets, SameOn, Skips}
 use Rattle.lanes.proofs.LaneUnits.{lane-masks, in-loose}
 use Rattle.lanes.proofs.Families.{families, take-off, unit-parted}
 use Rattle.lanes.proofs.Turns.{Parted}
@@ -51,18 +51,18 @@ pair-skips g m f hf = record { idle = skip }
         free = at (loose_sets (laid m) (laid (doors_of g)) (16 * f)) k
 
 -- as code finds the sets
-pub pair-skipped : (g m : List ℕ) (f : ℕ) → f < 3 → {q p free due : List ℕ} → InLanes g m q p → free ≡ loose_sets p q (16 * f) → due ≡ lively_sets p free (16 * f) → PairSkips g m f due
-pair-skipped g m f hf {q} {p} {free} {due} w a b =
+pub pair-skipped : (g m : List ℕ) (f : ℕ) → f < 3 → {q p free due : List ℕ} → q ≡ laid (doors_of g) → p ≡ laid m → free ≡ loose_sets p q (16 * f) → due ≡ lively_sets p free (16 * f) → PairSkips g m f due
+pair-skipped g m f hf {q} {p} {free} {due} doors masks a b =
     subst (PairSkips g m f)
-    (sym (b ∙ ap (λ (z : List ℕ). lively_sets p z (16 * f)) (a ∙ ap (λ (z : List ℕ). loose_sets p z (16 * f)) w.doors) ∙ ap (λ (z : List ℕ). lively_sets z (loose_sets z (laid (doors_of g)) (16 * f)) (16 * f)) w.masks))
+    (sym (b ∙ ap (λ (z : List ℕ). lively_sets p z (16 * f)) (a ∙ ap (λ (z : List ℕ). loose_sets p z (16 * f)) doors) ∙ ap (λ (z : List ℕ). lively_sets z (loose_sets z (laid (doors_of g)) (16 * f)) (16 * f)) masks))
     (pair-skips g m f hf)
 
 -- the lines and the doors of a unit, as its lanes have them
-pub pair-lines : {g m q p : List ℕ} (f k : ℕ) → f < 3 → k < 9 → InLanes g m q p → (n : List ℕ) → SameOn (9 * f + k) n m → {doors lines : List ℕ} → doors ≡ lane_masks q (16 * f + k) → lines ≡ lane_masks p (16 * f + k)
+pub pair-lines : (g m : List ℕ) {q p : List ℕ} (f k : ℕ) → f < 3 → k < 9 → q ≡ laid (doors_of g) → p ≡ laid m → (n : List ℕ) → SameOn (9 * f + k) n m → {doors lines : List ℕ} → doors ≡ lane_masks q (16 * f + k) → lines ≡ lane_masks p (16 * f + k)
     → (doors ≡ nines (all_masks (doors_of g) (9 * f + k))) × (lines ≡ nines (all_masks n (9 * f + k)))
-pair-lines {g} {m} f k hf hk w n s a b = (
-  a ∙ ap (λ (z : List ℕ). lane_masks z (16 * f + k)) w.doors ∙ lane-masks f k hf hk (doors_of g),
-  b ∙ ap (λ (z : List ℕ). lane_masks z (16 * f + k)) w.masks ∙ lane-masks f k hf hk m ∙ ap nines (sym (all_same n m (9 * f + k) (omega arith) s)),
+pair-lines g m f k hf hk w v n s a b = (
+  a ∙ ap (λ (z : List ℕ). lane_masks z (16 * f + k)) w ∙ lane-masks f k hf hk (doors_of g),
+  b ∙ ap (λ (z : List ℕ). lane_masks z (16 * f + k)) v ∙ lane-masks f k hf hk m ∙ ap nines (sym (all_same n m (9 * f + k) (omega arith) s)),
 )
 
 pub pair-families : (g m : List ℕ) → pass g Pair m ≡ each (pair_family g) (up_to 3) m

@@ -11,24 +11,22 @@ mod search;
 mod spots;
 mod twos;
 
-use lanes::{doors, lanes_of};
+use lanes::{LaidGivens, LaidMasks};
 
 // Pair: two cells of a unit hold nothing outside two digits: the unit's other cells lose both.
 pub fn pair(givens: &[u8; 81], masks: &mut [u16; 81])
     ensures { masks.new ≡ pass givens.now Pair masks.old }
 {
-    let doors = lanes_of(&doors(givens));
-    let mut lanes = lanes_of(masks);
-    let mut none: [u8; 0] = [];
-    pairs::pair_lanes(givens, masks, &mut none, &doors, &mut lanes);
+    let mut laid = LaidMasks::of(masks);
+    pairs::pair_lanes(&LaidGivens::of(givens), &mut laid, &mut []);
+    *masks = laid.masks;
 }
 
 // Cross: all cells that hold d in two rows are in two columns: the other cells of those columns lose d. Then the same with rows and columns exchanged.
 pub fn cross(givens: &[u8; 81], masks: &mut [u16; 81])
     ensures { masks.new ≡ pass givens.now Cross masks.old }
 {
-    let doors = lanes_of(&doors(givens));
-    let mut lanes = lanes_of(masks);
-    let mut none: [u8; 0] = [];
-    crosses::cross_lanes(givens, masks, &mut none, &doors, &mut lanes);
+    let mut laid = LaidMasks::of(masks);
+    crosses::cross_lanes(&LaidGivens::of(givens), &mut laid, &mut []);
+    *masks = laid.masks;
 }

@@ -12,7 +12,6 @@ ghost use Rattle.steps.specs.Passes.{kinds, pass, instances, settle, removed_by}
 ghost use Rattle.steps.specs.StepLists.{sweep_instances, settling_instances};
 ghost use Rattle.steps.specs.code.Logs.{log_after};
 ghost use Rattle.board.specs.Boards.{board_of, handed};
-ghost use Rattle.lanes.specs.code.Lanes.{InLanes, laid};
 ghost use Rattle.passes.specs.Settlings.{Settles, counts_of};
 ghost use Rattle.passes.specs.code.Handed.{masks_left, log_left, counts_left};
 ghost use Rattle.passes.specs.code.Rounds.{nth_kind, LastIdle, Swept};
@@ -24,7 +23,7 @@ use board::entries::givens_of;
 use board::{Board, check_given};
 use cells::notes::{Steps, steps_of};
 use cells::total;
-use lanes::{doors, lanes_of};
+use lanes::{LaidGivens, LaidMasks};
 use locked::{claiming_lanes, pointing_lanes};
 use lone_place::lones::lone_lanes;
 use lone_place::places::place_lanes;
@@ -33,27 +32,18 @@ use pair_cross::crosses::cross_lanes;
 use pair_cross::pairs::pair_lanes;
 use stops::Stop;
 
-// A wide pass by its number in a sweep. The masks stand in lanes too, and `doors` are those of the givens. The log takes the steps that remove something.
-fn nth_pass(
-    givens: &[u8; 81],
-    masks: &mut [u16; 81],
-    log: &mut [u8],
-    doors: &[u16; 432],
-    lanes: &mut [u16; 432],
-    nth: usize,
-)
-    requires { InLanes givens.now masks.old doors.now lanes.old }
-    ensures masks_after { masks.new ≡ pass givens.now (nth_kind nth) masks.old }
-    ensures lanes_after { lanes.new ≡ laid masks.new }
-    ensures log_after { log.new ≡ log_after givens.now (instances (nth_kind nth)) masks.old log.old }
+// A wide pass by its number in a sweep. The log takes the steps that remove something.
+fn nth_pass(givens: &LaidGivens, laid: &mut LaidMasks, log: &mut [u8], nth: usize)
+    ensures masks_after { laid.new.masks ≡ pass givens.now.cells (nth_kind nth) laid.old.masks }
+    ensures log_after { log.new ≡ log_after givens.now.cells (instances (nth_kind nth)) laid.old.masks log.old }
 {
     match nth {
-        0 => lone_lanes(givens, masks, log, lanes),
-        1 => place_lanes(givens, masks, log, doors, lanes),
-        2 => pair_lanes(givens, masks, log, doors, lanes),
-        3 => pointing_lanes(givens, masks, log, doors, lanes),
-        4 => claiming_lanes(givens, masks, log, doors, lanes),
-        _ => cross_lanes(givens, masks, log, doors, lanes),
+        0 => lone_lanes(&givens.cells, laid, log),
+        1 => place_lanes(givens, laid, log),
+        2 => pair_lanes(givens, laid, log),
+        3 => pointing_lanes(givens, laid, log),
+        4 => claiming_lanes(givens, laid, log),
+        _ => cross_lanes(givens, laid, log),
     }
 }
 
@@ -70,34 +60,31 @@ fn tally_pass(tally: &mut [usize; 7], nth: usize, left: usize)
 // `idle` is how many in a row had before it, and what is handed back how many have after it. A pass only removes, so that as many candidates are left exactly where it removed nothing; only the others are tallied. Where settling is over with it,
 // the passes that are left need not be tried: the sweep is left with five idle ones, and the next one ends at its first.
 fn sweep(
-    givens: &[u8; 81],
-    masks: &mut [u16; 81],
+    givens: &LaidGivens,
+    laid: &mut LaidMasks,
     log: &mut [u8],
     tally: &mut [usize; 7],
-    doors: &[u16; 432],
-    lanes: &mut [u16; 432],
     idle: usize,
 ) -> usize
-    requires { InLanes givens.now masks.old doors.now lanes.old × (idle < 6) × LastIdle givens.now idle masks.old × Tally masks.old tally.old }
-    ensures swept { Swept givens.now masks.old masks.new result }
-    ensures lanes_after { lanes.new ≡ laid masks.new }
-    ensures log_after { log.new ≡ log_after givens.now sweep_instances masks.old log.old }
-    ensures tally { Tally masks.new tally.new }
-    ensures tally_after { tally.new ≡ tally_with (removed_each givens.now kinds masks.old) masks.new tally.old }
+    requires { (idle < 6) × LastIdle givens.now.cells idle laid.old.masks × Tally laid.old.masks tally.old }
+    ensures swept { Swept givens.now.cells laid.old.masks laid.new.masks result }
+    ensures log_after { log.new ≡ log_after givens.now.cells sweep_instances laid.old.masks log.old }
+    ensures tally { Tally laid.new.masks tally.new }
+    ensures tally_after { tally.new ≡ tally_with (removed_each givens.now.cells kinds laid.old.masks) laid.new.masks tally.old }
 {
     let mut still = idle;
     for nth in 0..6 {
         if still == 6 {
             return 6;
         }
-        nth_pass(givens, masks, log, doors, lanes, nth);
-        let left = total(*masks);
+        nth_pass(givens, laid, log, nth);
+        let left = total(laid.masks);
         if left == tally[6] {
             still += 1;
         } else {
             still = 0;
             tally_pass(tally, nth, left);
-            if is_over(left, givens, masks, lanes) {
+            if is_over(left, &givens.cells, laid) {
                 return 5;
             }
         }
@@ -107,22 +94,20 @@ fn sweep(
 
 // Sweeps until one removes nothing; that last one is counted too, though it is not always run to its end. 730 are always enough.
 fn sweep_on(
-    givens: &[u8; 81],
-    masks: &mut [u16; 81],
+    givens: &LaidGivens,
+    laid: &mut LaidMasks,
     log: &mut [u8],
     tally: &mut [usize; 7],
 ) -> usize
-    requires { Tally masks.old tally.old }
-    ensures value { result ≡ (settle givens.now masks.old).sweeps }
-    ensures masks_after { masks.new ≡ (settle givens.now masks.old).left }
-    ensures log_after { log.new ≡ log_after givens.now (settling_instances givens.now masks.old) masks.old log.old }
-    ensures tally_after { tally.new ≡ tally_with (pass_counts givens.now masks.old) masks.new tally.old }
+    requires { Tally laid.old.masks tally.old }
+    ensures value { result ≡ (settle givens.now.cells laid.old.masks).sweeps }
+    ensures masks_after { laid.new.masks ≡ (settle givens.now.cells laid.old.masks).left }
+    ensures log_after { log.new ≡ log_after givens.now.cells (settling_instances givens.now.cells laid.old.masks) laid.old.masks log.old }
+    ensures tally_after { tally.new ≡ tally_with (pass_counts givens.now.cells laid.old.masks) laid.new.masks tally.old }
 {
-    let doors = lanes_of(&doors(givens));
-    let mut lanes = lanes_of(masks);
     let mut idle: usize = 0;
     for sweeps in 0..730 {
-        idle = sweep(givens, masks, log, tally, &doors, &mut lanes, idle);
+        idle = sweep(givens, laid, log, tally, idle);
         if idle == 6 {
             return sweeps + 1;
         }
@@ -153,8 +138,10 @@ pub fn settle(
     ensures counts_after { counts.new ≡ pass_counts givens.now masks.old }
 {
     let start = total(*masks);
+    let mut laid = LaidMasks::of(masks);
     let mut tally = [0, 0, 0, 0, 0, 0, start];
-    let sweeps = sweep_on(givens, masks, log, &mut tally);
+    let sweeps = sweep_on(&LaidGivens::of(givens), &mut laid, log, &mut tally);
+    *masks = laid.masks;
     *counts = [tally[0], tally[1], tally[2], tally[3], tally[4], tally[5]];
     Counts {
         sweeps,

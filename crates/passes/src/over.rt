@@ -6,7 +6,7 @@ ghost use Rattle.passes.specs.code.Over.{beside_one, lacked_in, is_over};
 use candidates::masks;
 use cells::loose_digits;
 use cells::unions::join_all;
-use lanes::lane_masks;
+use lanes::{LaidMasks, lane_masks};
 
 // What cells hold beside their lowest digit.
 fn beside_one(masks: &[u16; 81]) -> u16
@@ -32,17 +32,17 @@ fn lacked(lanes: &[u16; 432]) -> u16
 }
 
 // `left` is how many candidates there are; with more of them than cells a cell has two.
-pub fn is_over(left: usize, givens: &[u8; 81], masks: &[u16; 81], lanes: &[u16; 432]) -> bool
-    ensures { result ≡ is_over left givens.now masks.now lanes.now }
+pub fn is_over(left: usize, givens: &[u8; 81], laid: &LaidMasks) -> bool
+    ensures { result ≡ is_over left givens.now laid.now.masks laid.now.lanes }
 {
     if 81 < left {
         return false;
     }
-    if beside_one(masks) != 0 {
+    if beside_one(&laid.masks) != 0 {
         return false;
     }
-    if loose_digits(givens, masks) == 0 {
+    if loose_digits(givens, &laid.masks) == 0 {
         return true;
     }
-    lacked(lanes) == 0
+    lacked(&laid.lanes) == 0
 }

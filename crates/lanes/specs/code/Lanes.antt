@@ -73,11 +73,6 @@ loose_sets p q first = map (λ k. loose_of p q (first + k)) (up_to 16)
 unfoldable pub joined_sets : List ℕ → ℕ
 joined_sets sets = each (λ i k. union k (at sets i)) (up_to 16) 0
 
--- the doors of givens and masks, in lanes
-pub record InLanes (g m q p : List ℕ) : Type 0 where
-  pub doors : q ≡ laid (doors_of g)
-  pub masks : p ≡ laid m
-
 -- ---- the masks of a lane
 
 unfoldable pub lane_masks : List ℕ → ℕ → List ℕ

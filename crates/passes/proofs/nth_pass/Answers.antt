@@ -21,9 +21,8 @@ unfolding nth_kind
 returns-in-0 c =
     let a = c.args in
     let e = ap nth_kind (sym c.in-0.is) in record {
-      masks_after = kind-masks a.givens.now a.masks.now e c.lone_lanes.ensures.masks_after;
-      lanes_after = c.lone_lanes.ensures.lanes_after;
-      log_after = kind-log a.givens.now a.masks.now a.log.now e c.lone_lanes.ensures.log_after;
+      masks_after = kind-masks a.givens.now.cells a.laid.now.masks e c.lone_lanes.ensures.masks_after;
+      log_after = kind-log a.givens.now.cells a.laid.now.masks a.log.now e c.lone_lanes.ensures.log_after;
     }
 
 pub returns-in-1 : goal.returns-in-1
@@ -31,9 +30,8 @@ unfolding nth_kind
 returns-in-1 c =
     let a = c.args in
     let e = ap nth_kind (sym c.in-1.is) in record {
-      masks_after = kind-masks a.givens.now a.masks.now e c.place_lanes.ensures.masks_after;
-      lanes_after = c.place_lanes.ensures.lanes_after;
-      log_after = kind-log a.givens.now a.masks.now a.log.now e c.place_lanes.ensures.log_after;
+      masks_after = kind-masks a.givens.now.cells a.laid.now.masks e c.place_lanes.ensures.masks_after;
+      log_after = kind-log a.givens.now.cells a.laid.now.masks a.log.now e c.place_lanes.ensures.log_after;
     }
 
 pub returns-in-2 : goal.returns-in-2
@@ -41,9 +39,8 @@ unfolding nth_kind
 returns-in-2 c =
     let a = c.args in
     let e = ap nth_kind (sym c.in-2.is) in record {
-      masks_after = kind-masks a.givens.now a.masks.now e c.pair_lanes.ensures.masks_after;
-      lanes_after = c.pair_lanes.ensures.lanes_after;
-      log_after = kind-log a.givens.now a.masks.now a.log.now e c.pair_lanes.ensures.log_after;
+      masks_after = kind-masks a.givens.now.cells a.laid.now.masks e c.pair_lanes.ensures.masks_after;
+      log_after = kind-log a.givens.now.cells a.laid.now.masks a.log.now e c.pair_lanes.ensures.log_after;
     }
 
 pub returns-in-3 : goal.returns-in-3
@@ -51,9 +48,8 @@ unfolding nth_kind
 returns-in-3 c =
     let a = c.args in
     let e = ap nth_kind (sym c.in-3.is) in record {
-      masks_after = kind-masks a.givens.now a.masks.now e c.pointing_lanes.ensures.masks_after;
-      lanes_after = c.pointing_lanes.ensures.lanes_after;
-      log_after = kind-log a.givens.now a.masks.now a.log.now e c.pointing_lanes.ensures.log_after;
+      masks_after = kind-masks a.givens.now.cells a.laid.now.masks e c.pointing_lanes.ensures.masks_after;
+      log_after = kind-log a.givens.now.cells a.laid.now.masks a.log.now e c.pointing_lanes.ensures.log_after;
     }
 
 pub returns-in-4 : goal.returns-in-4
@@ -61,16 +57,14 @@ unfolding nth_kind
 returns-in-4 c =
     let a = c.args in
     let e = ap nth_kind (sym c.in-4.is) in record {
-      masks_after = kind-masks a.givens.now a.masks.now e c.claiming_lanes.ensures.masks_after;
-      lanes_after = c.claiming_lanes.ensures.lanes_after;
-      log_after = kind-log a.givens.now a.masks.now a.log.now e c.claiming_lanes.ensures.log_after;
+      masks_after = kind-masks a.givens.now.cells a.laid.now.masks e c.claiming_lanes.ensures.masks_after;
+      log_after = kind-log a.givens.now.cells a.laid.now.masks a.log.now e c.claiming_lanes.ensures.log_after;
     }
 
 pub returns-in_default : goal.returns-in_default
 returns-in_default c =
     let a = c.args in
     let e = sym (last-kind a.nth (omega arith)) in record {
-      masks_after = kind-masks a.givens.now a.masks.now e c.cross_lanes.ensures.masks_after;
-      lanes_after = c.cross_lanes.ensures.lanes_after;
-      log_after = kind-log a.givens.now a.masks.now a.log.now e c.cross_lanes.ensures.log_after;
+      masks_after = kind-masks a.givens.now.cells a.laid.now.masks e c.cross_lanes.ensures.masks_after;
+      log_after = kind-log a.givens.now.cells a.laid.now.masks a.log.now e c.cross_lanes.ensures.log_after;
     }

@@ -6,13 +6,12 @@ use Rattle.steps.specs.Passes.{settle, settle_in}
 use Rattle.steps.specs.StepLists.{settling_instances}
 use Rattle.steps.specs.code.Logs.{log_after}
 use Rattle.steps.proofs.StepLogs.{sweeps_of}
-use Rattle.lanes.specs.code.Lanes.{laid}
 use Rattle.passes.specs.code.Rounds.{LastIdle}
 use Rattle.passes.specs.code.Tallies.{Tally}
 use Rattle.passes.proofs.sweep_on.Given as goal
 
 abbrev pub invariant-loop-sweeps : goal.invariant-loop-sweeps
 invariant-loop-sweeps l =
-    (l.lanes ≡ laid l.masks) × (l.idle < 6) × LastIdle l.givens l.idle l.masks × (l.sweeps + (settle_in (730 - l.sweeps) l.givens l.masks).sweeps ≡ (settle l.givens l.initial.masks).sweeps) × ((settle_in (730 - l.sweeps) l.givens l.masks).left ≡ (settle l.givens l.initial.masks).left)
-    × (log_after l.givens (sweeps_of l.givens (settle_in (730 - l.sweeps) l.givens l.masks).sweeps) l.masks l.log ≡ log_after l.givens (settling_instances l.givens l.initial.masks) l.initial.masks l.initial.log)
-    × Tally l.masks l.tally × (added l.tally (removed_in l.givens (settle_in (730 - l.sweeps) l.givens l.masks).sweeps l.masks) ≡ added l.initial.tally (pass_counts l.givens l.initial.masks))
+    (l.idle < 6) × LastIdle l.givens.cells l.idle l.laid.masks × (l.sweeps + (settle_in (730 - l.sweeps) l.givens.cells l.laid.masks).sweeps ≡ (settle l.givens.cells l.initial.laid.masks).sweeps) × ((settle_in (730 - l.sweeps) l.givens.cells l.laid.masks).left ≡ (settle l.givens.cells l.initial.laid.masks).left)
+    × (log_after l.givens.cells (sweeps_of l.givens.cells (settle_in (730 - l.sweeps) l.givens.cells l.laid.masks).sweeps) l.laid.masks l.log ≡ log_after l.givens.cells (settling_instances l.givens.cells l.initial.laid.masks) l.initial.laid.masks l.initial.log)
+    × Tally l.laid.masks l.tally × (added l.tally (removed_in l.givens.cells (settle_in (730 - l.sweeps) l.givens.cells l.laid.masks).sweeps l.laid.masks) ≡ added l.initial.tally (pass_counts l.givens.cells l.initial.laid.masks))

@@ -12,13 +12,12 @@ pub returns-then-loose_digits-eq0 : goal.returns-then-loose_digits-eq0
 unfolding pass
 returns-then-loose_digits-eq0 c =
     let a = c.args in
-    let idle = lone-idle a.givens.now a.masks.now (sym c.loose_digits.ensures ∙ c.if-loose_digits-eq0.true) in record {
+    let idle = lone-idle a.givens.now a.laid.now.masks (sym c.loose_digits.ensures ∙ c.if-loose_digits-eq0.true) in record {
       masks_after = sym idle;
-      lanes_after = c.requires;
-      log_after = sym (log-idle a.givens.now (instances Lone) a.masks.now a.log.now idle);
+      log_after = sym (log-idle a.givens.now (instances Lone) a.laid.now.masks a.log.now idle);
     }
 
 pub lone_rows-requires : goal.lone_rows-requires
 lone_rows-requires c =
-    let m = c.args.masks.now in
-    subst (λ (s : List ℕ). Covers s m) (sym (c.shared_lanes-sets.ensures ∙ ap shared_lanes c.requires)) (sets-cover m)
+    let m = c.args.laid.now.masks in
+    subst (λ (s : List ℕ). Covers s m) (sym (c.shared_lanes-sets.ensures ∙ ap shared_lanes c.args.laid.now.in_lanes)) (sets-cover m)

@@ -57,13 +57,11 @@ unfolding step_bytes
 returns-then-lose_at c =
     let a = c.args in
     let g = a.givens.now in
-    let m = a.masks.now in
+    let m = a.laid.now.masks in
     let q = c.requires in
-    let within : c.unit_cell-cell.result < 81 = omega (arith, c.unit_cell-cell.ensures, cell_below a.unit a.place q.0 q.2) in
     let loss = c.lose_at.ensures in
     let e = lost g m a.unit a.digit a.place q.0 q.1 q.2 q.3 c.unit_cell-cell.ensures (c.digit_mask.ensures ∙ place_is a.digit q.1) c.lose-others.ensures loss.masks_after in record {
       masks_after = e;
-      lanes_after = laid-lost g m c.unit_cell-cell.result c.lose-others.result within loss.masks_after q.4 c.lay_cell.ensures;
       log_after = c.note.ensures ∙ ap (λ (i : ℕ). noted (1 ∷ a.unit ∷ (a.digit + 1) ∷ i ∷ 0 ∷ 0 ∷ []) a.log.now) c.unit_cell-cell.ensures
           ∙ noted-lost g (place a.unit a.digit a.place) m e a.log.now (sym loss.value ∙ c.if-lose_at.true);
     }
@@ -72,12 +70,24 @@ pub returns-else-lose_at : goal.returns-else-lose_at
 returns-else-lose_at c =
     let a = c.args in
     let g = a.givens.now in
-    let m = a.masks.now in
+    let m = a.laid.now.masks in
     let q = c.requires in
     let loss = c.lose_at.ensures in
     let e = lost g m a.unit a.digit a.place q.0 q.1 q.2 q.3 c.unit_cell-cell.ensures (c.digit_mask.ensures ∙ place_is a.digit q.1) c.lose-others.ensures loss.masks_after in
     let idle = sym loss.value ∙ c.if-lose_at.false in record {
       masks_after = e;
-      lanes_after = q.4 ∙ ap laid (same-eq m _ (not-false _ idle));
       log_after = noted-kept g (place a.unit a.digit a.place) m e a.log.now idle;
     }
+
+pub invariant_of-laid : goal.invariant_of-laid
+invariant_of-laid c =
+    let q = c.requires in
+    let before = c.args.laid.now in
+    let within : c.unit_cell-cell.result < 81 = omega (arith, c.unit_cell-cell.ensures, cell_below c.args.unit c.args.place q.0 q.2) in
+    record { in_lanes = laid-lost c.args.givens.now before.masks c.unit_cell-cell.result c.lose-others.result within c.lose_at.ensures.masks_after before.in_lanes c.lay_cell.ensures }
+
+pub invariant_of-laid-else-lose_at : goal.invariant_of-laid-else-lose_at
+invariant_of-laid-else-lose_at c =
+    let before = c.args.laid.now in
+    let idle = sym c.lose_at.ensures.value ∙ c.if-lose_at.false in
+    record { in_lanes = before.in_lanes ∙ ap laid (same-eq before.masks _ (not-false _ idle)) }

@@ -1,5 +1,5 @@
-use mathlib.Core.Path.{◌≡◌, ap, ◌∙◌}
-use mathlib.Core.List.{List, [], ◌∷◌}
+use mathlib.Core.Path.{ap, ◌∙◌}
+use mathlib.Core.List.{[], ◌∷◌}
 use Prim.Native.Nat.{ℕ, ◌<◌}
 use native.Mathlib.Omega.{arith}
 use Rattle.candidates.specs.Masks.{minus, count, single, lowest}
@@ -8,67 +8,53 @@ use Rattle.candidates.proofs.FewDigits.{lowest-in}
 use Rattle.steps.specs.Instances as named
 use Rattle.steps.specs.Passes.{instance_taken}
 use Rattle.steps.specs.code.Logs.{log_after}
-use Rattle.cells.specs.code.Places.{spots_in, held_places}
+use Rattle.cells.specs.code.Places.{held_places}
 use Rattle.cells.proofs.HeldPlaces.{held_small}
 use Rattle.cells.proofs.Rising.{lowest-place}
-use Rattle.lanes.specs.code.Lanes.{lane_masks, lane_of}
 use Rattle.lone_place.specs.code.Due.{turns_of}
 use Rattle.lone_place.proofs.PlaceSets.{turning-start, turning-on, turning-end}
-use Rattle.lone_place.proofs.UnitLanes.{lane-spots}
 use Rattle.lone_place.proofs.places.place_digit.Goals as goal
 
 pub turns_of-left-requires : goal.turns_of-left-requires
 turns_of-left-requires c =
-    let held : let a = c.args in c.held_in.result ≡ held_places a.masks.now a.unit a.digit = (
     let a = c.args in
-    c.held_in.ensures ∙ ap (λ (p : List ℕ). spots_in (lane_masks p (lane_of a.unit)) a.digit) c.requires.2 ∙ lane-spots a.masks.now a.unit c.requires.0 a.digit c.requires.1
-    ) in
-    let a = c.args in
-    omega (arith, held, held_small a.masks.now a.unit a.digit)
+    omega (arith, c.held_in.ensures, held_small a.laid.now.masks a.unit a.digit)
 
 pub loop-left-init : goal.loop-left-init
 loop-left-init c =
-    let held : let a = c.args in c.held_in.result ≡ held_places a.masks.now a.unit a.digit = (
     let a = c.args in
-    c.held_in.ensures ∙ ap (λ (p : List ℕ). spots_in (lane_masks p (lane_of a.unit)) a.digit) c.requires.2 ∙ lane-spots a.masks.now a.unit c.requires.0 a.digit c.requires.1
-    ) in
-    let a = c.args in
-    (turning-start a.givens.now a.unit a.digit c.requires.0 c.requires.1 a.masks.now a.log.now (c.turns_of-left.ensures ∙ ap turns_of (held)), c.requires.2)
+    turning-start a.givens.now a.unit a.digit c.requires.0 c.requires.1 a.laid.now.masks a.log.now (c.turns_of-left.ensures ∙ ap turns_of c.held_in.ensures)
 
 pub place_at-requires : goal.place_at-requires
 place_at-requires c =
     let l = c.loop-left in
     let x = l.left in
     let some : 0 < x = omega arith in
-    let low = l.invariant.0.small in
+    let low = l.invariant.small in
     let e = c.lowest_digit.ensures in (
       c.requires.0,
       c.requires.1,
       omega (arith, e, lowest-place x some low),
-      ap (λ (i : ℕ). minus (held_places l.masks c.args.unit c.args.digit) (single i)) e ∙ l.invariant.0.passing (lowest x) (lowest-in x some (omega arith)),
-      l.invariant.1,
+      ap (λ (i : ℕ). minus (held_places l.laid.masks c.args.unit c.args.digit) (single i)) e ∙ l.invariant.passing (lowest x) (lowest-in x some (omega arith)),
     )
 
 pub loop-left-smaller : goal.loop-left-smaller
 loop-left-smaller c =
     let l = c.loop-left in
-    omega (arith, ap count c.lose_lowest-left.ensures, count-tail l.left (omega arith) (omega (arith, l.invariant.0.small)))
+    omega (arith, ap count c.lose_lowest-left.ensures, count-tail l.left (omega arith) (omega (arith, l.invariant.small)))
 
 pub loop-left-preserved : goal.loop-left-preserved
 loop-left-preserved c =
     let l = c.loop-left in
     let a = c.args in
     let g = a.givens.now in
-    let e = c.lowest_digit.ensures in (
-      turning-on g a.unit a.digit c.requires.0 c.requires.1 l.invariant.0 (omega arith) (c.place_at.ensures.masks_after ∙ ap (λ (i : ℕ). instance_taken g (named.place a.unit a.digit i) l.masks) e)
-          (c.place_at.ensures.log_after ∙ ap (λ (i : ℕ). log_after g (named.place a.unit a.digit i ∷ []) l.masks l.log) e) c.lose_lowest-left.ensures,
-      c.place_at.ensures.lanes_after,
-    )
+    let e = c.lowest_digit.ensures in
+    turning-on g a.unit a.digit c.requires.0 c.requires.1 l.invariant (omega arith) (c.place_at.ensures.masks_after ∙ ap (λ (i : ℕ). instance_taken g (named.place a.unit a.digit i) l.laid.masks) e)
+    (c.place_at.ensures.log_after ∙ ap (λ (i : ℕ). log_after g (named.place a.unit a.digit i ∷ []) l.laid.masks l.log) e) c.lose_lowest-left.ensures
 
 pub returns : goal.returns
 returns c =
-    let w = turning-end c.args.givens.now c.args.unit c.args.digit c.requires.0 c.requires.1 c.loop-left.invariant.0 (omega (arith, c.loop-left-test.false)) in record {
+    let w = turning-end c.args.givens.now c.args.unit c.args.digit c.requires.0 c.requires.1 c.loop-left.invariant (omega (arith, c.loop-left-test.false)) in record {
       masks_after = w.0;
-      lanes_after = c.loop-left.invariant.1;
       log_after = w.1;
     }

@@ -2,7 +2,6 @@ use mathlib.Core.Path.{refl, sym, ap, ◌∙◌}
 use Prim.Native.Nat.{◌+◌, ◌*◌}
 use native.Mathlib.Omega.{arith}
 use Rattle.steps.proofs.StepLogs.{log-idle, log-done, log-over}
-use Rattle.lanes.specs.code.Lanes.{laid}
 use Rattle.lanes.proofs.Turns.{going_start, going_on, going-past, going_end}
 use Rattle.lone_place.specs.code.Turns.{unit_places, family_places}
 use Rattle.lone_place.specs.code.Due.{place_family}
@@ -14,7 +13,7 @@ use Rattle.lone_place.proofs.places.place_due.Goals as goal
 
 pub loop-nth-init : goal.loop-nth-init
 unfolding family_places
-loop-nth-init c = (going_start (place-parted c.args.givens.now c.args.family c.requires.0) c.args.masks.now, refl, c.requires.2)
+loop-nth-init c = (going_start (place-parted c.args.givens.now c.args.family c.requires.0) c.args.laid.now.masks, refl)
 
 pub loop-nth-preserved : goal.loop-nth-preserved
 loop-nth-preserved c =
@@ -23,19 +22,18 @@ loop-nth-preserved c =
     let g = a.givens.now in
     let u = 9 * a.family + l.nth in
     let parts = place-parted g a.family c.requires.0 in
-    let unit = place-unit g u l.masks in
+    let unit = place-unit g u l.laid.masks in
     elim c.if-due-nth-ne0.branch [
       | then-due-nth-ne0 w ↦
-          let e = w.masks-is ∙ w.place_unit.ensures.masks_after in (
+          let e = ap (λ x. x.masks) w.laid-is ∙ w.place_unit.ensures.masks_after in (
             going_on parts l.invariant.0 (omega arith) e,
-            log-done g (block a.family) 9 l.nth l.masks l.log (omega arith) (e ∙ unit) (w.log-is ∙ w.place_unit.ensures.log_after) l.invariant.1,
-            w.lanes-is ∙ w.place_unit.ensures.lanes_after ∙ ap laid (sym w.masks-is),
+            log-done g (block a.family) 9 l.nth l.laid.masks l.log (omega arith) (e ∙ unit) (w.log-is ∙ w.place_unit.ensures.log_after) l.invariant.1,
           )
       | else-due-nth-ne0 w ↦
-          let idle = (spares-skips c.requires.1).idle l.nth (omega arith) w.if-due-nth-ne0.false l.masks (l.invariant.0.same l.nth (omega arith) (omega arith)) in (
-            going-past parts l.invariant.0 (omega arith) w.masks-is idle,
-            log-done g (block a.family) 9 l.nth l.masks l.log (omega arith) (w.masks-is ∙ sym idle ∙ unit) (w.log-is ∙ sym (log-idle g (unit_places u) l.masks l.log (sym unit ∙ idle))) l.invariant.1,
-            w.lanes-is ∙ l.invariant.2 ∙ ap laid (sym w.masks-is),
+          let same = ap (λ x. x.masks) w.laid-is in
+          let idle = (spares-skips c.requires.1).idle l.nth (omega arith) w.if-due-nth-ne0.false l.laid.masks (l.invariant.0.same l.nth (omega arith) (omega arith)) in (
+            going-past parts l.invariant.0 (omega arith) same idle,
+            log-done g (block a.family) 9 l.nth l.laid.masks l.log (omega arith) (same ∙ sym idle ∙ unit) (w.log-is ∙ sym (log-idle g (unit_places u) l.laid.masks l.log (sym unit ∙ idle))) l.invariant.1,
           )
     ]
 
@@ -45,6 +43,5 @@ returns c =
     let a = c.args in
     let l = c.loop-nth in record {
       masks_after = going_end (place-parted a.givens.now a.family c.requires.0) l.invariant.0 c.loop-nth-test.false;
-      lanes_after = l.invariant.2;
-      log_after = log-over a.givens.now (block a.family) 9 l.nth l.masks l.log c.loop-nth-test.false l.invariant.1;
+      log_after = log-over a.givens.now (block a.family) 9 l.nth l.laid.masks l.log c.loop-nth-test.false l.invariant.1;
     }

@@ -25,8 +25,8 @@ pub loop-digit-init : goal.loop-digit-init
 unfolding place_unit unit_places
 loop-digit-init c =
     let a = c.args in
-    let w = next-due a.givens.now a.unit a.first a.masks.now a.log.now c.requires.1 0 (omega arith) c.first_digit-digit.ensures in
-    (w.0, w.1, c.requires.2)
+    let w = next-due a.givens.now a.unit a.first a.laid.now.masks a.log.now c.requires.1 0 (omega arith) c.first_digit-digit.ensures in
+    (w.0, w.1)
 
 pub loop-digit-smaller : goal.loop-digit-smaller
 loop-digit-smaller c =
@@ -40,15 +40,14 @@ loop-digit-preserved c =
     let g = a.givens.now in
     let made = c.place_digit.ensures in
     let w =
-    turn-next g a.unit l.digit l.masks l.log (omega arith) made.masks_after made.log_after (spared g a.unit c.requires.0 c.due_digits.ensures made.lanes_after) c.first_digit-digit-in-loop-digit.ensures
+    turn-next g a.unit l.digit l.laid.masks l.log (omega arith) made.masks_after made.log_after (spared g a.unit c.requires.0 c.due_digits.ensures c.place_digit.new.laid.in_lanes) c.first_digit-digit-in-loop-digit.ensures
     l.invariant.0 l.invariant.1 in
-    (w.0, w.1, made.lanes_after)
+    (w.0, w.1)
 
 pub returns : goal.returns
 returns c =
     let l = c.loop-digit in
     let a = c.args in record {
       masks_after = turns-over (place_digit a.givens.now a.unit) 9 l.digit c.loop-digit-test.false l.invariant.0;
-      lanes_after = l.invariant.2;
-      log_after = log-over a.givens.now (digit_places a.unit) 9 l.digit l.masks l.log c.loop-digit-test.false l.invariant.1;
+      log_after = log-over a.givens.now (digit_places a.unit) 9 l.digit l.laid.masks l.log c.loop-digit-test.false l.invariant.1;
     }

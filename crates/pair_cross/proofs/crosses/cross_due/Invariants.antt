@@ -16,4 +16,4 @@ abbrev pub block : ℕ → ℕ → List Instance
 block half digit = frame_instances (Lines (9 * half) digit)
 
 abbrev pub invariant-loop-digit : goal.invariant-loop-digit
-invariant-loop-digit l = Going Alike (λ d. frame_taken l.givens (Lines (9 * l.half) d)) l.initial.masks l.masks l.digit × (log_after l.givens (for (range (9 - l.digit) l.digit) (block l.half)) l.masks l.log ≡ log_after l.givens (cross_instances (9 * l.half)) l.initial.masks l.initial.log)
+invariant-loop-digit l = Going Alike (λ d. frame_taken l.givens.cells (Lines (9 * l.half) d)) l.initial.masks l.masks l.digit × (log_after l.givens.cells (for (range (9 - l.digit) l.digit) (block l.half)) l.masks l.log ≡ log_after l.givens.cells (cross_instances (9 * l.half)) l.initial.masks l.initial.log)

@@ -17,4 +17,4 @@ abbrev pub block : ℕ → ℕ → List Instance
 block family nth = frame_instances (Unit (9 * family + nth))
 
 abbrev pub invariant-loop-nth : goal.invariant-loop-nth
-invariant-loop-nth l = Going (λ k. SameOn (9 * l.family + k)) (pair_turn l.givens l.family) l.initial.masks l.masks l.nth × (log_after l.givens (for (range (9 - l.nth) l.nth) (block l.family)) l.masks l.log ≡ log_after l.givens (family_instances l.family) l.initial.masks l.initial.log)
+invariant-loop-nth l = Going (λ k. SameOn (9 * l.family + k)) (pair_turn l.givens.cells l.family) l.initial.masks l.masks l.nth × (log_after l.givens.cells (for (range (9 - l.nth) l.nth) (block l.family)) l.masks l.log ≡ log_after l.givens.cells (family_instances l.family) l.initial.masks l.initial.log)

@@ -2,7 +2,7 @@
 use mathlib.Core.Path.{sym, ◌∙◌}
 use Rattle.steps.proofs.StepLogs.{log-idle}
 use Rattle.lanes.proofs.Turns.{skips-idle}
-use Rattle.pair_cross.specs.code.Lively.{pair_family, family_instances, PairSkips}
+use Rattle.pair_cross.specs.code.Lively.{pair_family, family_instances}
 use Rattle.pair_cross.proofs.FrameInstances.{family-each}
 use Rattle.pair_cross.proofs.PairLanes.{pair-skipped, pair-parted}
 use Rattle.pair_cross.proofs.pairs.pair_family.Goals as goal
@@ -10,20 +10,16 @@ use Rattle.pair_cross.proofs.pairs.pair_family.Goals as goal
 pub returns-then-join_sets-eq0 : goal.returns-then-join_sets-eq0
 unfolding pair_family
 returns-then-join_sets-eq0 c =
-    let skips : PairSkips c.args.givens.now c.args.masks.now c.args.family c.lively_lanes-due.result = (
-    pair-skipped c.args.givens.now c.args.masks.now c.args.family c.requires.0 c.requires.1 c.loose-free.ensures c.lively_lanes-due.ensures
-    ) in
     let a = c.args in
-    let g = a.givens.now in
-    let idle = skips-idle (pair-parted g a.family c.requires.0) (skips) (sym c.join_sets.ensures ∙ c.if-join_sets-eq0.true) in record {
+    let g = a.givens.now.cells in
+    let m = a.laid.now.masks in
+    let skips = pair-skipped g m a.family c.requires a.givens.now.in_lanes a.laid.now.in_lanes c.loose-free.ensures c.lively_lanes-due.ensures in
+    let idle = skips-idle (pair-parted g a.family c.requires) skips (sym c.join_sets.ensures ∙ c.if-join_sets-eq0.true) in record {
       masks_after = sym idle;
-      lanes_after = c.requires.1.masks;
-      log_after = sym (log-idle g (family_instances a.family) a.masks.now a.log.now (family-each g a.family c.requires.0 a.masks.now ∙ idle));
+      log_after = sym (log-idle g (family_instances a.family) m a.log.now (family-each g a.family c.requires m ∙ idle));
     }
 
 pub pair_due-requires : goal.pair_due-requires
 pair_due-requires c =
-    let skips : PairSkips c.args.givens.now c.args.masks.now c.args.family c.lively_lanes-due.result = (
-    pair-skipped c.args.givens.now c.args.masks.now c.args.family c.requires.0 c.requires.1 c.loose-free.ensures c.lively_lanes-due.ensures
-    ) in
-    (c.requires.0, c.requires.1, skips)
+    let a = c.args in
+    (c.requires, pair-skipped a.givens.now.cells a.laid.now.masks a.family c.requires a.givens.now.in_lanes a.laid.now.in_lanes c.loose-free.ensures c.lively_lanes-due.ensures)

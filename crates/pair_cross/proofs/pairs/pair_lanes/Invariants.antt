@@ -4,11 +4,10 @@ use Prim.Native.Nat.{◌-◌}
 use Rattle.steps.specs.Loops.{each, for, range}
 use Rattle.steps.specs.Passes.{pass, instances, Pair}
 use Rattle.steps.specs.code.Logs.{log_after}
-use Rattle.lanes.specs.code.Lanes.{laid}
 use Rattle.pair_cross.specs.code.Lively.{pair_family, family_instances}
 use Rattle.pair_cross.proofs.pairs.pair_lanes.Given as goal
 
 abbrev pub invariant-loop-family : goal.invariant-loop-family
 invariant-loop-family l =
-    (each (pair_family l.givens) (range (3 - l.family) l.family) l.masks ≡ pass l.givens Pair l.initial.masks) × (l.lanes ≡ laid l.masks)
-    × (log_after l.givens (for (range (3 - l.family) l.family) family_instances) l.masks l.log ≡ log_after l.givens (instances Pair) l.initial.masks l.initial.log)
+    (each (pair_family l.givens.cells) (range (3 - l.family) l.family) l.laid.masks ≡ pass l.givens.cells Pair l.initial.laid.masks)
+    × (log_after l.givens.cells (for (range (3 - l.family) l.family) family_instances) l.laid.masks l.log ≡ log_after l.givens.cells (instances Pair) l.initial.laid.masks l.initial.log)

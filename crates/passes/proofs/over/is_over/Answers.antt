@@ -31,23 +31,23 @@ pub returns-then-left-gt81 : goal.returns-then-left-gt81
 unfolding is_over
 returns-then-left-gt81 c =
     let a = c.args in
-    many a.left (beside_one a.masks.now) (loose_digits a.givens.now a.masks.now) (lacked_in a.lanes.now) c.if-left-gt81.true
+    many a.left (beside_one a.laid.now.masks) (loose_digits a.givens.now a.laid.now.masks) (lacked_in a.laid.now.lanes) c.if-left-gt81.true
 
 pub returns-then-beside_one-ne0 : goal.returns-then-beside_one-ne0
 unfolding is_over
 returns-then-beside_one-ne0 c =
     let a = c.args in
-    several a.left (beside_one a.masks.now) (loose_digits a.givens.now a.masks.now) (lacked_in a.lanes.now) (omega (arith, c.if-left-gt81.false)) (λ e. c.if-beside_one-ne0.true (c.beside_one.ensures ∙ e))
+    several a.left (beside_one a.laid.now.masks) (loose_digits a.givens.now a.laid.now.masks) (lacked_in a.laid.now.lanes) (omega (arith, c.if-left-gt81.false)) (λ e. c.if-beside_one-ne0.true (c.beside_one.ensures ∙ e))
 
 pub returns-then-loose_digits-eq0 : goal.returns-then-loose_digits-eq0
 unfolding is_over
 returns-then-loose_digits-eq0 c =
     let a = c.args in
-    dead a.left (beside_one a.masks.now) (loose_digits a.givens.now a.masks.now) (lacked_in a.lanes.now) (omega (arith, c.if-left-gt81.false)) (sym c.beside_one.ensures ∙ c.if-beside_one-ne0.false) (sym c.loose_digits.ensures ∙ c.if-loose_digits-eq0.true)
+    dead a.left (beside_one a.laid.now.masks) (loose_digits a.givens.now a.laid.now.masks) (lacked_in a.laid.now.lanes) (omega (arith, c.if-left-gt81.false)) (sym c.beside_one.ensures ∙ c.if-beside_one-ne0.false) (sym c.loose_digits.ensures ∙ c.if-loose_digits-eq0.true)
 
 pub returns : goal.returns
 unfolding is_over
 returns c =
     let a = c.args in
     ap (λ (x : ℕ). eqb x 0) c.lacked.ensures
-    ∙ full a.left (beside_one a.masks.now) (loose_digits a.givens.now a.masks.now) (lacked_in a.lanes.now) (omega (arith, c.if-left-gt81.false)) (sym c.beside_one.ensures ∙ c.if-beside_one-ne0.false) (λ e. c.if-loose_digits-eq0.false (c.loose_digits.ensures ∙ e))
+    ∙ full a.left (beside_one a.laid.now.masks) (loose_digits a.givens.now a.laid.now.masks) (lacked_in a.laid.now.lanes) (omega (arith, c.if-left-gt81.false)) (sym c.beside_one.ensures ∙ c.if-beside_one-ne0.false) (λ e. c.if-loose_digits-eq0.false (c.loose_digits.ensures ∙ e))
