@@ -32,7 +32,8 @@ use pair_cross::crosses::cross_lanes;
 use pair_cross::pairs::pair_lanes;
 use stops::Stop;
 
-// A wide pass by its number in a sweep. The log takes the steps that remove something.
+// A wide pass by its number in a sweep, at which the sweep counts it too: an enum of the six would have to be numbered for that. The log takes the steps
+// that remove something.
 fn nth_pass(givens: &LaidGivens, laid: &mut LaidMasks, log: &mut [u8], nth: usize)
     ensures masks_after { laid.new.masks ≡ pass givens.now.cells (nth_kind nth) laid.old.masks }
     ensures log_after { log.new ≡ log_after givens.now.cells (instances (nth_kind nth)) laid.old.masks log.old }
