@@ -85,6 +85,7 @@ pub fn lose_lowest(mask: u16) -> u16
     mask & (mask - 1)
 }
 
+// A word of the field's, as `is_one` and `is_two` are: no caller spells a set as a number.
 pub fn is_none(mask: u16) -> bool
     ensures { result ≡ eqb (count mask) 0 }
 {

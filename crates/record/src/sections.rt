@@ -17,7 +17,7 @@ pub enum Section {
     Removed,
 }
 
-// The bytes of the section's count.
+// The bytes of the section's count, as the record's form has them.
 fn count_width(section: Section) -> usize
     ensures { result ≡ width section }
 {
@@ -84,7 +84,7 @@ pub fn put_section(
     end
 }
 
-// The byte at an offset as a number; 0 past the record.
+// The byte at an offset as a number; 0 past the record. Offsets are of the whole record, since its stops say them.
 fn value_at(bytes: &[u8], at: usize) -> usize
     ensures { result ≡ get_or bytes.now at 0 }
 {

@@ -28,6 +28,7 @@ fn raise(tally: &mut Tally, place: usize)
     tally[place] = count_one(tally[place]);
 }
 
+// The tally's own order, which is no verdict's number elsewhere.
 fn verdict_place(verdict: Verdict) -> usize
     ensures { (result ≡ verdict_place verdict) × (result < 7) }
 {

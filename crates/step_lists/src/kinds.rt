@@ -147,7 +147,7 @@ fn take_step(
     }
 }
 
-// The step of the six bytes from a place on; a shorter piece names none.
+// The step of the six bytes from a place on, which the stop says; a shorter piece names none.
 pub fn take_at(givens: &[u8; 81], masks: &mut [u16; 81], steps: &[u8], at: usize) -> bool
     requires { at < 4374 }
     ensures masks_after { masks.new ≡ after_step givens.now (named_at steps.now at) masks.old }

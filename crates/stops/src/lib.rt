@@ -53,7 +53,7 @@ pub enum Stop {
     NoOpenCell,
 }
 
-// The paper's number of a stop.
+// The paper's number of a stop: written out, since it is the paper's order and not this file's.
 pub fn number(stop: Stop) -> u8
     ensures { result ≡ (row_of stop).number }
 {

@@ -9,6 +9,7 @@ use crate::codes;
 use board::{Board, Verdict};
 use stops::Stop;
 
+// A verdict by the number that callers in C have.
 fn verdict_number(verdict: Verdict) -> i64
     ensures { result ≡ verdict_number verdict }
 {

@@ -16,6 +16,7 @@ enum Lines {
     Columns,
 }
 
+// Units as grid numbers them: rows from 0, columns from 9.
 impl Lines {
     // The unit of the first line.
     fn first(self) -> usize
