@@ -46,6 +46,11 @@ abbrev pub next_answer : rust.Option ℤ → SudokuCandidateIter → Option (ℤ
 next_answer (Some z) rest = some (z, rest.mask, rest.current)
 next_answer None rest = none
 
+-- where there is no digit the iterator stays as it was
+abbrev pub stays : rust.Option ℤ → SudokuCandidateIter → SudokuCandidateIter → Type 0
+stays (Some z) before rest = Unit {0}
+stays None before rest = rest ≡ before
+
 -- ---- the calls
 
 abbrev pub single_of : ℤ → Answer ℕ

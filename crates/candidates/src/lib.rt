@@ -6,7 +6,7 @@ ghost use Rattle.std.specs.Prelude.{◌≡◌, ◌-◌, eqb};
 ghost use Rattle.std.specs.Iterator.{at_most};
 ghost use Rattle.candidates.specs.Masks.{low_nine, count};
 ghost use Rattle.stops.specs.Answer.{answer_of, map};
-ghost use Rattle.candidates.specs.Sets.{next_answer};
+ghost use Rattle.candidates.specs.Sets.{next_answer, stays};
 ghost use Rattle.candidates.specs.Sets.{single_of, contains_of, insert_of, inserted, removed, single_candidate_of, next_of};
 
 use stops::Stop;
@@ -128,7 +128,7 @@ impl SudokuCandidateSet {
 impl Iterator for SudokuCandidateIter {
     type Item = i32;
 
-    ghost next_gives = { λ before digit after. next_answer digit after ≡ next_of before.mask before.current };
+    ghost next_gives = { λ before digit after. (next_answer digit after ≡ next_of before.mask before.current) × stays digit before after };
 
     ghost remaining = { λ left. at_most (9 - left.current) };
 

@@ -69,11 +69,10 @@ fn renew(made: bool, givens: &[u8; 81], masks: &mut [u16; 81])
     }
 }
 
-// Naked singles, hidden singles, naked pairs: whether there was progress. With any the masks become fresh again. There is no report before.
+// Naked singles, hidden singles, naked pairs: whether there was progress. With any the masks become fresh again.
 fn advance_into(givens: &[u8; 81], masks: &mut [u16; 81], reports: &mut Reports) -> bool
-    requires { reports.old.count ≡ 0 }
     ensures made_value { result ≡ (outcome advanced_call givens.now masks.old).flag }
-    ensures reports_after { reports.new ≡ append (outcome advanced_call givens.now masks.old).reports reports.old }
+    ensures reports_after { reports.new ≡ append (outcome advanced_call givens.now masks.old).reports (cleared reports.old) }
     ensures masks_after { masks.new ≡ (outcome advanced_call givens.now masks.old).masks }
 {
     singles::singles_into(givens, masks, reports);
@@ -82,24 +81,25 @@ fn advance_into(givens: &[u8; 81], masks: &mut [u16; 81], reports: &mut Reports)
     made
 }
 
-// What a search leaves of masks that are not checked, its reports where there are none, and whether there was progress.
+// What a search leaves of masks that are not checked, its reports in place of those before, and whether there was progress.
 fn find_into(
     search: Search,
     givens: &[u8; 81],
     masks: &mut [u16; 81],
     reports: &mut Reports,
 ) -> bool
-    requires { reports.old.count ≡ 0 }
     ensures made_value { result ≡ (outcome (search_call search) givens.now masks.old).flag }
-    ensures reports_after { reports.new ≡ append (outcome (search_call search) givens.now masks.old).reports reports.old }
+    ensures reports_after { reports.new ≡ append (outcome (search_call search) givens.now masks.old).reports (cleared reports.old) }
     ensures masks_after { masks.new ≡ (outcome (search_call search) givens.now masks.old).masks }
 {
     match search {
         Search::Naked => {
+            reports.clear();
             singles::naked_singles(givens, masks, reports);
             any(reports)
         }
         Search::Hidden => {
+            reports.clear();
             singles::hidden_singles(givens, masks, reports);
             any(reports)
         }

@@ -62,7 +62,7 @@ fn only_digit(mask: u16) -> u8
 }
 
 // Open cells with one candidate, rising, after what is reported.
-pub(crate) fn naked_singles(givens: &[u8; 81], masks: &[u16; 81], reports: &mut Reports)
+pub fn naked_singles(givens: &[u8; 81], masks: &[u16; 81], reports: &mut Reports)
     requires { reports.old.count + 81 ≤ 324 }
     ensures reports_after { reports.new ≡ append (naked_singles givens.now masks.now) reports.old }
     ensures few { reports.new.count ≤ reports.old.count + 81 }
@@ -100,7 +100,7 @@ fn hidden_in(givens: &[u8; 81], masks: &[u16; 81], unit: usize, reports: &mut Re
 }
 
 // The same for rows, columns and boxes, repeats kept.
-pub(crate) fn hidden_singles(givens: &[u8; 81], masks: &[u16; 81], reports: &mut Reports)
+pub fn hidden_singles(givens: &[u8; 81], masks: &[u16; 81], reports: &mut Reports)
     requires { reports.old.count + 243 ≤ 324 }
     ensures { reports.new ≡ append (hidden_singles givens.now masks.now) reports.old }
 {
@@ -109,11 +109,11 @@ pub(crate) fn hidden_singles(givens: &[u8; 81], masks: &[u16; 81], reports: &mut
     }
 }
 
-// Naked singles and then hidden ones, where nothing is reported before.
-pub(crate) fn singles_into(givens: &[u8; 81], masks: &[u16; 81], reports: &mut Reports)
-    requires { reports.old.count ≡ 0 }
-    ensures { reports.new ≡ append (naked_singles givens.now masks.now ++ hidden_singles givens.now masks.now) reports.old }
+// Naked singles and then hidden ones, in place of what was reported before.
+pub fn singles_into(givens: &[u8; 81], masks: &[u16; 81], reports: &mut Reports)
+    ensures { reports.new ≡ append (naked_singles givens.now masks.now ++ hidden_singles givens.now masks.now) (cleared reports.old) }
 {
+    reports.clear();
     naked_singles(givens, masks, reports);
     hidden_singles(givens, masks, reports);
 }

@@ -1,12 +1,12 @@
 -- Each arm says which search it is.
-use mathlib.Core.Path.{◌≡◌, refl, sym, subst, ◌∙◌}
+use mathlib.Core.Path.{◌≡◌, refl, sym, ap, subst, ◌∙◌}
 use mathlib.Core.Bool.{Bool}
 use mathlib.Core.List.{List}
 use Prim.Native.Nat.{ℕ}
 use native.Mathlib.Omega.{arith}
 use Rattle.steps.specs.Calls.{outcome}
 use Rattle.steps.specs.Singles.{naked_singles, hidden_singles}
-use Rattle.techniques.specs.code.Pushes.{append}
+use Rattle.techniques.specs.code.Pushes.{append, cleared}
 use Rattle.techniques.specs.code.Searches.{search_call}
 use Rattle.techniques.specs.declared.Search.{Search}
 use Rattle.techniques.specs.declared.singles.Reports.{Reports}
@@ -28,10 +28,10 @@ returns-in-Naked c =
     let a = c.args in
     let g = a.givens.now in
     let m = a.masks.now in
-    let found = c.naked_singles.ensures.reports_after in
+    let found = c.naked_singles.ensures.reports_after ∙ ap (append (naked_singles g m)) c.clear.ensures in
     let few = naked-few g m in
-    let made = c.any.ensures ∙ some-found (naked_singles g m) (omega (arith, few)) a.reports.now c.requires found in
-    let e = by_name g m a.reports.now (sym c.in-Naked.is) (made, (found, refl)) in
+    let made = c.any.ensures ∙ some-found (naked_singles g m) (omega (arith, few)) (cleared a.reports.now) refl found in
+    let e = by_name g m (cleared a.reports.now) (sym c.in-Naked.is) (made, (found, refl)) in
     record { made_value = e.0; reports_after = e.1.0; masks_after = e.1.1 }
 
 pub returns-in-Hidden : goal.returns-in-Hidden
@@ -40,8 +40,8 @@ returns-in-Hidden c =
     let a = c.args in
     let g = a.givens.now in
     let m = a.masks.now in
-    let found = c.hidden_singles.ensures in
+    let found = c.hidden_singles.ensures ∙ ap (append (hidden_singles g m)) c.clear-in-Hidden.ensures in
     let few = hidden-few g m in
-    let made = c.any-in-Hidden.ensures ∙ some-found (hidden_singles g m) (omega (arith, few)) a.reports.now c.requires found in
-    let e = by_name g m a.reports.now (sym c.in-Hidden.is) (made, (found, refl)) in
+    let made = c.any-in-Hidden.ensures ∙ some-found (hidden_singles g m) (omega (arith, few)) (cleared a.reports.now) refl found in
+    let e = by_name g m (cleared a.reports.now) (sym c.in-Hidden.is) (made, (found, refl)) in
     record { made_value = e.0; reports_after = e.1.0; masks_after = e.1.1 }

@@ -39,6 +39,6 @@ returns c =
     let of = ap (λ (g : List ℕ). outcome x g b.masks) c.givens_of-givens.ensures in
     let e = answers x b c.in_ok-check_given.ensures in record {
       answer_value = ap gives (s.made_value ∙ ap (λ (o : Outcome). o.flag) of) ∙ ap (map (λ (o : Outcome). o.flag)) e;
-      reports_after = s.reports_after ∙ ap (append (outcome x c.givens_of-givens.result b.masks).reports) c.clear.ensures ∙ ap (λ (o : Outcome). append o.reports q) of ∙ ap (reported q) e;
+      reports_after = s.reports_after ∙ ap (append (outcome x c.givens_of-givens.result b.masks).reports) (ap cleared c.clear.ensures) ∙ ap (λ (o : Outcome). append o.reports q) of ∙ ap (reported q) e;
       masks_after = s.masks_after ∙ ap (λ (o : Outcome). o.masks) of ∙ ap (λ (o : Answer Outcome). (left b o).masks) e;
     }

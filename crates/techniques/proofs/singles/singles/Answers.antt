@@ -2,15 +2,14 @@
 use mathlib.Core.Path.{ap, ◌∙◌}
 use mathlib.Core.List.{◌++◌}
 use Rattle.steps.specs.Singles.{naked_singles, hidden_singles}
-use Rattle.techniques.specs.code.Pushes.{append}
-use Rattle.techniques.proofs.ReportLists.{new-empty, stands, singles-few}
+use Rattle.techniques.specs.Reports.{reports_of}
+use Rattle.techniques.specs.code.Pushes.{append, cleared}
+use Rattle.techniques.proofs.ReportLists.{stands, singles-few}
 use Rattle.techniques.proofs.singles.singles.Goals as goal
 
-pub singles_into-requires : goal.singles_into-requires
-singles_into-requires c = new-empty c.new-reports.ensures
-
 pub returns : goal.returns
+unfolding reports_of
 returns c =
     let a = c.args in
     let list = naked_singles a.givens.now a.masks.now ++ hidden_singles a.givens.now a.masks.now in
-    c.singles_into.ensures ∙ ap (append list) c.new-reports.ensures ∙ stands list (singles-few a.givens.now a.masks.now)
+    c.singles_into.ensures ∙ ap (append list) (ap cleared c.new-reports.ensures) ∙ stands list (singles-few a.givens.now a.masks.now)
