@@ -1,4 +1,4 @@
-use Rattle.std.proofs.Common.{◌≡◌, ◌-◌, ◌+◌, ◌<◌, ◌≤◌, ℕ, arith, rules}
+use Rattle.std.proofs.Common.{◌-◌, ◌≤◌, arith, rules}
 use Rattle.candidates.proofs.Counts.{first-ge}
 use Rattle.candidates.proofs.SudokuCandidateIterIterator.next.Goals as goal
 
