@@ -7,13 +7,14 @@ use crate::masks;
 use stops::Stop;
 
 // The place of a digit, 0 to 8; none for a number outside 1 to 9.
+// One is taken off before the cast: the compiler then knows the place's range, and the tests of it in `masks` go: fewer instructions.
 pub fn place_of(digit: i32) -> Option<usize>
     ensures { result ≡ place_if digit }
 {
     if digit < 1 || 9 < digit {
         return None;
     }
-    Some(digit as usize - 1)
+    Some((digit - 1) as usize)
 }
 
 // The same, or stop 4 with the digit.
