@@ -25,7 +25,7 @@ use Rattle.eliminations.specs.code.Calls.{call_of}
 use Rattle.eliminations.specs.declared.Elimination.{Elimination}
 use Rattle.eliminations.specs.declared.Elimination.TheVariants as by
 use Rattle.calls.specs.StepNumbers.{step_call, step_answer, stepped, stepping}
-use Rattle.calls.specs.code.QuietSteps.{told_of, quiet_call}
+use Rattle.calls.specs.code.QuietSteps.{told_of, quiet_call, quiet_answer, unreporting}
 use Rattle.calls.specs.declared.StepError.{StepError}
 use Rattle.calls.specs.declared.StepError.TheVariants.{Refused}
 use Rattle.calls.specs.declared.Stepped.{Stepped}
@@ -41,6 +41,41 @@ step_is b k n is = ap (Option.map (λ (k : Call). answer k b)) is
 pub no-step-is : (b : S.Board) (n : ℕ) → none ≡ step_call n → none ≡ step_answer n b
 unfolding step_answer
 no-step-is b n is = ap (Option.map (λ (k : Call). answer k b)) is
+
+-- ---- the quiet step of a number
+
+quiet-of : (b : S.Board) (n : ℕ) {o : Option Call} → o ≡ step_call n → Option.map (λ (k : Call). answer k b) (unreporting o) ≡ quiet_answer n b
+unfolding quiet_answer
+quiet-of b n is = ap (λ (o : Option Call). Option.map (λ (k : Call). answer k b) (unreporting o)) is
+
+quiet-stays : (q : QuietStep) → some (quiet_call q) ≡ unreporting (some (quiet_call q))
+quiet-stays quiet.Update = refl
+quiet-stays quiet.Settle = refl
+quiet-stays (quiet.Eliminate by.NakedPairs) = refl
+quiet-stays (quiet.Eliminate by.BoxLine) = refl
+quiet-stays (quiet.Eliminate by.XWing) = refl
+quiet-stays (quiet.Eliminate by.Lone) = refl
+quiet-stays (quiet.Eliminate by.Place) = refl
+quiet-stays (quiet.Eliminate by.Pair) = refl
+quiet-stays (quiet.Eliminate by.Pointing) = refl
+quiet-stays (quiet.Eliminate by.Claiming) = refl
+quiet-stays (quiet.Eliminate by.Cross) = refl
+quiet-stays (quiet.Eliminate by.Chains) = refl
+quiet-stays (quiet.Eliminate by.XChains) = refl
+
+search-goes : (x : Search) → none ≡ unreporting (some (search_call x))
+search-goes search.Naked = refl
+search-goes search.Hidden = refl
+search-goes search.Advanced = refl
+
+pub quiet_is : (b : S.Board) (q : QuietStep) (n : ℕ) → some (quiet_call q) ≡ step_call n → some (answer (quiet_call q) b) ≡ quiet_answer n b
+quiet_is b q n is = ap (Option.map (λ (k : Call). answer k b)) (quiet-stays q) ∙ quiet-of b n is
+
+pub search-is : (b : S.Board) (x : Search) (n : ℕ) → some (search_call x) ≡ step_call n → none ≡ quiet_answer n b
+search-is b x n is = ap (Option.map (λ (k : Call). answer k b)) (search-goes x) ∙ quiet-of b n is
+
+pub no-quiet-is : (b : S.Board) (n : ℕ) → none ≡ step_call n → none ≡ quiet_answer n b
+no-quiet-is b n is = quiet-of b n is
 
 -- ---- parts of an answer
 

@@ -11,7 +11,7 @@ ghost use Rattle.calls.specs.declared.StepError.TheVariants as step;
 
 use board::Board;
 use kinds::{Step, step_of};
-use quiet::{Told, quiet_step};
+use quiet::{Told, quiet_handed};
 use stops::Stop;
 use techniques::singles::Reports;
 use techniques::{Reported, report};
@@ -77,7 +77,7 @@ pub fn step(number: u8, board: &mut Board) -> Result<Stepped, StepError>
     };
     match step {
         Step::Search(search) => Ok(of_reported(report(search, board)?)),
-        Step::Quiet(quiet) => Ok(of_told(quiet_step(
+        Step::Quiet(quiet) => Ok(of_told(quiet_handed(
             quiet,
             &board.clues,
             &board.entries,

@@ -1,12 +1,15 @@
 // The steps that report nothing, over a lent board: no board and no reports are copied.
 ghost use Rattle.std.specs.Prelude.{◌≡◌};
+ghost use Rattle.std.proofs.Math.Option as option;
 ghost use Rattle.stops.specs.Answer.{answer_of, map};
 ghost use Rattle.steps.specs.Calls.{answer, left, settling_call, update_candidates};
 ghost use Rattle.board.specs.Boards.{handed};
 ghost use Rattle.eliminations.specs.code.Calls.{call_of};
-ghost use Rattle.calls.specs.code.QuietSteps.{quiet_call, told_of};
+ghost use Rattle.calls.specs.StepNumbers.{step_left, stepping};
+ghost use Rattle.calls.specs.code.QuietSteps.{quiet_answer, quiet_call, told_of};
 
-use crate::kinds::QuietStep;
+use crate::StepError;
+use crate::kinds::{QuietStep, Step, step_of};
 use board::Board;
 use eliminations::{Elimination, eliminate_handed};
 use passes::settle_handed;
@@ -75,7 +78,7 @@ fn settle(clues: &[i32; 81], entries: &[i32; 81], masks: &mut [u16; 81]) -> Resu
 }
 
 // A step that reports nothing; beside a refusal the masks stay as they were.
-pub fn quiet_step(
+pub fn quiet_handed(
     step: QuietStep,
     clues: &[i32; 81],
     entries: &[i32; 81],
@@ -88,5 +91,22 @@ pub fn quiet_step(
         QuietStep::Update => update(clues, entries, masks),
         QuietStep::Eliminate(elimination) => eliminate(elimination, clues, entries, masks),
         QuietStep::Settle => settle(clues, entries, masks),
+    }
+}
+
+// The same by a number: a step that reports is none here. Beside an error the masks stay as they were.
+pub fn quiet_step(
+    number: u8,
+    clues: &[i32; 81],
+    entries: &[i32; 81],
+    masks: &mut [u16; 81],
+) -> Result<Told, StepError>
+    ensures told { stepping result ≡ option.map (map told_of) (quiet_answer number (handed clues.now entries.now masks.old)) }
+    ensures masks_after { masks.new ≡ (step_left (handed clues.now entries.now masks.old) (quiet_answer number (handed clues.now entries.now masks.old))).masks }
+{
+    match step_of(number) {
+        Some(Step::Quiet(step)) => Ok(quiet_handed(step, clues, entries, masks)?),
+        Some(Step::Search(_)) => Err(StepError::NoStep),
+        None => Err(StepError::NoStep),
     }
 }

@@ -16,7 +16,7 @@ use crate::codes;
 use board::Board;
 use calls::ReplayError;
 use calls::kinds::{QuietStep, Step, step_of};
-use calls::quiet::quiet_step;
+use calls::quiet::quiet_handed;
 use techniques::singles::Reports;
 use techniques::{Search, report_handed};
 
@@ -91,7 +91,7 @@ fn quiet(
     ensures { (answer.new ≡ answer_code number (some (steps.answer (quiet_call step) (handed clues.now entries.now masks.old)))) × (masks.new ≡ (steps.left (handed clues.now entries.now masks.old) (steps.answer (quiet_call step) (handed clues.now entries.now masks.old))).masks) × (reports.new ≡ value_or reports.old (map outcome_bytes (steps.answer (quiet_call step) (handed clues.now entries.now masks.old)))) }
 {
     whole(*clues, *entries, *masks);
-    match quiet_step(step, clues, entries, masks) {
+    match quiet_handed(step, clues, entries, masks) {
         Err(stop) => *answer = codes::of_stop(stop, 0),
         Ok(told) => {
             *answer = of_values(number, told.made, 0, told.sweeps, told.removed);

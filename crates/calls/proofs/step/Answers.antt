@@ -42,21 +42,21 @@ returns-in_ok-report-in-Search c =
       board = e.board ∙ ap (step_left b) is;
     }
 
-pub returns-in_err-quiet_step-in-Quiet : goal.returns-in_err-quiet_step-in-Quiet
-returns-in_err-quiet_step-in-Quiet c =
+pub returns-in_err-quiet_handed-in-Quiet : goal.returns-in_err-quiet_handed-in-Quiet
+returns-in_err-quiet_handed-in-Quiet c =
     let b = board_of c.args.board.now in
     let k = quiet_call c.in-Quiet.quiet in
-    let e = c.in_err-quiet_step-in-Quiet.ensures in
+    let e = c.in_err-quiet_handed-in-Quiet.ensures in
     let is = step_is b k c.args.number (ap (λ (x : Step). some (call_of_step x)) (sym c.in-Quiet.is) ∙ c.in-Some.ensures) in record {
-      told = step-refused _ c.from_residual-in_err-quiet_step-in-Quiet.ensures.1 ∙ ap some (quiet-hands k b (quiet-unreporting c.in-Quiet.quiet) e.told) ∙ ap (Option.map (map stepped)) is;
+      told = step-refused _ c.from_residual-in_err-quiet_handed-in-Quiet.ensures.1 ∙ ap some (quiet-hands k b (quiet-unreporting c.in-Quiet.quiet) e.told) ∙ ap (Option.map (map stepped)) is;
       board = ap (with_masks b) e.masks_after ∙ masks-left b (answer k b) ∙ ap (step_left b) is;
     }
 
-pub returns-in_ok-quiet_step-in-Quiet : goal.returns-in_ok-quiet_step-in-Quiet
-returns-in_ok-quiet_step-in-Quiet c =
+pub returns-in_ok-quiet_handed-in-Quiet : goal.returns-in_ok-quiet_handed-in-Quiet
+returns-in_ok-quiet_handed-in-Quiet c =
     let b = board_of c.args.board.now in
     let k = quiet_call c.in-Quiet.quiet in
-    let e = c.in_ok-quiet_step-in-Quiet.ensures in
+    let e = c.in_ok-quiet_handed-in-Quiet.ensures in
     let is = step_is b k c.args.number (ap (λ (x : Step). some (call_of_step x)) (sym c.in-Quiet.is) ∙ c.in-Some.ensures) in record {
       told = ap (λ (x : Stepped). some (gives x)) c.of_told.ensures ∙ ap some (quiet-hands k b (quiet-unreporting c.in-Quiet.quiet) e.told) ∙ ap (Option.map (map stepped)) is;
       board = ap (with_masks b) e.masks_after ∙ masks-left b (answer k b) ∙ ap (step_left b) is;
