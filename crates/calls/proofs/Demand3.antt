@@ -51,9 +51,6 @@ done (Ok b) c e = (b, refl, ran-same (gives_same e))
 done (Err (Refused s)) c e = absurd (stop-gives e)
 done (Err (NoStep i)) c e = absurd (ran-none (gives_same e))
 
-ok_same : {B C : Board} → ◌≡◌ {A = Result Board ReplayError} (Ok B) (Ok C) → B ≡ C
-ok_same q = cc
-
 -- ---- the boards after a list
 
 play-snoc : (xs : List Deed) (x : Deed) (b : S.Board) → play (xs ++ x ∷ []) b ≡ deed x (play xs b)
@@ -87,11 +84,6 @@ replays clues entries ok en ns steps r e =
     let is : replay_of clues entries ns ≡ gives (ran (run (calls_of ns) (opened_with clues entries))) = sym (run-replayed clues entries ns (sym (entries-open clues entries ok en)) (sym steps)) in
     let d = done r _ (e ∙ is) in (d.0, d.1, d.2 ∙ sym (play-run (calls_of ns) (opened_with clues entries)))
 
--- a board that `replay` hands back is the one after the list
-replayed : (clues entries : List ℤ) → Clues clues → Entries clues entries → (ns : List ℕ) → first_no_step ns ≡ none → (B : Board) → Replays clues entries ns (Ok B) → After clues entries (lists.map step (calls_of ns)) B
-replayed clues entries ok en ns steps B e =
-    let d = replays clues entries ok en ns steps (Ok B) e in ap board_of (ok_same d.1) ∙ d.2
-
 step-clues : (b : S.Board) (a : Answer Outcome) → (left b a).clues ≡ b.clues
 step-clues b (gives o) = refl
 step-clues b (stop s) = refl
@@ -123,14 +115,18 @@ lists-end clues entries ok en ks ls nk nl B C at bt s =
 equal : (B C : Board) → (same_board (board_of B) (board_of C) ≡ true) ↔ (B ≡ C)
 equal B C = let t = equal-boards.test (board_of B) (board_of C) in (λ s. same B C (t.0 s), λ e. t.1 (ap board_of e))
 
-replayed-fillings : (clues entries : List ℤ) → Clues clues → Entries clues entries → (ns : List ℕ) → StepsWithoutPorted ns → (B : Board) → Replays clues entries ns (Ok B) → FillingsStay B
-replayed-fillings clues entries ok en ns n B p =
-    fillings clues entries ok en (lists.map step (calls_of ns)) (ap without_ported (calls_alone (calls_of ns)) ∙ n.none_of) B (replayed clues entries ok en ns n.steps B p)
+replayed-fillings : (clues entries : List ℤ) → Clues clues → Entries clues entries → (ns : List ℕ) → StepsWithoutPorted ns → (r : Result Board ReplayError) → Replays clues entries ns r
+    → (B : Board) × (r ≡ Ok B) × FillingsStay B
+replayed-fillings clues entries ok en ns n r e =
+    let d = replays clues entries ok en ns n.steps r e in
+    (d.0, d.1, fillings clues entries ok en (lists.map step (calls_of ns)) (ap without_ported (calls_alone (calls_of ns)) ∙ n.none_of) d.0 d.2)
 
-replayed-lists : (clues entries : List ℤ) → Clues clues → Entries clues entries → (ns ms : List ℕ) → StepsWithoutChain ns → StepsWithoutChain ms → (B C : Board) → Replays clues entries ns (Ok B) → Replays clues entries ms (Ok C)
-    → OneEnd B C
-replayed-lists clues entries ok en ns ms n m B C p q =
-    lists-end clues entries ok en (calls_of ns) (calls_of ms) n.none_of m.none_of B C (replayed clues entries ok en ns n.steps B p) (replayed clues entries ok en ms m.steps C q)
+replayed-lists : (clues entries : List ℤ) → Clues clues → Entries clues entries → (ns ms : List ℕ) → StepsWithoutChain ns → StepsWithoutChain ms → (r s : Result Board ReplayError) → Replays clues entries ns r → Replays clues entries ms s
+    → (B : Board) × (C : Board) × (r ≡ Ok B) × (s ≡ Ok C) × OneEnd B C
+replayed-lists clues entries ok en ns ms n m r s p q =
+    let d = replays clues entries ok en ns n.steps r p in
+    let f = replays clues entries ok en ms m.steps s q in
+    (d.0, f.0, d.1, f.1, lists-end clues entries ok en (calls_of ns) (calls_of ms) n.none_of m.none_of d.0 f.0 d.2 f.2)
 
 entered : (clues entries : List ℤ) (ks ls : List EntryCall) (B C : Board) → After clues entries (lists.map entry ks) B → After clues entries (lists.map entry ls) C → Afresh clues B C
 entered clues entries ks ls B C p q = record { fresh = fresh ks B p; same = λ e. same B C (fresh ks B p ∙ ap (opened_with clues) e ∙ sym (fresh ls C q)) }

@@ -9,5 +9,5 @@ pub verdict-means : VerdictMeans
 verdict-means =
     record {
       lists = λ clues entries ok en xs n B at. verdict-says B.masks (Keeps (board_of B)) (demand3.fillings clues entries ok en xs n B at);
-      replayed = λ clues entries ok en ns n B e. verdict-says B.masks (Keeps (board_of B)) (demand3.replayed_fillings clues entries ok en ns n B e);
+      replayed = λ clues entries ok en ns n r e. let d = demand3.replayed_fillings clues entries ok en ns n r e in (d.0, d.1, verdict-says d.0.masks (Keeps (board_of d.0)) d.2);
     }

@@ -100,10 +100,11 @@ pub record Demand3 : Type 0 where
       → After clues entries (map step ks) B → After clues entries (map step ls) C → OneEnd B C
   -- where "two boards are equal exactly if they have the same clues, the same entries and the same masks"
   pub equal : (B C : Board) → (same_board (board_of B) (board_of C) ≡ true) ↔ (B ≡ C)
-  -- and so of any two values that `replay` hands back; of the step numbers, those below 16, 13 is the ported chain pass and 15 the X-chain pass
-  pub replayed_fillings : (clues entries : List ℤ) → Clues clues → Entries clues entries → (ns : List ℕ) → StepsWithoutPorted ns → (B : Board) → Replays clues entries ns (Ok B) → FillingsStay B
-  pub replayed_lists : (clues entries : List ℤ) → Clues clues → Entries clues entries → (ns ms : List ℕ) → StepsWithoutChain ns → StepsWithoutChain ms → (B C : Board) → Replays clues entries ns (Ok B) → Replays clues entries ms (Ok C)
-      → OneEnd B C
+  -- and so of any two values that `replay` hands back, which are boards and no refusals; of the step numbers, those below 16, 13 is the ported chain pass and 15 the X-chain pass
+  pub replayed_fillings : (clues entries : List ℤ) → Clues clues → Entries clues entries → (ns : List ℕ) → StepsWithoutPorted ns → (r : Result Board ReplayError) → Replays clues entries ns r
+      → (B : Board) × (r ≡ Ok B) × FillingsStay B
+  pub replayed_lists : (clues entries : List ℤ) → Clues clues → Entries clues entries → (ns ms : List ℕ) → StepsWithoutChain ns → StepsWithoutChain ms → (r s : Result Board ReplayError) → Replays clues entries ns r → Replays clues entries ms s
+      → (B : Board) × (C : Board) × (r ≡ Ok B) × (s ≡ Ok C) × OneEnd B C
   pub below_ported : (ns : List ℕ) → ((i : ℕ) → i < length ns → (get_or ns i 0 < 16) × (get_or ns i 0 ≢ 13)) → StepsWithoutPorted ns
   pub below_chain : (ns : List ℕ) → ((i : ℕ) → i < length ns → (get_or ns i 0 < 16) × (get_or ns i 0 ≢ 13) × (get_or ns i 0 ≢ 15)) → StepsWithoutChain ns
   pub entered : (clues entries : List ℤ) (ks ls : List EntryCall) (B C : Board) → After clues entries (map entry ks) B → After clues entries (map entry ls) C → Afresh clues B C

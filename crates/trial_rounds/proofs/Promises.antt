@@ -11,7 +11,7 @@ use lib.Dec.{leb}
 use lib.IntN.{ℤ, pos}
 use lib.ListN.{length, get_or, length-map}
 use lib.Seq.{ext_get_or}
-use Rattle.std.specs.Prelude.{Result, Ok}
+use Rattle.std.specs.Prelude.{Ok}
 use Rattle.stops.specs.Answer.{gives, stop, then, passing}
 use Rattle.stops.specs.declared.Stop.TheVariants.{BadPercentage, BadSolution}
 use Rattle.stops.proofs.Answers.{gives_same, stop-gives}
@@ -29,7 +29,6 @@ use Rattle.steps.proofs.Lists.{play-run, run-fillings}
 use Rattle.board.specs.Boards.{board_of, no_clues}
 use Rattle.board.specs.declared.Board.{Board}
 use Rattle.calls.specs.Replays.{calls_of}
-use Rattle.calls.specs.declared.ReplayError.{ReplayError}
 use Rattle.calls.proofs.Demand3.{demand3}
 use Rattle.trial_rounds.specs.Rounds.{state_after, next_state, is_kept, clue_of, clue_at, round_clues, round_of, percentage_check, solution_check, Makes}
 use Rattle.trial_rounds.specs.Promises.{KeepsSolution, TrialRounds}
@@ -85,9 +84,6 @@ module _ (start percentage : ℕ) (solution : List ℤ) where
 
 -- ---- the promise
 
-ok_same : {B C : Board} → ◌≡◌ {A = Result Board ReplayError} (Ok B) (Ok C) → B ≡ C
-ok_same q = cc
-
 promised : (clues solution : List ℤ) → length solution ≡ 81 → verified solution ≡ true → Clues clues → KeepsClues clues solution → KeepsSolution clues solution
 promised clues solution n v ok keeps =
     record {
@@ -99,9 +95,9 @@ promised clues solution n v ok keeps =
       lists = λ xs w B at entered.
           (demand3.fillings clues no_entries ok (no-entries clues) xs w B at solution n v).1
           (record { clues = subst (λ (l : List ℤ). KeepsClues l solution) (sym (demand3.printed clues no_entries xs B at)) keeps; entries = entered });
-      replayed = λ ns w B e.
-          let d = demand3.replays clues no_entries ok (no-entries clues) ns w.steps (Ok B) e in
-          subst (λ (C : Board). InMasks C.masks solution) (sym (ok_same d.1)) (calls-keep (calls_of ns) w.none_of d.0 (d.2 ∙ play-run (calls_of ns) (opened clues)));
+      replayed = λ ns w r e.
+          let d = demand3.replays clues no_entries ok (no-entries clues) ns w.steps r e in
+          (d.0, d.1, calls-keep (calls_of ns) w.none_of d.0 (d.2 ∙ play-run (calls_of ns) (opened clues)));
     }
   where
     -- calls alone, from the fresh board of the clues

@@ -1,5 +1,5 @@
 -- What document 02, F-11 promises of every trial round, of what `trial_round` hands back. proofs/Promises.antt shows it.
-use Rattle.std.specs.Prelude.{◌≡◌, true, List, [], ◌∷◌, ℕ, ◌+◌, ℤ, length, Ok}
+use Rattle.std.specs.Prelude.{◌≡◌, true, List, [], ◌∷◌, ℕ, ◌+◌, ℤ, length, Result, Ok}
 use Rattle.stops.specs.Answer.{gives}
 use Rattle.grid.specs.Fillings.{Correct, verified}
 use Rattle.steps.specs.Boards.{no_entries}
@@ -10,6 +10,7 @@ use Rattle.board.specs.Boards.{no_clues}
 use Rattle.board.specs.declared.Board.{Board}
 use Rattle.calls.specs.Demand3.{After, StepsWithoutPorted}
 use Rattle.calls.specs.Replays.{Replays}
+use Rattle.calls.specs.declared.ReplayError.{ReplayError}
 use Rattle.trial_rounds.specs.Rounds.{round_of, Makes}
 
 -- The clues of a round, and the solution that it was made of.
@@ -24,7 +25,7 @@ pub record KeepsSolution (clues solution : List ℤ) : Type 0 where
   pub settling : (B : Board) → After clues no_entries (step settling_call ∷ []) B → InMasks B.masks solution
   -- and so does every list of calls that demand 3's half on fillings covers, one by one or by `replay`, where the entries that it leaves are digits of the solution
   pub lists : (xs : List Deed) → without_ported (calls_in xs) ≡ true → (B : Board) → After clues no_entries xs B → KeepsClues B.entries solution → InMasks B.masks solution
-  pub replayed : (ns : List ℕ) → StepsWithoutPorted ns → (B : Board) → Replays clues no_entries ns (Ok B) → InMasks B.masks solution
+  pub replayed : (ns : List ℕ) → StepsWithoutPorted ns → (r : Result Board ReplayError) → Replays clues no_entries ns r → (B : Board) × (r ≡ Ok B) × InMasks B.masks solution
 
 pub record TrialRounds : Type 0 where
   -- every round of every solution, an array of 81 numbers
