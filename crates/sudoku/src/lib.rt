@@ -198,9 +198,14 @@ pub extern "C" fn sudoku_enter(
         entries: *entries,
         masks: *masks,
     };
-    *answer = codes::of_check(board::entries::enter(&mut board, cell, digit), 0, 0);
-    *entries = board.entries;
-    *masks = board.masks;
+    match board::entries::enter(&mut board, cell, digit) {
+        Err(stop) => *answer = codes::of_stop(stop, 0),
+        Ok(()) => {
+            *answer = codes::of_given(0, 0);
+            *entries = board.entries;
+            *masks = board.masks;
+        }
+    }
 }
 
 // The entry of a cell of a board rubbed out.
@@ -219,9 +224,14 @@ pub extern "C" fn sudoku_rub_out(
         entries: *entries,
         masks: *masks,
     };
-    *answer = codes::of_check(board::entries::rub_out(&mut board, cell), 0, 0);
-    *entries = board.entries;
-    *masks = board.masks;
+    match board::entries::rub_out(&mut board, cell) {
+        Err(stop) => *answer = codes::of_stop(stop, 0),
+        Ok(()) => {
+            *answer = codes::of_given(0, 0);
+            *entries = board.entries;
+            *masks = board.masks;
+        }
+    }
 }
 
 // A list of steps from the fresh board of clues and entries.
@@ -269,8 +279,13 @@ pub extern "C" fn sudoku_check_steps(
         entries: *entries,
         masks: *masks,
     };
-    *answer = codes::of_check(step_lists::check_steps(&mut board, steps), 0, 0);
-    *masks = board.masks;
+    match step_lists::check_steps(&mut board, steps) {
+        Err(stop) => *answer = codes::of_stop(stop, 0),
+        Ok(()) => {
+            *answer = codes::of_given(0, 0);
+            *masks = board.masks;
+        }
+    }
 }
 
 // The difficulty figure of the fresh board of clues and entries.
