@@ -8,7 +8,7 @@ ghost use Rattle.stops.specs.declared.Stop.TheVariants.{BadClue, BadEntry, BadMa
 ghost use Rattle.grid.specs.Cells.{cells};
 ghost use Rattle.steps.specs.Boards.{givens_of, together};
 ghost use Rattle.steps.specs.Calls.{answer, check_of, first_bad_clue, first_bad_entry, left, opened_with, update_candidates};
-ghost use Rattle.board.specs.Boards.{board_of, cell_mask, clue_count, handed, open_of, open_with_of, verdict_of};
+ghost use Rattle.board.specs.Boards.{board_of, cell_mask, clue_count, handed, no_board, open_of, open_with_of, verdict_of};
 ghost use Rattle.board.specs.code.Checks.{first_misfit, is_found, misfit_of};
 
 use candidates::masks;
@@ -129,6 +129,17 @@ fn mask_of(masks: &[u16; 81], cell: u32) -> Result<u16, Stop>
 }
 
 impl Board {
+    // No clue, no entry and no candidate in any cell.
+    pub fn zeros() -> Self
+        ensures { board_of result ≡ no_board }
+    {
+        Self {
+            clues: [0; 81],
+            entries: [0; 81],
+            masks: [0; 81],
+        }
+    }
+
     // Clues, no entries and fresh masks. Clues that contradict each other are accepted.
     pub fn new(clues: [i32; 81]) -> Result<Self, Stop>
         ensures { map board_of (answer_of result) ≡ open_of clues }
