@@ -141,6 +141,7 @@ impl Board {
     }
 
     // Clues, no entries and fresh masks. Clues that contradict each other are accepted.
+    #[tactic(auto, unfolding(crate::specs::Boards::open_of))]
     pub fn new(clues: [i32; 81]) -> Result<Self, Stop>
         ensures { map board_of (answer_of result) ≡ open_of clues }
     {

@@ -102,6 +102,7 @@ impl From<Stop> for ReplayError {
 }
 
 // The board after the steps of a list, one after the other, from the fresh board of clues and entries. Nothing is run where a clue, an entry or a byte is refused.
+#[tactic(auto, unfolding(crate::specs::Replays::replay_of))]
 pub fn replay(clues: [i32; 81], entries: [i32; 81], steps: &[u8]) -> Result<Board, ReplayError>
     ensures { Replays clues entries steps.now result }
 {

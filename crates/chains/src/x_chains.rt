@@ -81,7 +81,8 @@ fn x_chain_digit(givens: &[u8; 81], masks: &mut [u16; 81], digit: usize)
     let holders = candidate_positions(givens, masks, digit);
     let links = Links::new(&holders);
     let lost = masks::digit_mask(digit);
-    for start in links.linked.as_slice() {
+    let linked = links.linked.as_slice();
+    for start in linked {
         lose_from(givens, masks, lost, holders.as_slice(), &links, *start);
     }
 }

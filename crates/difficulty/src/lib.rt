@@ -86,6 +86,7 @@ fn rate(givens: &[u8; 81], masks: [u16; 81]) -> Result<Figure, Stop>
 }
 
 // How hard the puzzle of clues and entries is. The handed masks are checked and play no other part.
+#[tactic(auto, unfolding(steps::specs::Difficulty::difficulty_of))]
 pub fn difficulty(board: &Board) -> Result<Figure, Stop>
     ensures { map figure_in (answer_of result) ≡ difficulty_of (board_of board.now) }
 {

@@ -61,6 +61,7 @@ pub fn eliminate(elimination: Elimination, givens: &[u8; 81], masks: &mut [u16; 
 }
 
 // Such a call over a lent board, which is checked first; beside a refusal the masks stay as they were.
+#[tactic(auto, unfolding(steps::specs::Calls::answer))]
 pub fn eliminate_handed(
     elimination: Elimination,
     clues: &[i32; 81],

@@ -151,6 +151,7 @@ pub fn settle(
 }
 
 // Settling over a lent board, which is checked once, before the first sweep. The log and `counts` are those of `settle`; beside a refusal all that is lent stays as it was.
+#[tactic(auto, unfolding(steps::specs::Calls::answer, crate::specs::code::Handed::log_left, crate::specs::code::Handed::counts_left))]
 pub fn settle_handed(
     clues: &[i32; 81],
     entries: &[i32; 81],
@@ -177,6 +178,7 @@ pub struct Settled {
 }
 
 // Sweeps until nothing more is removed, with its steps; beside a refusal the board stays as it was. Who does not want the steps has `settle_handed`.
+#[tactic(auto, unfolding(steps::specs::Calls::answer))]
 pub fn apply_settling(board: &mut Board) -> Result<Settled, Stop>
     ensures { Settles (board_of board.old) result (board_of board.new) }
 {

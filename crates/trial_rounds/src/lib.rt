@@ -65,6 +65,7 @@ fn check_solution(solution: &[i32; 81]) -> Result<(), Stop>
 }
 
 // The clues that the generator keeps of a solution, about so many in a hundred.
+#[tactic(auto, unfolding(crate::specs::Rounds::round_of))]
 pub fn trial_round(start: u32, percentage: u32, solution: &[i32; 81]) -> Result<[i32; 81], Stop>
     ensures { Makes start percentage solution.now result }
 {

@@ -1,17 +1,13 @@
--- The stops of clues and entries come first, then the first byte that is no step number.
-use mathlib.Core.Path.{refl, ap, ◌∙◌}
+-- After the stops of clues and entries: the first byte that is no step number, or the board that the steps leave.
+use mathlib.Core.Path.{ap, ◌∙◌}
 use borrow.Author.Rules.{rules}
 use Rattle.steps.specs.Boards as S
 use Rattle.stops.specs.Answer.{gives}
 use Rattle.calls.specs.Replays.{ran}
 use Rattle.calls.proofs.Positions.{no-step-found}
-use Rattle.calls.proofs.Runs.{replay-refused, run-replayed}
+use Rattle.calls.proofs.Runs.{run-replayed}
 use Rattle.calls.proofs.Unchecked.{open-admitted}
 use Rattle.calls.proofs.replay.Goals as goal
-
-pub returns-in_err-board : goal.returns-in_err-board
-returns-in_err-board c =
-    let a = c.args in replay-refused _ c.from_residual.ensures.1 ∙ run-replayed a.clues a.entries a.steps.now c.in_err-board.ensures refl
 
 pub run-requires : goal.run-requires
 run-requires c = open-admitted c.args.clues c.args.entries (search rules) (search rules) c.in_ok-board.ensures

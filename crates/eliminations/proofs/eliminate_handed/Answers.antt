@@ -1,9 +1,8 @@
--- A board that the check refuses stays; else the flag says whether the masks changed.
+-- Of a board that the check passes: the flag says whether the masks changed.
 use mathlib.Core.Path.{◌≡◌, refl, ap, ◌∙◌}
 use mathlib.Core.List.{List}
 use Prim.Native.Nat.{ℕ}
 use Rattle.stops.specs.Answer.{Answer, gives, map}
-use Rattle.stops.proofs.Answers.{passed-on}
 use Rattle.steps.specs.Boards.{givens}
 use Rattle.steps.specs.Calls.{Outcome, outcome, left}
 use Rattle.steps.specs.Passes.{changed}
@@ -28,18 +27,6 @@ flagged by.Claiming g m = refl
 flagged by.Cross g m = refl
 flagged by.Chains g m = refl
 flagged by.XChains g m = refl
-
-pub returns-in_err-check_given-clause-result_value : goal.returns-in_err-check_given-clause-result_value
-returns-in_err-check_given-clause-result_value c =
-    let a = c.args in
-    passed-on _ c.from_residual.ensures.1
-    ∙ ap (map (λ (o : Outcome). o.flag)) (answers (call_of a.elimination) (handed a.clues.now a.entries.now a.masks.now) c.in_err-check_given.ensures)
-
-pub returns-in_err-check_given-clause-masks_after : goal.returns-in_err-check_given-clause-masks_after
-returns-in_err-check_given-clause-masks_after c =
-    let a = c.args in
-    let b = handed a.clues.now a.entries.now a.masks.now in
-    ap (λ (o : Answer Outcome). (left b o).masks) (answers (call_of a.elimination) b c.in_err-check_given.ensures)
 
 pub returns-clause-result_value : goal.returns-clause-result_value
 returns-clause-result_value c =

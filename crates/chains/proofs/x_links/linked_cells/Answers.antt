@@ -14,4 +14,5 @@ push-requires c =
     let s = c.as_slice-cell-items in
     let few = s.ensures.few in
     let same = ap (λ (l : List ℕ). length l) s.ensures.same in
-    (omega arith, has-room (is_linked c.args.sums.now) l.list s.result.now 81 (drop_more s.result.now l.cell-index 0 (omega arith)) l.invariant (omega (arith, few, same)) (sym c.is_linked.ensures ∙ c.if-is_linked.true))
+    let room = has-room (is_linked c.args.sums.now) l.list s.result.now 81 (drop_more s.result.now l.cell-index 0 (omega arith)) l.invariant (omega (arith, few, same)) (sym c.is_linked.ensures ∙ c.if-is_linked.true) in
+    (omega arith, grind (arith, room))
